@@ -1,0 +1,4 @@
+-- The few notions that every crate shares.
+pub mod Choice
+pub mod Writing
+pub mod Shorter

@@ -1,0 +1,29 @@
+// Bytes in lent buffers: a read that is never out of range, and a copy into a place.
+ghost use mathlib.Core.Path.{_≡_};
+ghost use Prim.Native.Nat.{_<_};
+ghost use lib.ListN.{getD};
+ghost use Rattle.lists.specs.Writing.{laid};
+
+// The byte at a place; 0 past the end.
+pub fn byte(s: &[u8], i: usize) -> usize
+    ensures { λ r. ⌜ (r ≡ getD (now (s .entry)) i 0) × (r < 256) ⌝ }
+{
+    if i < s.len() { s[i] as usize } else { 0 }
+}
+
+// Bytes laid into a buffer from a place on; where they do not fit, nothing changes.
+pub fn lay(buf: &mut [u8], at: usize, s: &[u8])
+    ensures { λ _. ⌜ now (buf .exit) ≡ laid (now (s .entry)) at (now (buf .entry)) ⌝ }
+{
+    if buf.len() < at {
+        return;
+    }
+    if buf.len() - at < s.len() {
+        return;
+    }
+    let mut i = 0;
+    while i < s.len() {
+        buf[at + i] = s[i];
+        i += 1;
+    }
+}
