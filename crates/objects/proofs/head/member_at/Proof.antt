@@ -1,0 +1,48 @@
+-- `head::member_at` meets its contract: what is read of the part from p on, moved by p.
+-- Assumes nothing.
+use mathlib.Core.Path.{_≡_, _∙_, sym, ap, refl}
+use mathlib.Core.Bool.{true, false}
+use mathlib.Core.List.{List}
+use Prim.Native.Nat.{ℕ, _+_, _-_, _≤_}
+use native.Mathlib.Nat.{le-refl}
+use lib.ListN.{length, take, drop, length-drop}
+use lib.Seq.{take-all}
+use borrow.Author.Needs.{needs}
+use Rattle.lists.proofs.Choice.{pick-yes, pick-no}
+use Rattle.objects.specs.Head.{tagOf, valueStart, valueEnd, whole}
+use Rattle.objects.specs.Place.{memberAt}
+use Rattle.objects.specs.declared.Next.{Next}
+use Rattle.objects.specs.declared.Next.the-variants.{Member, Broken}
+use Rattle.objects.proofs.head.member_at.Statement.{statement}
+use Rattle.objects.proofs.head.member_at.Tie as tie
+
+-- the part from a place to the end is what is left from there
+rest : (s : List ℕ) (p : ℕ) → take (length s - p) (drop p s) ≡ drop p s
+rest s p = take-all (length s - p) (drop p s) (rw length-drop (le-refl _))
+
+module _ (s : List ℕ) (p : ℕ) (t : List ℕ) (e : t ≡ drop p s) where
+  member : (tag start end : ℕ) → whole t ≡ true → tag ≡ tagOf t → start ≡ valueStart t → end ≡ valueEnd t
+      → Member tag (p + start) (p + end) ≡ memberAt s p
+  unfolding memberAt
+  member tag start end w x y z = rw (x, y, z, e) (sym (pick-yes _ _ _ (ap whole (sym e) ∙ w)))
+
+  broken : whole t ≡ false → Broken ≡ memberAt s p
+  unfolding memberAt
+  broken w = sym (pick-no _ _ _ (ap whole (sym e) ∙ w))
+
+returns : tie.Need-returns
+returns c =
+    let a = c .before .before .before .before .before .before .before .args in
+    member (a .s .now) (a .p) (take (length (a .s .now) - a .p) (drop (a .p) (a .s .now))) (rest (a .s .now) (a .p))
+    (c .tag-of .result) (c .before .before .value-start .result) (c .before .value-end .result)
+    (sym (c .before .before .before .before .is-whole .ensures) ∙ c .before .before .before .if1 .taken)
+    (c .tag-of .ensures .0) (c .before .before .value-start .ensures .0) (c .before .value-end .ensures .0)
+
+returns-2 : tie.Need-returns-2
+returns-2 c =
+    let a = c .before .before .before .before .args in
+    broken (a .s .now) (a .p) (take (length (a .s .now) - a .p) (drop (a .p) (a .s .now))) (rest (a .s .now) (a .p))
+    (sym (c .before .is-whole .ensures) ∙ c .if1 .left)
+
+pub member-at-spec : {M : Type 1} → statement M
+member-at-spec = tie.close (tie.spec (λ c. search needs) (λ c. search needs) (λ c. search needs) (λ c κs. search needs) (λ c κs. search needs) (λ c κs. search needs) (λ c κs. search needs) (λ c. search needs) (λ c. search needs) returns returns-2)

@@ -1,0 +1,41 @@
+// Looking up a tag among the objects that the reader finds.
+use crate::Found;
+use crate::Next;
+use crate::place::next;
+ghost use mathlib.Core.Path.{_≡_};
+ghost use Rattle.objects.specs.Lookup.{findIn, firstFrom};
+
+// The first object with the tag from a place on.
+fn first_from(s: &[u8], at: usize, tag: usize) -> Found
+    ensures { λ r. ⌜ r ≡ firstFrom (now (s .entry)) at tag ⌝ }
+{
+    let mut p = at;
+    while p < s.len() {
+        match next(s, p) {
+            Next::End => return Found::Absent,
+            Next::Broken => return Found::Absent,
+            Next::Member { tag: t, start, end } => {
+                if t == tag {
+                    return Found::Once { start, end };
+                }
+                p = end;
+            }
+        }
+    }
+    Found::Absent
+}
+
+// Whether the tag stands among the objects not at all, once, and where, or more often.
+pub fn find(s: &[u8], tag: usize) -> Found
+    ensures { λ r. ⌜ r ≡ findIn (now (s .entry)) tag ⌝ }
+{
+    match first_from(s, 0, tag) {
+        Found::Absent => Found::Absent,
+        Found::Twice => Found::Twice,
+        Found::Once { start, end } => match first_from(s, end, tag) {
+            Found::Absent => Found::Once { start, end },
+            Found::Twice => Found::Twice,
+            Found::Once { start: _, end: _ } => Found::Twice,
+        },
+    }
+}
