@@ -7,3 +7,4 @@ pub mod Walking
 pub mod Refusals
 pub mod Joined
 pub mod ReadBack
+pub mod Pinned
