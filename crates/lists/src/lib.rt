@@ -1,7 +1,7 @@
 // Bytes in lent buffers: a read that is never out of range, and a copy into a place.
 ghost use mathlib.Core.Path.{_≡_};
 ghost use Prim.Native.Nat.{_<_};
-ghost use lib.ListN.{getD};
+ghost use lib.ListN.{length, getD, replicate};
 ghost use Rattle.lists.specs.Writing.{laid};
 
 // The byte at a place; 0 past the end.
@@ -24,6 +24,17 @@ pub fn lay(buf: &mut [u8], at: usize, s: &[u8])
     let mut i = 0;
     while i < s.len() {
         buf[at + i] = s[i];
+        i += 1;
+    }
+}
+
+// Every byte of a buffer the same.
+pub fn blank(buf: &mut [u8], b: u8)
+    ensures { λ _. ⌜ now (buf .exit) ≡ replicate (length (now (buf .entry))) b ⌝ }
+{
+    let mut i = 0;
+    while i < buf.len() {
+        buf[i] = b;
         i += 1;
     }
 }

@@ -1,58 +1,14 @@
 // The head of a data object at the front of some bytes. A byte past the end reads as 0; `head` then finds that the
 // object does not fit.
 use crate::Next;
+use crate::tag::is_tag_right;
+use crate::tag::tag_of;
+use crate::tag::tag_size;
 use lists::byte;
 ghost use mathlib.Core.Path.{_≡_};
-ghost use Prim.Native.Nat.{_+_, _*_, _<_, _≤_};
-ghost use lib.ListN.{length};
-ghost use Rattle.objects.specs.Head.{constructed, firstByte, twoBytes, tagSize, tagOf, tagRight, lengthByte, lengthForm, lengthSize, lengthOf, valueStart, valueEnd, whole};
+ghost use Prim.Native.Nat.{_<_, _≤_};
+ghost use Rattle.objects.specs.Head.{lengthByte, lengthForm, lengthSize, lengthOf, valueStart, valueEnd, whole};
 ghost use Rattle.objects.specs.Place.{memberAt};
-
-pub fn is_constructed(tag: usize) -> bool
-    ensures { λ r. ⌜ r ≡ constructed tag ⌝ }
-{
-    let first = first_byte(tag);
-    first / 32 % 2 == 1
-}
-
-fn first_byte(tag: usize) -> usize
-    ensures { λ r. ⌜ r ≡ firstByte tag ⌝ }
-{
-    if tag < 256 { tag } else { tag / 256 }
-}
-
-pub fn has_two_bytes(b: usize) -> bool
-    ensures { λ r. ⌜ r ≡ twoBytes b ⌝ }
-{
-    b % 32 == 31
-}
-
-fn tag_size(s: &[u8]) -> usize
-    ensures { λ r. ⌜ (r ≡ tagSize (now (s .entry))) × (r ≤ 2) ⌝ }
-{
-    if has_two_bytes(byte(s, 0)) { 2 } else { 1 }
-}
-
-fn tag_of(s: &[u8]) -> usize
-    ensures { λ r. ⌜ (r ≡ tagOf (now (s .entry))) × (r < 65536) ⌝ }
-{
-    let first = byte(s, 0);
-    if has_two_bytes(first) {
-        256 * first + byte(s, 1)
-    } else {
-        first
-    }
-}
-
-fn is_tag_right(s: &[u8]) -> bool
-    ensures { λ r. ⌜ r ≡ tagRight (now (s .entry)) ⌝ }
-{
-    if has_two_bytes(byte(s, 0)) {
-        byte(s, 1) < 0x80
-    } else {
-        true
-    }
-}
 
 fn length_byte(s: &[u8]) -> usize
     ensures { λ r. ⌜ (r ≡ lengthByte (now (s .entry))) × (r < 256) ⌝ }
@@ -120,11 +76,13 @@ fn is_whole(s: &[u8]) -> bool
     }
 }
 
-// The object whose head stands at a place.
+// The object whose head stands at a place; none past the end.
 pub fn member_at(s: &[u8], p: usize) -> Next
-    requires { ⌜ p ≤ length (now s) ⌝ }
     ensures { λ r. ⌜ r ≡ memberAt (now (s .entry)) p ⌝ }
 {
+    if s.len() < p {
+        return Next::Broken;
+    }
     let t = &s[p..];
     if is_whole(t) {
         let start = value_start(t);

@@ -1,4 +1,5 @@
 // Data objects: tag, length and value, as a card sends them and as a command carries them.
+pub mod tag;
 mod head;
 mod list;
 pub mod lookup;

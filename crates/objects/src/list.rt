@@ -1,6 +1,6 @@
 // The list check.
 use crate::Next;
-use crate::head::is_constructed;
+use crate::tag::is_constructed;
 use crate::place::next;
 ghost use mathlib.Core.Path.{_≡_};
 ghost use Rattle.objects.specs.Objects.{isList};

@@ -1,7 +1,7 @@
 // The writer: one object at the start of a lent buffer, with the shortest length form.
 use crate::Wrote;
-use crate::head::has_two_bytes;
-use crate::head::is_constructed;
+use crate::tag::has_two_bytes;
+use crate::tag::is_constructed;
 use crate::list::is_list;
 use lists::lay;
 ghost use mathlib.Core.Path.{_≡_};

@@ -16,7 +16,7 @@ use Rattle.objects.proofs.ListCheck.{check-end, check-broken, check-pla
 use Rattle.objects.proofs.list.is_list.Reads as is-list
 use Rattle.objects.proofs.list.is_list.Kinds as is-list-kinds
 use Rattle.objects.proofs.list.+is_list.Lts-is_list as is-list-lts
-use Rattle.objects.proofs.head.is_constructed.Reads as is-constructed-reads
+use Rattle.objects.proofs.tag.is_constructed.Reads as is-constructed-reads
 use Rattle.objects.proofs.place.next.Reads as next-reads
 use Rattle.objects.proofs.list.+is_list.{statement}
 use Rattle.objects.proofs.list.+is_list.Tie.{close}

@@ -1,0 +1,6 @@
+pub mod Xor
+pub mod Division
+pub mod Entries
+pub mod ByTable
+pub mod Bytes
+pub mod Laws
