@@ -1,9 +1,9 @@
 // Data objects: tag, length and value, as a card sends them and as a command carries them.
-pub mod tag;
 mod head;
 mod list;
 pub mod lookup;
 pub mod place;
+pub mod tag;
 pub mod writer;
 
 // What the reader finds at a place of a list.

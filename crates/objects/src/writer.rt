@@ -1,8 +1,8 @@
 // The writer: one object at the start of a lent buffer, with the shortest length form.
 use crate::Wrote;
+use crate::list::is_list;
 use crate::tag::has_two_bytes;
 use crate::tag::is_constructed;
-use crate::list::is_list;
 use lists::lay;
 ghost use mathlib.Core.Path.{_≡_};
 ghost use Prim.Native.Nat.{_+_, _<_, _≤_};

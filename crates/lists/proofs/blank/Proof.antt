@@ -23,9 +23,11 @@ loop-again : tie.Need-loop-again Inv-loop μ-loop
 loop-again c =
     let a = c .before .before .args in
     let l = c .before .loop in
-    let inside : l .i < length (a .buf .now) = omega arith in
-    (omega arith, simp length-set (omega arith)
-    , ap (λ (d : List ℕ). set d (l .i) (a .b)) (l .inv .2) ∙ fill-more (l .i) (a .b) (a .buf .now) inside)
+    let inside : l .i < length (a .buf .now) = omega arith in (
+      omega arith,
+      simp length-set (omega arith),
+      ap (λ (d : List ℕ). set d (l .i) (a .b)) (l .inv .2) ∙ fill-more (l .i) (a .b) (a .buf .now) inside,
+    )
 
 returns : tie.Need-returns Inv-loop μ-loop
 returns c =

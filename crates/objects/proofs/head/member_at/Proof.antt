@@ -4,11 +4,11 @@ use mathlib.Core.Path.{_≡_, _∙_, sym, ap, refl}
 use mathlib.Core.Bool.{true, false}
 use mathlib.Core.List.{List, []}
 use Prim.Native.Nat.{ℕ, _+_, _-_, _<_}
-use native.Mathlib.Nat.{le-refl, le-of-lt}
-use lib.ListN.{length, take, drop, length-drop, drop-of-length-le}
-use lib.Seq.{take-all}
+use native.Mathlib.Nat.{le-of-lt}
+use lib.ListN.{length, take, drop, drop-of-length-le}
 use borrow.Author.Needs.{needs}
 use Rattle.lists.specs.Choice.{pick}
+use Rattle.lists.proofs.Writing.{rest-part}
 use Rattle.lists.proofs.Choice.{pick-yes, pick-no}
 use Rattle.objects.specs.Head.{tagOf, tagRight, tagSize, twoBytes, lengthByte, lengthForm, lengthSize, lengthOf, valueStart, valueEnd, whole}
 use Rattle.objects.specs.Place.{memberAt}
@@ -16,10 +16,6 @@ use Rattle.objects.specs.declared.Next.{Next}
 use Rattle.objects.specs.declared.Next.the-variants.{Member, Broken}
 use Rattle.objects.proofs.head.member_at.Statement.{statement}
 use Rattle.objects.proofs.head.member_at.Tie as tie
-
--- the part from a place to the end is what is left from there
-rest : (s : List ℕ) (p : ℕ) → take (length s - p) (drop p s) ≡ drop p s
-rest s p = take-all (length s - p) (drop p s) (rw length-drop (le-refl _))
 
 module _ (s : List ℕ) (p : ℕ) (t : List ℕ) (e : t ≡ drop p s) where
   member : (tag start end : ℕ) → whole t ≡ true → tag ≡ tagOf t → start ≡ valueStart t → end ≡ valueEnd t
@@ -41,7 +37,7 @@ returns c = nothing-there (c .before .before .args .s .now) (c .before .before .
 returns-2 : tie.Need-returns-2
 returns-2 c =
     let a = c .before .before .before .before .before .before .before .before .args in
-    member (a .s .now) (a .p) (take (length (a .s .now) - a .p) (drop (a .p) (a .s .now))) (rest (a .s .now) (a .p))
+    member (a .s .now) (a .p) (take (length (a .s .now) - a .p) (drop (a .p) (a .s .now))) (rest-part (a .s .now) (a .p))
     (c .tag-of .result) (c .before .before .value-start .result) (c .before .value-end .result)
     (sym (c .before .before .before .before .is-whole .ensures) ∙ c .before .before .before .if2 .taken)
     (c .tag-of .ensures .0) (c .before .before .value-start .ensures .0) (c .before .value-end .ensures .0)
@@ -49,7 +45,7 @@ returns-2 c =
 returns-3 : tie.Need-returns-3
 returns-3 c =
     let a = c .before .before .before .before .before .args in
-    broken (a .s .now) (a .p) (take (length (a .s .now) - a .p) (drop (a .p) (a .s .now))) (rest (a .s .now) (a .p))
+    broken (a .s .now) (a .p) (take (length (a .s .now) - a .p) (drop (a .p) (a .s .now))) (rest-part (a .s .now) (a .p))
     (sym (c .before .is-whole .ensures) ∙ c .if2 .left)
 
 pub member-at-spec : {M : Type 1} → statement M

@@ -1,0 +1,243 @@
+-- An object list, an entry at a time: what it asks for, how much, and what it is filled with go by the entry at the front and
+-- the rest.
+-- Assumes nothing.
+use mathlib.Core.Path.{_≡_, refl, sym, ap, ap₂, _∙_}
+use mathlib.Core.Bool.{Bool, true, false, not, _&&_, false≢true}
+use mathlib.Core.List.{List, [], _∷_, _++_}
+use mathlib.Core.Option.{Option, none, some}
+use Prim.Native.Nat.{ℕ, _+_, _-_, _≤_, _<_, min}
+use native.Mathlib.Nat.{add-assoc, zero-add, add-zero, not-suc-le-zero}
+use native.Mathlib.Omega.{arith}
+use lib.Dec.{eqb, leb}
+use lib.ListN.{length, getD, take, drop, replicate, length-drop, length-append, length-replicate, length-take}
+use borrow.Author.Tests.{eqb-false, ne-eqb, leb-true, le-leb, lt-leb}
+use Rattle.lists.specs.Choice.{pick}
+use Rattle.lists.specs.Shorter.{Asks}
+use Rattle.lists.specs.Writing.{zeros, put}
+use Rattle.lists.proofs.Choice.{pick-yes, pick-no, pick-cong, picked, either, and-left, and-right}
+use Rattle.lists.proofs.Shorter.{equation}
+use Rattle.lists.proofs.Writing.{zeros-length, put-step}
+use Rattle.objects.specs.Head.{tagOf, tagRight, tagSize}
+use Rattle.objects.specs.Objects.{isSome}
+use Rattle.terminal.specs.Reading.{Terminal}
+use Rattle.object_lists.specs.Wanted.{Wanted, andThen, sizeAt, firstWanted, asks, wantedStep, entriesOf, total, totalBy, totalOf, most, fits, fillable, tally}
+use Rattle.object_lists.specs.Filled.{entryBytes, firstBytes, filled, filledBy, filledList, filling}
+use Rattle.object_lists.specs.Known.{supplied}
+use Rattle.object_lists.specs.Shape.{shaped}
+use Rattle.object_lists.specs.declared.Known.{Known}
+use Rattle.object_lists.specs.declared.Format.{Format}
+use Rattle.object_lists.specs.declared.Format.the-variants.{Numeric, CardNumber, Other}
+
+entry-fits : (s : List ℕ) → asks s ≡ true → tagSize s + 1 ≤ length s
+unfolding asks
+entry-fits s e = leb-true _ _ (and-right (tagRight s) _ (and-right (not (eqb (getD s 0 0) 0)) _ e))
+
+step-asks : Asks wantedStep
+unfolding wantedStep
+step-asks f g s same =
+    pick-cong _ _ _ _ _ (λ e. refl) (λ n.
+    pick-cong _ _ _ _ _ (λ e. ap (andThen (firstWanted s)) (same (drop (tagSize s + 1) s) (shorter-rest e))) (λ e. refl))
+  where
+    shorter-rest : asks s ≡ true → length (drop (tagSize s + 1) s) < length s
+    shorter-rest e = let h = entry-fits s e in rw length-drop (omega arith)
+
+entries-step : (s : List ℕ) → entriesOf s ≡ wantedStep entriesOf s
+unfolding entriesOf
+entries-step s = equation wantedStep none step-asks s
+
+pub entries-empty : entriesOf [] ≡ some []
+unfolding wantedStep
+entries-empty = entries-step [] ∙ pick-yes _ _ _ refl
+
+module _ (s : List ℕ) (some-bytes : 0 < length s) where
+  nonempty : eqb (length s) 0 ≡ false
+  nonempty = ne-eqb (length s) 0 (λ (e : length s ≡ 0). omega arith)
+
+  pub entries-more : asks s ≡ true → entriesOf s ≡ andThen (firstWanted s) (entriesOf (drop (tagSize s + 1) s))
+  unfolding wantedStep
+  entries-more e = entries-step s ∙ (pick-no _ _ _ nonempty ∙ pick-yes _ _ _ e)
+
+  pub entries-none : asks s ≡ false → entriesOf s ≡ none
+  unfolding wantedStep
+  entries-none e = entries-step s ∙ (pick-no _ _ _ nonempty ∙ pick-no _ _ _ e)
+
+-- a list whose first entry stands before others that are well formed
+module _ (w : Wanted) where
+  pub some-then : (o : Option (List Wanted)) → isSome (andThen w o) ≡ isSome o
+  unfolding isSome andThen
+  some-then none = refl
+  some-then (some ws) = refl
+
+  pub total-then : (o : Option (List Wanted)) → isSome o ≡ true → totalBy (andThen w o) ≡ w .size + totalBy o
+  unfolding isSome andThen totalBy total
+  total-then none e = absurd (false≢true e)
+  total-then (some ws) e = refl
+
+  pub filled-then : (t : Terminal) (k : Known) (o : Option (List Wanted)) → isSome o ≡ true
+      → filledBy t k (andThen w o) ≡ entryBytes (w .size) (supplied t k (w .tag)) ++ filledBy t k o
+  unfolding isSome andThen filledBy filled
+  filled-then t k none e = absurd (false≢true e)
+  filled-then t k (some ws) e = refl
+
+-- an entry's bytes are as many as it asks for, and the list's as many as all of them do
+pub shaped-length : (f : Format) (n : ℕ) (v : List ℕ) → length (shaped f n v) ≡ n
+unfolding shaped
+shaped-length Numeric n v =
+    length-append (zeros (n - length v)) (drop (length v - n) v)
+    ∙ (ap₂ _+_ (zeros-length (n - length v)) (length-drop (length v - n) v) ∙ (let e : n - length v + (length v - (length v - n)) ≡ n = omega arith in e))
+shaped-length CardNumber n v =
+    length-append (take n v) (replicate (n - length v) 0xFF)
+    ∙ (ap₂ _+_ (length-take n v) (length-replicate (n - length v) 0xFF) ∙ (let e : min n (length v) + (n - length v) ≡ n = omega arith in e))
+shaped-length Other n v =
+    length-append (take n v) (zeros (n - length v))
+    ∙ (ap₂ _+_ (length-take n v) (zeros-length (n - length v)) ∙ (let e : min n (length v) + (n - length v) ≡ n = omega arith in e))
+
+pub entry-length : (n : ℕ) (o : Option (Format × List ℕ)) → length (entryBytes n o) ≡ n
+unfolding entryBytes
+entry-length n none = zeros-length n
+entry-length n (some v) = shaped-length (v .0) n (v .1)
+
+pub first-length : (t : Terminal) (k : Known) (r : List ℕ) → length (firstBytes t k r) ≡ sizeAt r
+unfolding firstBytes
+first-length t k r = entry-length (sizeAt r) (supplied t k (tagOf r))
+
+filled-length : (t : Terminal) (k : Known) (ws : List Wanted) → length (filled t k ws) ≡ total ws
+unfolding filled total
+filled-length t k [] = refl
+filled-length t k (w ∷ ws) =
+    length-append (entryBytes (w .size) (supplied t k (w .tag))) (filled t k ws)
+    ∙ ap₂ _+_ (entry-length (w .size) (supplied t k (w .tag))) (filled-length t k ws)
+
+filled-by-length : (t : Terminal) (k : Known) (o : Option (List Wanted)) → length (filledBy t k o) ≡ totalBy o
+unfolding filledBy totalBy
+filled-by-length t k none = refl
+filled-by-length t k (some ws) = filled-length t k ws
+
+pub list-length : (t : Terminal) (k : Known) (list : List ℕ) → length (filledList t k list) ≡ totalOf list
+unfolding filledList totalOf
+list-length t k list = filled-by-length t k (entriesOf list)
+
+-- the bytes asked for, counted on from n: one more than may be where there are too many, or the list is malformed
+unfoldable pub countedOn : ℕ → Option (List Wanted) → ℕ
+countedOn n none = most + 1
+countedOn n (some ws) = pick (leb (n + total ws) most) (n + total ws) (most + 1)
+
+counted-fits : (o : Option (List Wanted)) → pick (fits o) (totalBy o) (most + 1) ≡ countedOn 0 o
+unfolding countedOn fits totalBy pick
+counted-fits none = refl
+counted-fits (some ws) = ap (λ (n : ℕ). pick (leb n most) n (most + 1)) (sym (zero-add (total ws)))
+
+pub tally-counted : (s : List ℕ) → tally s ≡ countedOn 0 (entriesOf s)
+unfolding tally fillable totalOf
+tally-counted s = counted-fits (entriesOf s)
+
+pub counted-then : (n : ℕ) (w : Wanted) (o : Option (List Wanted)) → countedOn n (andThen w o) ≡ countedOn (n + w .size) o
+unfolding countedOn andThen total
+counted-then n w none = refl
+counted-then n w (some ws) = ap (λ (m : ℕ). pick (leb m most) m (most + 1)) (sym (add-assoc n (w .size) (total ws)))
+
+pub counted-over : (n : ℕ) (o : Option (List Wanted)) → most < n → countedOn n o ≡ most + 1
+unfolding countedOn
+counted-over n none h = refl
+counted-over n (some ws) h = pick-no _ _ _ (lt-leb (n + total ws) most (omega arith))
+
+pub counted-end : (n : ℕ) → n ≤ most → countedOn n (some []) ≡ n
+unfolding countedOn total
+counted-end n h = pick-yes _ _ _ (le-leb (n + 0) most (omega arith)) ∙ add-zero n
+
+pub counted-none : (n : ℕ) → countedOn n none ≡ most + 1
+unfolding countedOn
+counted-none n = refl
+
+-- a list can be filled exactly where its tally is not over the most
+fits-tally : (o : Option (List Wanted)) → leb (pick (fits o) (totalBy o) (most + 1)) most ≡ fits o
+unfolding fits totalBy
+fits-tally none = ap (λ (n : ℕ). leb n most) (pick-no {A = ℕ} false 0 (most + 1) refl)
+fits-tally (some ws) =
+    either (leb (total ws) most)
+    (λ y. ap (λ (n : ℕ). leb n most) (pick-yes (leb (total ws) most) (total ws) (most + 1) y))
+    (λ n. ap (λ (m : ℕ). leb m most) (pick-no (leb (total ws) most) (total ws) (most + 1) n) ∙ sym n)
+
+pub tally-fillable : (s : List ℕ) → leb (tally s) most ≡ fillable s
+unfolding tally fillable totalOf
+tally-fillable s = fits-tally (entriesOf s)
+
+fits-some : (o : Option (List Wanted)) → fits o ≡ true → isSome o ≡ true
+unfolding fits isSome
+fits-some none e = e
+fits-some (some ws) e = refl
+
+pub fillable-some : (s : List ℕ) → fillable s ≡ true → isSome (entriesOf s) ≡ true
+unfolding fillable
+fillable-some s e = fits-some (entriesOf s) e
+
+-- where a well-formed list goes on, an entry stands
+pub some-asks : (s : List ℕ) → 0 < length s → isSome (entriesOf s) ≡ true → asks s ≡ true
+unfolding isSome
+some-asks s h e =
+    either (asks s) (λ y. y) (λ n. absurd (false≢true (sym (ap isSome (entries-none s h n)) ∙ e)))
+
+-- one turn: the entry at the front, and the rest
+module _ (r : List ℕ) (some-bytes : 0 < length r) (right : isSome (entriesOf r) ≡ true) where
+  asked : asks r ≡ true
+  asked = some-asks r some-bytes right
+
+  pub turn-fits : tagSize r + 1 ≤ length r
+  turn-fits = entry-fits r asked
+
+  pub turn-some : isSome (entriesOf (drop (tagSize r + 1) r)) ≡ true
+  turn-some = sym (some-then (firstWanted r) (entriesOf (drop (tagSize r + 1) r))) ∙ (sym (ap isSome (entries-more r some-bytes asked)) ∙ right)
+
+  pub turn-total : totalBy (entriesOf r) ≡ sizeAt r + totalBy (entriesOf (drop (tagSize r + 1) r))
+  unfolding firstWanted
+  turn-total = ap totalBy (entries-more r some-bytes asked) ∙ total-then (firstWanted r) (entriesOf (drop (tagSize r + 1) r)) turn-some
+
+  pub turn-filled : (t : Terminal) (k : Known)
+      → filledBy t k (entriesOf r) ≡ firstBytes t k r ++ filledBy t k (entriesOf (drop (tagSize r + 1) r))
+  unfolding firstWanted firstBytes
+  turn-filled t k =
+      ap (filledBy t k) (entries-more r some-bytes asked) ∙ filled-then (firstWanted r) t k (entriesOf (drop (tagSize r + 1) r)) turn-some
+
+-- and of the count
+module _ (r : List ℕ) (some-bytes : 0 < length r) (n : ℕ) where
+  pub turn-counted : asks r ≡ true → countedOn n (entriesOf r) ≡ countedOn (n + sizeAt r) (entriesOf (drop (tagSize r + 1) r))
+  unfolding firstWanted
+  turn-counted e = ap (countedOn n) (entries-more r some-bytes e) ∙ counted-then n (firstWanted r) (entriesOf (drop (tagSize r + 1) r))
+
+  pub turn-malformed : asks r ≡ false → countedOn n (entriesOf r) ≡ most + 1
+  turn-malformed e = ap (countedOn n) (entries-none r some-bytes e) ∙ counted-none n
+
+pub asked-fits : (r : List ℕ) → asks r ≡ true → tagSize r + 1 ≤ length r
+asked-fits r e = entry-fits r e
+
+pub nothing-left : (r : List ℕ) → length r ≤ 0 → r ≡ []
+nothing-left [] h = refl
+nothing-left (b ∷ r) h = absurd (not-suc-le-zero h)
+
+-- the place of an entry in a buffer that has room for it
+pub place-length : (buf : List ℕ) (p n : ℕ) → p + n ≤ length buf → length (take (p + n - p) (drop p buf)) ≡ n
+place-length buf p n h =
+    let there = length-drop p buf in
+    length-take (p + n - p) (drop p buf) ∙ (let e : min (p + n - p) (length (drop p buf)) ≡ n = omega arith in e)
+
+-- a list that can be filled, and one that cannot
+module _ (t : Terminal) (k : Known) (list : List ℕ) where
+  pub filling-yes : tally list ≤ most → (fillable list ≡ true) × (tally list ≡ totalOf list) × (filling t k list ≡ filledList t k list)
+  unfolding filling tally
+  filling-yes h =
+      let yes′ : fillable list ≡ true = sym (tally-fillable list) ∙ le-leb (tally list) most h in
+      (yes′, pick-yes _ _ _ yes′, pick-yes _ _ _ yes′)
+
+  pub filling-no : most < tally list → filling t k list ≡ []
+  unfolding filling
+  filling-no h = pick-no _ _ _ (sym (tally-fillable list) ∙ lt-leb (tally list) most h)
+
+-- writing the entry at the front and then the rest is writing all of it
+pub turn-put : (t : Terminal) (k : Known) (r buf : List ℕ) (p : ℕ) → 0 < length r → isSome (entriesOf r) ≡ true → p + sizeAt r ≤ length buf
+    → put (filledBy t k (entriesOf (drop (tagSize r + 1) r))) (p + sizeAt r) (put (firstBytes t k r) p buf) ≡ put (filledBy t k (entriesOf r)) p buf
+turn-put t k r buf p h right fits′ =
+    let x = firstBytes t k r in
+    let y = filledBy t k (entriesOf (drop (tagSize r + 1) r)) in
+    let size : length x ≡ sizeAt r = first-length t k r in
+    ap (λ (n : ℕ). put y (p + n) (put x p buf)) (sym size)
+    ∙ (sym (put-step x y p buf (omega arith)) ∙ ap (λ (s : List ℕ). put s p buf) (sym (turn-filled r h right t k)))

@@ -1,0 +1,4 @@
+pub mod Shaping
+pub mod Entries
+pub mod Tables
+pub mod Pinned

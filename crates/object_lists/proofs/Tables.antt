@@ -1,0 +1,50 @@
+-- A table of tags: nothing stands beside a tag that it does not have. And what is kept is what was handed over.
+-- Assumes nothing.
+use mathlib.Core.Path.{_≡_, refl, sym, ap, ap₂, _∙_}
+use mathlib.Core.Bool.{Bool, true, false, _||_}
+use mathlib.Core.List.{List, [], _∷_, _++_}
+use mathlib.Core.Option.{Option, none, some}
+use Prim.Native.Nat.{ℕ, _+_, _≤_, _<_, min}
+use native.Mathlib.Omega.{arith}
+use lib.Dec.{eqb}
+use lib.ListN.{length, take, length-take}
+use lib.Seq.{take-at, take-all}
+use borrow.Author.Tests.{ne-eqb}
+use Rattle.lists.specs.Choice.{pick}
+use Rattle.lists.specs.Writing.{put, zeros}
+use Rattle.lists.proofs.Choice.{pick-yes, pick-no}
+use Rattle.lists.proofs.Writing.{put-start, zeros-length}
+use Rattle.object_lists.specs.Known.{held, longest, nothing, kept, beside}
+use Rattle.object_lists.specs.Shape.{numeric, formatOf}
+use Rattle.object_lists.specs.declared.Format.{Format}
+use Rattle.object_lists.specs.declared.Format.the-variants.{Numeric, CardNumber, Other}
+
+-- the tag is none of the table's
+abbrev pub Missing : ℕ → List (ℕ × Option (List ℕ)) → Type 0
+Missing tag [] = Unit {0}
+Missing tag (line ∷ lines) = (tag ≡ line .0 → ⊥) × Missing tag lines
+
+pub beside-none : (tag : ℕ) (lines : List (ℕ × Option (List ℕ))) → Missing tag lines → beside tag lines ≡ none
+unfolding beside
+beside-none tag [] m = refl
+beside-none tag (line ∷ lines) m = pick-no _ _ _ (ne-eqb tag (line .0) (m .0)) ∙ beside-none tag lines (m .1)
+
+pub held-nothing : held nothing ≡ none
+unfolding held nothing
+held-nothing = pick-no _ _ _ refl
+
+pub held-kept : (s : List ℕ) → length s ≤ longest → held (kept s) ≡ some s
+unfolding held kept
+held-kept s h =
+    let all : take longest s ≡ s = take-all longest s h in
+    pick-yes _ _ _ refl
+    ∙ ap some (ap (take (length (take longest s))) (put-start (take longest s) (zeros longest)) ∙ (take-at (take longest s) _ (length (take longest s)) refl ∙ all))
+
+-- a tag that is neither numeric nor the card number's
+pub other-format : (tag : ℕ) → (tag ≡ 0x9F02 → ⊥) → (tag ≡ 0x9F03 → ⊥) → (tag ≡ 0x9F1A → ⊥) → (tag ≡ 0x5F2A → ⊥) → (tag ≡ 0x9A → ⊥) → (tag ≡ 0x9C → ⊥) → (tag ≡ 0x5F24 → ⊥) → (tag ≡ 0x5F25 → ⊥) → (tag ≡ 0x5A → ⊥)
+    → formatOf tag ≡ Other
+unfolding formatOf numeric
+other-format tag a b c d e f g h i =
+    pick-no _ _ _
+    (rw (ne-eqb tag 0x9F02 a, ne-eqb tag 0x9F03 b, ne-eqb tag 0x9F1A c, ne-eqb tag 0x5F2A d, ne-eqb tag 0x9A e, ne-eqb tag 0x9C f, ne-eqb tag 0x5F24 g, ne-eqb tag 0x5F25 h))
+    ∙ pick-no _ _ _ (ne-eqb tag 0x5A i)
