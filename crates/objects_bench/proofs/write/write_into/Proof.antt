@@ -1,0 +1,25 @@
+-- `write::write_into` is safe: the part that was lent comes back as long as it was, and so the buffer has its 5,000 bytes.
+-- Assumes nothing.
+use native.Mathlib.Omega.{arith}
+use lib.ListN.{length-append, length-drop, length-take}
+use borrow.Author.Needs.{needs}
+use Rattle.objects_bench.proofs.write.write_into.Statement.{statement}
+use Rattle.objects_bench.proofs.write.write_into.Tie as tie
+
+slice-aggregate-is-touched : tie.Need-slice-aggregate-is-touched
+slice-aggregate-is-touched c = simp (length-append, length-drop, length-take) (omega arith)
+
+pub write-into-spec : {M : Type 1} → statement M
+write-into-spec =
+    tie.close
+    (tie.spec
+    (λ c. search needs)
+    (λ c. search needs)
+    (λ c. search needs)
+    (λ c κs. search needs)
+    slice-aggregate-is-touched
+    (λ c κs. search needs)
+    (λ c. search needs)
+    (λ c κs. search needs)
+    (λ c. search needs)
+    (λ c. search needs))

@@ -1,0 +1,33 @@
+// Printing to standard output.
+use libc::STDOUT_FILENO;
+use text::hex;
+
+pub fn text(s: &[u8]) {
+    io::write_all(STDOUT_FILENO, s);
+}
+
+// Bytes in hexadecimal.
+pub fn bytes(s: &[u8]) {
+    let mut out = [0u8; 10000];
+    let n = hex(s, &mut out);
+    text(&out[0..n]);
+}
+
+// The same, and `-` for none.
+pub fn bytes_or_dash(s: &[u8]) {
+    if s.len() == 0 {
+        text(b"-");
+    } else {
+        bytes(s);
+    }
+}
+
+// A tag of one or two bytes.
+pub fn tag(t: usize) {
+    let both = [(t / 256 % 256) as u8, (t % 256) as u8];
+    if t < 256 {
+        bytes(&both[1..2]);
+    } else {
+        bytes(&both[0..2]);
+    }
+}

@@ -1,0 +1,64 @@
+// Questions to the writer of data objects.
+use crate::line;
+use crate::print;
+use objects::Wrote;
+use objects::place;
+use objects::writer;
+use text::hex_number;
+use text::number;
+use text::unhex;
+ghost use Prim.Native.Nat.{_≤_};
+
+pub fn write(words: &[u8]) {
+    let mut value = [0u8; 5000];
+    let second = line::rest(words);
+    let n = unhex(second, &mut value);
+    write_into(hex_number(words), &value[0..n], room(line::rest(second)));
+}
+
+fn room(word: &[u8]) -> usize
+    ensures { λ r. ⌜ r ≤ 5000 ⌝ }
+{
+    let asked = number(word);
+    if asked < 5000 { asked } else { 5000 }
+}
+
+// The buffer is full of a byte that shows where it was touched behind the object.
+fn write_into(tag: usize, value: &[u8], room: usize)
+    requires { ⌜ room ≤ 5000 ⌝ }
+{
+    let mut buf = [0xA5u8; 5000];
+    let written = print_written(tag, value, &mut buf[0..room]);
+    if is_touched(&buf, written) {
+        print::text(b" touched");
+    }
+}
+
+// Prints the object or the refusal, and answers how many bytes were written.
+fn print_written(tag: usize, value: &[u8], buf: &mut [u8]) -> usize {
+    match writer::write(tag, value, buf) {
+        Wrote::BadObject => {
+            print::text(b"refused 10");
+            0
+        }
+        Wrote::NoRoom => {
+            print::text(b"refused 11");
+            0
+        }
+        Wrote::Bytes(n) => {
+            print::bytes(place::value(buf, 0, n));
+            n
+        }
+    }
+}
+
+fn is_touched(buf: &[u8], from: usize) -> bool {
+    let mut i = from;
+    while i < buf.len() {
+        if buf[i] != 0xA5 {
+            return true;
+        }
+        i += 1;
+    }
+    false
+}

@@ -1,0 +1,11 @@
+// Bytes as text, for programs that read and print a line at a time.
+mod digits;
+mod lines;
+mod numbers;
+
+pub use digits::hex;
+pub use digits::unhex;
+pub use lines::line_end;
+pub use lines::word_end;
+pub use numbers::hex_number;
+pub use numbers::number;
