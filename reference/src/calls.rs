@@ -1,0 +1,141 @@
+//! Sequences of kernel calls as text: one session a line, every call with
+//! its event, payload, room and reply.
+
+use crate::commands::Outcome;
+use crate::hex;
+use crate::json::{self, Value};
+use crate::kernel::{Event, Reply, Session};
+
+pub const START: &str = "START";
+pub const ANSWER: &str = "ANSWER";
+pub const SILENCE: &str = "SILENCE";
+pub const HOST: &str = "HOST";
+
+/// A call before it is made.
+#[derive(Clone, Debug, PartialEq, Eq)]
+pub struct Call {
+    pub event: &'static str,
+    pub payload: Vec<u8>,
+    pub room: usize,
+}
+
+impl Call {
+    pub fn make(&self, session: &mut Session) -> Reply {
+        let event = match self.event {
+            START => Event::Start(&self.payload),
+            ANSWER => Event::Answer(&self.payload),
+            HOST => Event::Host(&self.payload),
+            _ => Event::Silence,
+        };
+        session.step(self.room, event)
+    }
+}
+
+fn lower(bytes: &[u8]) -> String {
+    hex::text(bytes).to_lowercase()
+}
+
+/// The reply as it stands in a line.
+fn reply_text(reply: &Reply) -> String {
+    match reply {
+        Reply::Command(bytes) => format!("[\"command\", \"{}\"]", lower(bytes)),
+        Reply::HostDue => "[\"host\"]".to_string(),
+        Reply::Decision(bytes) => format!("[\"decision\", \"{}\"]", lower(bytes)),
+        Reply::Closed => "[\"closed\"]".to_string(),
+        Reply::Refused(number) => format!("[\"refused\", {number}]"),
+    }
+}
+
+/// One line of a file of sessions.
+pub fn session_line(number: usize, calls: &[(Call, Reply)]) -> String {
+    let one = |(call, reply): &(Call, Reply)| {
+        format!(
+            "{{\"event\": \"{}\", \"payload\": \"{}\", \"room\": {}, \"reply\": {}}}",
+            call.event,
+            lower(&call.payload),
+            call.room,
+            reply_text(reply)
+        )
+    };
+    let all: Vec<String> = calls.iter().map(one).collect();
+    format!("{{\"session\": {number}, \"calls\": [{}]}}", all.join(", "))
+}
+
+/// The call and the reply it should get, as text.
+fn read_call(value: &Value) -> Option<(Call, String)> {
+    let names = [START, ANSWER, SILENCE, HOST];
+    let event = value.get("event")?.text()?;
+    let call = Call {
+        event: names.into_iter().find(|name| *name == event)?,
+        payload: hex::bytes(value.get("payload")?.text()?)?,
+        room: value.get("room")?.number()? as usize,
+    };
+    let reply = match value.get("reply")?.array()? {
+        [word] => format!("[\"{}\"]", word.text()?),
+        [word, Value::Number(number)] => format!("[\"{}\", {number}]", word.text()?),
+        [word, bytes] => format!("[\"{}\", \"{}\"]", word.text()?, bytes.text()?.to_lowercase()),
+        _ => return None,
+    };
+    Some((call, reply))
+}
+
+/// Plays one line again: calls made, and those whose reply differs.
+fn replay(line: &str) -> Option<(usize, Vec<String>)> {
+    let value = json::parse(line)?;
+    let number = value.get("session")?.number()?;
+    let calls = value.get("calls")?.array()?;
+    let mut session = Session::default();
+    let mut differing = Vec::new();
+    for (index, call) in calls.iter().enumerate() {
+        let (call, wanted) = read_call(call)?;
+        let got = reply_text(&call.make(&mut session));
+        if got != wanted {
+            differing.push(format!("session {number} call {index}: expected {wanted}, got {got}"));
+        }
+    }
+    Some((calls.len(), differing))
+}
+
+/// Replays a file of sessions and prints every reply that differs.
+pub fn replay_file(path: &str) -> Outcome {
+    let text = std::fs::read_to_string(path).map_err(|error| format!("{path}: {error}"))?;
+    let (mut made, mut differ) = (0, 0);
+    for (index, line) in text.lines().enumerate().filter(|(_, line)| !line.trim().is_empty()) {
+        let (calls, differing) =
+            replay(line).ok_or_else(|| format!("{path}, line {}: not understood", index + 1))?;
+        made += calls;
+        differ += differing.len();
+        differing.iter().for_each(|line| println!("{line}"));
+    }
+    println!("{made} compared, {differ} differ");
+    if differ == 0 {
+        Ok(())
+    } else {
+        Err("replies differ".to_string())
+    }
+}
+
+#[cfg(test)]
+mod tests {
+    use super::*;
+    use crate::terminal::tests::sample;
+
+    #[test]
+    fn what_is_written_replays() {
+        let mut session = Session::default();
+        let calls = [
+            Call { event: START, payload: sample().to_vec(), room: 260 },
+            Call { event: START, payload: sample().to_vec(), room: 261 },
+            Call { event: ANSWER, payload: vec![], room: 261 },
+            Call { event: SILENCE, payload: vec![], room: 300 },
+        ];
+        let pairs: Vec<(Call, Reply)> =
+            calls.into_iter().map(|c| (c.clone(), c.make(&mut session))).collect();
+        let line = session_line(4, &pairs);
+        assert!(line.contains("[\"refused\", 1]") && line.contains("00a40400"));
+        assert_eq!(replay(&line), Some((4, vec![])));
+        let (_, differing) = replay(&line.replace("\"refused\", 2", "\"refused\", 4")).unwrap();
+        assert_eq!(differing.len(), 1);
+        assert_eq!(replay("{}"), None);
+    }
+}

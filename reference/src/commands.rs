@@ -1,0 +1,258 @@
+//! The subcommands that work on files and lines.
+
+use crate::hex;
+use crate::judge::{judge, Verdict};
+use crate::kernel::{Event, Reply, Session, LONGEST_COMMAND};
+use crate::lists::{fill, Known};
+use crate::objects;
+use crate::tape::{self, Entry, Writer, BLOCK, MOST_BLOCKS};
+use std::fs::File;
+use std::io::{self, BufRead, Read, Write};
+use std::path::Path;
+
+/// Anything that stops the program: a message for the user.
+pub type Outcome = Result<(), String>;
+
+fn failed(what: &str) -> impl Fn(io::Error) -> String + '_ {
+    move |error| format!("{what}: {error}")
+}
+
+/// Judges without taking in more than is needed to see that it is too much.
+fn judge_from(source: impl Read) -> io::Result<Verdict> {
+    let mut bytes = Vec::new();
+    source.take((MOST_BLOCKS * BLOCK + 1) as u64).read_to_end(&mut bytes)?;
+    Ok(judge(&bytes))
+}
+
+pub fn judge_tapes(files: &[String]) -> Outcome {
+    if files.is_empty() {
+        let verdict = judge_from(io::stdin().lock()).map_err(failed("standard input"))?;
+        println!("{verdict}");
+    }
+    let mut out = io::BufWriter::new(io::stdout().lock());
+    for file in files {
+        let path = Path::new(file);
+        let name = path.file_name().map(|n| n.to_string_lossy()).unwrap_or_default();
+        let verdict = File::open(path).and_then(judge_from).map_err(failed(file))?;
+        writeln!(out, "{name} {verdict}").map_err(failed("standard output"))?;
+    }
+    Ok(())
+}
+
+/// Answers every line of standard input with one line, or none for `None`.
+fn each_line(mut answer: impl FnMut(&str) -> Result<Option<String>, String>) -> Outcome {
+    let mut out = io::stdout().lock();
+    for (index, line) in io::stdin().lock().lines().enumerate() {
+        let line = line.map_err(failed("standard input"))?;
+        let reply = answer(line.trim()).map_err(|e| format!("line {}: {e}", index + 1))?;
+        if let Some(reply) = reply {
+            // Flushed at once, so that a card can be driven over a pipe.
+            writeln!(out, "{reply}")
+                .and_then(|()| out.flush())
+                .map_err(failed("standard output"))?;
+        }
+    }
+    Ok(())
+}
+
+fn bytes_of(text: &str) -> Result<Vec<u8>, String> {
+    hex::bytes(text).ok_or_else(|| format!("no hexadecimal bytes: {text}"))
+}
+
+/// The tape that `play` writes, block by block as entries come.
+struct Recorder {
+    file: File,
+    writer: Writer,
+}
+
+impl Recorder {
+    fn add(&mut self, kind: u8, payload: &[u8]) -> Outcome {
+        let block = self
+            .writer
+            .add(Entry { kind, payload })
+            .map_err(|number| format!("tape refused an entry: {number}"))?;
+        self.file.write_all(&block).map_err(failed("tape"))
+    }
+}
+
+/// A kernel driven by lines.
+struct Player {
+    session: Session,
+    room: usize,
+    recorder: Option<Recorder>,
+}
+
+impl Player {
+    fn line(&mut self, line: &str) -> Result<Option<String>, String> {
+        let (word, rest) = line.split_once(char::is_whitespace).unwrap_or((line, ""));
+        let rest = rest.trim();
+        if word.is_empty() {
+            return Ok(None);
+        }
+        if word == "ROOM" {
+            self.room = rest.parse().map_err(|_| format!("no number: {rest}"))?;
+            return Ok(None);
+        }
+        let payload = bytes_of(rest)?;
+        let (kind, event) = match word {
+            "START" => (tape::START, Event::Start(&payload)),
+            "ANSWER" => (tape::ANSWER, Event::Answer(&payload)),
+            "SILENCE" => (tape::SILENCE, Event::Silence),
+            "HOST" => (tape::HOST, Event::Host(&payload)),
+            _ => return Err(format!("unknown word: {word}")),
+        };
+        let reply = self.session.step(self.room, event);
+        self.record(kind, &payload, &reply)?;
+        Ok(Some(reply_line(&reply)))
+    }
+
+    /// Writes the accepted event, and the command or decision that follows.
+    fn record(&mut self, kind: u8, payload: &[u8], reply: &Reply) -> Outcome {
+        let Some(recorder) = &mut self.recorder else {
+            return Ok(());
+        };
+        if matches!(reply, Reply::Refused(_)) {
+            return Ok(());
+        }
+        let payload = if kind == tape::SILENCE { &[] } else { payload };
+        recorder.add(kind, payload)?;
+        match reply {
+            Reply::Command(command) => recorder.add(tape::COMMAND, command),
+            Reply::Decision(decision) => recorder.add(tape::DECISION, decision),
+            _ => Ok(()),
+        }
+    }
+}
+
+pub fn reply_line(reply: &Reply) -> String {
+    match reply {
+        Reply::Command(bytes) => format!("COMMAND {}", hex::text(bytes)),
+        Reply::HostDue => "HOST".to_string(),
+        Reply::Decision(bytes) => format!("DECISION {}", hex::text(bytes)),
+        Reply::Closed => "CLOSED".to_string(),
+        Reply::Refused(number) => format!("REFUSED {number}"),
+    }
+}
+
+pub fn play(tape: Option<&str>, session: u32) -> Outcome {
+    let recorder = match tape {
+        Some(path) => {
+            let file = File::create(path).map_err(failed(path))?;
+            Some(Recorder { file, writer: Writer::new(session, MOST_BLOCKS * BLOCK) })
+        }
+        None => None,
+    };
+    let mut player = Player { session: Session::default(), room: LONGEST_COMMAND, recorder };
+    each_line(|line| player.line(line))
+}
+
+/// The direct members of the list on the line.
+fn objects_line(line: &str) -> Result<String, String> {
+    let bytes = bytes_of(line)?;
+    Ok(match objects::read_list(&bytes) {
+        Err(number) => format!("refused {number}"),
+        Ok(members) if members.is_empty() => "-".to_string(),
+        Ok(members) => {
+            let member = |m: &objects::Object| format!("{:02X}:{}", m.tag, hex::text(m.value));
+            members.iter().map(member).collect::<Vec<_>>().join(" ")
+        }
+    })
+}
+
+pub fn read_objects() -> Outcome {
+    each_line(|line| objects_line(line).map(Some))
+}
+
+/// `TAG VALUE ROOM`; without a value, or with a dash, the value is empty.
+fn write_line(line: &str) -> Result<String, String> {
+    let words: Vec<&str> = line.split_whitespace().collect();
+    let (tag, value, room) = match words[..] {
+        [tag, value, room] => (tag, value, room),
+        [tag, room] => (tag, "-", room),
+        _ => return Err("three words expected".to_string()),
+    };
+    let tag = u32::from_str_radix(tag, 16).map_err(|_| format!("no tag number: {tag}"))?;
+    let value = bytes_of(value)?;
+    let room = room.parse().map_err(|_| format!("no number: {room}"))?;
+    Ok(match objects::write(tag, &value, room) {
+        Ok(bytes) => hex::text(&bytes),
+        Err(number) => format!("refused {number}"),
+    })
+}
+
+pub fn write_objects() -> Outcome {
+    each_line(|line| write_line(line).map(Some))
+}
+
+/// `LIST TAG=VALUE ..`: the list filled from the values given.
+fn fill_line(line: &str) -> Result<String, String> {
+    let mut words = line.split_whitespace();
+    let list = bytes_of(words.next().unwrap_or("-"))?;
+    let mut values = Vec::new();
+    for word in words {
+        let (tag, value) = word.split_once('=').ok_or_else(|| format!("no pair: {word}"))?;
+        let tag = u16::from_str_radix(tag, 16).map_err(|_| format!("no tag: {tag}"))?;
+        values.push((tag, bytes_of(value)?));
+    }
+    let mut known = Known::default();
+    for (tag, value) in &values {
+        known.add(*tag, value);
+    }
+    Ok(match fill(&list, &known) {
+        Some(data) => hex::text_or_dash(&data),
+        None => "reason 9".to_string(),
+    })
+}
+
+pub fn fill_lists() -> Outcome {
+    each_line(|line| fill_line(line).map(Some))
+}
+
+#[cfg(test)]
+mod tests {
+    use super::*;
+    use crate::terminal::tests::sample;
+
+    #[test]
+    fn object_lines() {
+        assert_eq!(objects_line("5A81021234").unwrap(), "5A:1234");
+        assert_eq!(objects_line("5A0212").unwrap(), "refused 9");
+        assert!(objects_line("00 00").is_err());
+        assert_eq!(objects_line("0000").unwrap(), "-");
+        assert_eq!(objects_line("").unwrap(), "-");
+        assert_eq!(objects_line("01009F0200").unwrap(), "01: 9F02:");
+    }
+
+    #[test]
+    fn write_lines() {
+        assert_eq!(write_line("5A 1234 4").unwrap(), "5A021234");
+        assert_eq!(write_line("5A 1234 3").unwrap(), "refused 11");
+        assert_eq!(write_line("5A - 2").unwrap(), "5A00");
+        assert_eq!(write_line("9f02 3").unwrap(), "9F0200");
+        assert_eq!(write_line("5F - 2").unwrap(), "refused 10");
+        assert!(write_line("5A").is_err());
+    }
+
+    #[test]
+    fn fill_lines() {
+        assert_eq!(fill_line("9F0204 9F02=000000007500").unwrap(), "00007500");
+        assert_eq!(fill_line("9F3702 9F37=11223344").unwrap(), "1122");
+        assert_eq!(fill_line("-").unwrap(), "-");
+        assert_eq!(fill_line("00").unwrap(), "reason 9");
+        assert_eq!(fill_line("5A03 5A=").unwrap(), "FFFFFF");
+    }
+
+    #[test]
+    fn player_lines() {
+        let mut player = Player { session: Session::default(), room: 261, recorder: None };
+        let start = format!("START {}", hex::text(&sample()));
+        let mut say = |line: &str| player.line(line).unwrap().unwrap_or_default();
+        assert_eq!(say("START"), "REFUSED 3");
+        assert_eq!(say("ROOM 260"), "");
+        assert_eq!(say(&start), "REFUSED 1");
+        assert_eq!(say("ROOM 261"), "");
+        assert_eq!(say(&start), "COMMAND 00A4040005A00000000300");
+        assert_eq!(say("ANSWER 6a82"), "DECISION 030200000000000000");
+        assert_eq!(say("SILENCE"), "REFUSED 2");
+    }
+}

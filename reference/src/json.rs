@@ -1,0 +1,134 @@
+//! As much of JSON as call sequences need: objects, arrays, strings without
+//! escapes and whole numbers.
+
+#[derive(Debug, PartialEq, Eq)]
+pub enum Value {
+    Object(Vec<(String, Value)>),
+    Array(Vec<Value>),
+    Text(String),
+    Number(u64),
+}
+
+impl Value {
+    pub fn get(&self, name: &str) -> Option<&Value> {
+        match self {
+            Value::Object(members) => members.iter().find(|m| m.0 == name).map(|m| &m.1),
+            _ => None,
+        }
+    }
+
+    pub fn array(&self) -> Option<&[Value]> {
+        match self {
+            Value::Array(items) => Some(items),
+            _ => None,
+        }
+    }
+
+    pub fn text(&self) -> Option<&str> {
+        match self {
+            Value::Text(text) => Some(text),
+            _ => None,
+        }
+    }
+
+    pub fn number(&self) -> Option<u64> {
+        match self {
+            Value::Number(number) => Some(*number),
+            _ => None,
+        }
+    }
+}
+
+/// The value a text consists of, with nothing behind it.
+pub fn parse(text: &str) -> Option<Value> {
+    let mut rest = text.trim();
+    let value = value(&mut rest)?;
+    rest.trim().is_empty().then_some(value)
+}
+
+/// Takes the mark off the front, if it is there.
+fn take(rest: &mut &str, mark: char) -> Option<()> {
+    *rest = rest.trim_start().strip_prefix(mark)?;
+    Some(())
+}
+
+fn value(rest: &mut &str) -> Option<Value> {
+    match rest.trim_start().chars().next()? {
+        '{' => members(rest),
+        '[' => items(rest),
+        '"' => text(rest).map(Value::Text),
+        _ => number(rest),
+    }
+}
+
+fn members(rest: &mut &str) -> Option<Value> {
+    take(rest, '{')?;
+    let mut all = Vec::new();
+    if take(rest, '}').is_some() {
+        return Some(Value::Object(all));
+    }
+    loop {
+        let name = text(rest)?;
+        take(rest, ':')?;
+        all.push((name, value(rest)?));
+        if take(rest, ',').is_none() {
+            take(rest, '}')?;
+            return Some(Value::Object(all));
+        }
+    }
+}
+
+fn items(rest: &mut &str) -> Option<Value> {
+    take(rest, '[')?;
+    let mut all = Vec::new();
+    if take(rest, ']').is_some() {
+        return Some(Value::Array(all));
+    }
+    loop {
+        all.push(value(rest)?);
+        if take(rest, ',').is_none() {
+            take(rest, ']')?;
+            return Some(Value::Array(all));
+        }
+    }
+}
+
+fn text(rest: &mut &str) -> Option<String> {
+    take(rest, '"')?;
+    let (inside, behind) = rest.split_once('"')?;
+    if inside.contains('\\') {
+        return None;
+    }
+    *rest = behind;
+    Some(inside.to_string())
+}
+
+fn number(rest: &mut &str) -> Option<Value> {
+    let trimmed = rest.trim_start();
+    let end = trimmed.find(|c: char| !c.is_ascii_digit()).unwrap_or(trimmed.len());
+    let value = trimmed[..end].parse().ok()?;
+    *rest = &trimmed[end..];
+    Some(Value::Number(value))
+}
+
+#[cfg(test)]
+mod tests {
+    use super::*;
+
+    #[test]
+    fn reading() {
+        let value = parse(r#" {"a": [1, "x", {}], "b": []} "#).unwrap();
+        let items = value.get("a").and_then(Value::array).unwrap();
+        assert_eq!(items[0].number(), Some(1));
+        assert_eq!(items[1].text(), Some("x"));
+        assert_eq!(value.get("b"), Some(&Value::Array(vec![])));
+        assert_eq!(value.get("c"), None);
+    }
+
+    #[test]
+    fn not_read() {
+        for bad in ["", "{", "[1", "[1,]", "{\"a\"}", "\"a", "-1", "1 2", "\"\\n\""] {
+            assert_eq!(parse(bad), None, "{bad}");
+        }
+    }
+}

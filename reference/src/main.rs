@@ -1,0 +1,93 @@
+//! An ordinary kernel, tape and judge, to hold others against.
+
+mod answers;
+mod calls;
+mod commands;
+mod decide;
+mod hex;
+mod json;
+mod judge;
+mod kernel;
+mod lists;
+mod make;
+mod objects;
+mod random;
+mod tape;
+mod terminal;
+
+use commands::Outcome;
+use std::path::Path;
+use std::process::ExitCode;
+
+const USAGE: &str = "usage:
+  reference judge [FILE ..]
+  reference play [--tape FILE] [--session N]
+  reference objects
+  reference write
+  reference fill
+  reference make DIR COUNT SEED [--list FILE]
+  reference make-calls COUNT SEED
+  reference calls FILE";
+
+/// Takes `--name VALUE` out of the arguments.
+fn option(arguments: &mut Vec<String>, name: &str) -> Result<Option<String>, String> {
+    let Some(at) = arguments.iter().position(|a| a == name) else {
+        return Ok(None);
+    };
+    if at + 1 >= arguments.len() {
+        return Err(format!("{name} needs a value"));
+    }
+    arguments.remove(at);
+    Ok(Some(arguments.remove(at)))
+}
+
+fn number<T: std::str::FromStr>(text: &str) -> Result<T, String> {
+    text.parse().map_err(|_| format!("no number: {text}"))
+}
+
+fn words(arguments: &[String]) -> Vec<&str> {
+    arguments.iter().map(String::as_str).collect()
+}
+
+fn run(mut arguments: Vec<String>) -> Outcome {
+    if arguments.is_empty() {
+        return Err(USAGE.to_string());
+    }
+    let command = arguments.remove(0);
+    if command == "judge" {
+        return commands::judge_tapes(&arguments);
+    }
+    let tape = option(&mut arguments, "--tape")?;
+    let session = option(&mut arguments, "--session")?;
+    let list = option(&mut arguments, "--list")?;
+    match (command.as_str(), &words(&arguments)[..]) {
+        ("play", []) => {
+            let session = session.as_deref().map_or(Ok(0), number)?;
+            commands::play(tape.as_deref(), session)
+        }
+        ("objects", []) => commands::read_objects(),
+        ("write", []) => commands::write_objects(),
+        ("fill", []) => commands::fill_lists(),
+        ("make", [folder, count, seed]) => {
+            let list = list.as_deref().map(Path::new);
+            make::make(Path::new(folder), number(count)?, number(seed)?, list)
+                .map_err(|error| format!("{folder}: {error}"))
+        }
+        ("make-calls", [count, seed]) => {
+            make::make_calls(number(count)?, number(seed)?);
+            Ok(())
+        }
+        ("calls", [file]) => calls::replay_file(file),
+        _ => Err(USAGE.to_string()),
+    }
+}
+
+fn main() -> ExitCode {
+    match run(std::env::args().skip(1).collect()) {
+        Ok(()) => ExitCode::SUCCESS,
+        Err(message) => {
+            eprintln!("{message}");
+            ExitCode::from(2)
+        }
+    }
+}

@@ -1,0 +1,162 @@
+//! Call sequences: sessions with refused calls between, and calls in any
+//! order.
+
+use super::plan::{Place, Players};
+use super::scenarios::by_chance;
+use super::start::Start;
+use crate::calls::{session_line, Call, ANSWER, HOST, SILENCE, START};
+use crate::kernel::{Reply, Session};
+use crate::random::Random;
+
+/// A room that is large enough.
+fn room(r: &mut Random) -> usize {
+    *r.pick(&[261, 261, 262, 300, 512, 4096])
+}
+
+fn small_room(r: &mut Random) -> usize {
+    *r.pick(&[0, 1, 5, 100, 258, 259, 260, 260])
+}
+
+/// A START that is good, or just about not.
+fn any_start(r: &mut Random) -> Vec<u8> {
+    let mut bytes = Start::any(r).bytes();
+    match r.below(8) {
+        0 => bytes.clear(),
+        1 => bytes.truncate(73),
+        2 => bytes.push(0),
+        3 => bytes[0] = 3,
+        4 => bytes[31] = *r.pick(&[0, 100]),
+        5 => bytes[18] = 0x13,
+        _ => (),
+    }
+    bytes
+}
+
+fn any_answer(r: &mut Random) -> Vec<u8> {
+    let size = *r.pick(&[0, 1, 2, 20, 258, 259, 495, 496, 497, 498, 600, 4000]);
+    let mut bytes = vec![0; size];
+    if let Some(at) = size.checked_sub(2) {
+        bytes[at] = 0x90;
+    }
+    bytes
+}
+
+fn any_host(r: &mut Random) -> Vec<u8> {
+    let hosts: [&[u8]; 10] = [
+        &[1, 0x30, 0x30],
+        &[2, 0x35, 0x31],
+        &[3, 0, 0],
+        &[3, 0, 1],
+        &[3, 1, 0],
+        &[0, 0, 0],
+        &[4, 0, 0],
+        &[1, 0],
+        &[1, 0, 0, 0],
+        &[],
+    ];
+    r.pick(&hosts).to_vec()
+}
+
+/// Any call at all.
+fn any_call(r: &mut Random) -> Call {
+    let (event, payload) = match r.below(4) {
+        0 => (START, any_start(r)),
+        1 => (ANSWER, any_answer(r)),
+        2 => (SILENCE, Vec::new()),
+        _ => (HOST, any_host(r)),
+    };
+    let room = if r.chance(15) { small_room(r) } else { room(r) };
+    Call { event, payload, room }
+}
+
+/// The calls of one session with their replies.
+struct Log {
+    session: Session,
+    calls: Vec<(Call, Reply)>,
+}
+
+impl Log {
+    fn make(&mut self, call: Call) -> Reply {
+        let reply = call.make(&mut self.session);
+        self.calls.push((call, reply.clone()));
+        reply
+    }
+
+    /// Some calls that are turned away; those that would not be are not made.
+    fn disturb(&mut self, r: &mut Random) {
+        for _ in 0..*r.pick(&[0, 1, 2, 4, 6]) {
+            let call = any_call(r);
+            if matches!(call.make(&mut self.session.clone()), Reply::Refused(_)) {
+                self.make(call);
+            }
+        }
+    }
+}
+
+/// A planned session, disturbed before every call and after the end.
+fn disturbed(r: &mut Random) -> Vec<(Call, Reply)> {
+    let mut plan = by_chance(r).plan;
+    // Most sessions should get further than their first answers.
+    if r.chance(60) {
+        plan.faults.retain(|(place, _)| *place == Place::SecondCryptogram);
+    }
+    if r.chance(40) {
+        plan.first = Some(2);
+    }
+    let mut players = Players::new(&plan, r);
+    let mut log = Log { session: Session::default(), calls: Vec::new() };
+    log.disturb(r);
+    let mut reply = log.make(Call { event: START, payload: players.start.bytes(), room: room(r) });
+    loop {
+        log.disturb(r);
+        let (event, payload) = match reply {
+            Reply::Command(_) if r.chance(3) => (SILENCE, Vec::new()),
+            Reply::Command(command) => (ANSWER, players.answer(&command, r)),
+            Reply::HostDue => (HOST, players.host(r)),
+            _ => return log.calls,
+        };
+        reply = log.make(Call { event, payload, room: room(r) });
+    }
+}
+
+/// Calls without any plan.
+fn in_any_order(r: &mut Random) -> Vec<(Call, Reply)> {
+    let mut log = Log { session: Session::default(), calls: Vec::new() };
+    for _ in 0..r.between(1, 12) {
+        log.make(any_call(r));
+    }
+    log.calls
+}
+
+/// Prints `count` sessions, one a line.
+pub fn make_calls(count: usize, seed: u64) {
+    for index in 0..count {
+        let mut r = Random::nth(seed, index as u64);
+        let calls = if index % 5 == 4 { in_any_order(&mut r) } else { disturbed(&mut r) };
+        println!("{}", session_line(index + 1, &calls));
+    }
+}
+
+#[cfg(test)]
+mod tests {
+    use super::*;
+
+    #[test]
+    fn every_refusal_and_reply_occurs() {
+        let mut refusals = [0; 7];
+        let mut others = [0; 4];
+        for index in 0..400 {
+            for (_, reply) in disturbed(&mut Random::nth(5, index)) {
+                match reply {
+                    Reply::Refused(number) => refusals[usize::from(number)] += 1,
+                    Reply::Command(_) => others[0] += 1,
+                    Reply::HostDue => others[1] += 1,
+                    Reply::Decision(_) => others[2] += 1,
+                    Reply::Closed => others[3] += 1,
+                }
+            }
+        }
+        assert!(refusals[1..].iter().all(|&n| n > 10), "{refusals:?}");
+        assert!(others.iter().all(|&n| n > 10), "{others:?}");
+    }
+}

@@ -1,0 +1,182 @@
+//! Terminal data for made sessions: always valid, often at an edge.
+
+use crate::random::Random;
+
+pub const MOST_AMOUNT: u64 = 999_999_999_999;
+
+/// The fields of START, before they are laid out in its 74 bytes.
+#[derive(Clone)]
+pub struct Start {
+    pub kind: u8,
+    pub amount: u64,
+    pub other: u64,
+    pub country: u64,
+    pub currency: u64,
+    pub date: [u8; 3],
+    pub transaction: u64,
+    pub number: [u8; 4],
+    pub floor: u64,
+    pub random: u8,
+    pub target: u8,
+    pub threshold: u64,
+    pub maximum: u8,
+    pub version: [u8; 2],
+    pub denial: [u8; 5],
+    pub online: [u8; 5],
+    pub default: [u8; 5],
+    pub aid: Vec<u8>,
+}
+
+/// `size` bytes of decimal digits, the number on the right.
+pub fn digits(mut number: u64, size: usize) -> Vec<u8> {
+    let mut out = vec![0; size];
+    for byte in out.iter_mut().rev() {
+        let pair = (number % 100) as u8;
+        *byte = pair / 10 * 16 + pair % 10;
+        number /= 100;
+    }
+    out
+}
+
+/// A date that START and the card's dates accept.
+pub fn any_date(r: &mut Random) -> [u8; 3] {
+    let year = r.below(100) as u64;
+    let month = r.between(1, 12) as u64;
+    let day = r.between(1, 31) as u64;
+    let text = digits(year * 10_000 + month * 100 + day, 3);
+    [text[0], text[1], text[2]]
+}
+
+/// The next later or earlier date there is, in the counting of the dates
+/// that are accepted; the same date at the ends.
+pub fn shifted(date: [u8; 3], later: bool) -> [u8; 3] {
+    let pair = |b: u8| i64::from(b >> 4) * 10 + i64::from(b & 15);
+    let count = (pair(date[0]) * 12 + pair(date[1]) - 1) * 31 + pair(date[2]) - 1;
+    let moved = (count + if later { 1 } else { -1 }).clamp(0, 100 * 12 * 31 - 1) as u64;
+    let text = digits(moved / 372 * 10_000 + (moved / 31 % 12 + 1) * 100 + moved % 31 + 1, 3);
+    [text[0], text[1], text[2]]
+}
+
+impl Start {
+    pub fn any(r: &mut Random) -> Start {
+        let (floor, threshold) = any_limits(r);
+        let amount = any_amount(r, floor, threshold);
+        let maximum: u8 = *r.pick(&[0, 1, 50, 70, 98, 99, 99]);
+        let target = *r.pick(&[0, maximum, maximum / 2, maximum.saturating_sub(1)]);
+        let aid_size = *r.pick(&[5, 5, 6, 7, 7, 8, 12, 15, 16]);
+        let mut start = Start {
+            kind: r.below(3) as u8,
+            amount,
+            other: *r.pick(&[0, 0, 1, 4711, MOST_AMOUNT]),
+            country: r.below(10_000) as u64,
+            currency: r.below(10_000) as u64,
+            date: any_date(r),
+            transaction: r.below(100) as u64,
+            number: r.next().to_be_bytes()[..4].try_into().unwrap_or_default(),
+            floor,
+            random: r.between(1, 99) as u8,
+            target,
+            threshold,
+            maximum,
+            version: [r.byte() & 1, r.byte() & 3],
+            denial: [0; 5],
+            online: [0; 5],
+            default: [0; 5],
+            aid: r.bytes(aid_size),
+        };
+        start.aim_random(r);
+        start
+    }
+
+    /// Often puts the random number right at the edge of selection.
+    pub fn aim_random(&mut self, r: &mut Random) {
+        if r.chance(30) || self.amount >= self.floor {
+            return;
+        }
+        let mut edge = u128::from(self.target);
+        if self.amount >= self.threshold {
+            let spread = u128::from(self.maximum - self.target);
+            let above = u128::from(self.amount - self.threshold);
+            edge += spread * above / u128::from(self.floor - self.threshold);
+        }
+        let aimed = edge as usize + r.below(3);
+        self.random = aimed.saturating_sub(1).clamp(1, 99) as u8;
+    }
+
+    pub fn bytes(&self) -> Vec<u8> {
+        let mut out = vec![self.kind];
+        out.extend(digits(self.amount, 6));
+        out.extend(digits(self.other, 6));
+        out.extend(digits(self.country, 2));
+        out.extend(digits(self.currency, 2));
+        out.extend(self.date);
+        out.extend(digits(self.transaction, 1));
+        out.extend(self.number);
+        out.extend(digits(self.floor, 6));
+        out.extend([self.random, self.target]);
+        out.extend(digits(self.threshold, 6));
+        out.push(self.maximum);
+        out.extend(self.version);
+        out.extend(self.denial);
+        out.extend(self.online);
+        out.extend(self.default);
+        out.push(self.aid.len() as u8);
+        out.extend(&self.aid);
+        out.resize(74, 0);
+        out
+    }
+}
+
+fn any_limits(r: &mut Random) -> (u64, u64) {
+    let floor = match r.below(6) {
+        0 => 0,
+        1 => 1,
+        2 => MOST_AMOUNT,
+        3 => r.next() % (MOST_AMOUNT + 1),
+        _ => r.next() % 100_000,
+    };
+    let threshold = match r.below(4) {
+        0 => 0,
+        1 => floor.saturating_sub(1),
+        2 => floor / 2,
+        _ => r.next() % floor.max(1),
+    };
+    (floor, threshold)
+}
+
+fn any_amount(r: &mut Random, floor: u64, threshold: u64) -> u64 {
+    let amount = match r.below(9) {
+        0 => floor,
+        1 => floor.saturating_sub(1),
+        2 => floor + 1,
+        3 => threshold,
+        4 => threshold.saturating_sub(1),
+        5 => threshold + r.next() % (floor - threshold).max(1),
+        6 => *r.pick(&[0, MOST_AMOUNT]),
+        7 => r.next() % threshold.max(1),
+        _ => r.next() % (MOST_AMOUNT + 1),
+    };
+    amount.min(MOST_AMOUNT)
+}
+
+#[cfg(test)]
+mod tests {
+    use super::*;
+    use crate::terminal::Terminal;
+
+    #[test]
+    fn made_terminal_data_is_valid() {
+        for index in 0..5000 {
+            let start = Start::any(&mut Random::nth(9, index)).bytes();
+            assert!(Terminal::read(&start).is_some(), "{index}");
+        }
+    }
+
+    #[test]
+    fn neighbouring_dates() {
+        assert_eq!(shifted([0x26, 0x12, 0x31], true), [0x27, 0x01, 0x01]);
+        assert_eq!(shifted([0x26, 0x01, 0x01], false), [0x25, 0x12, 0x31]);
+        assert_eq!(shifted([0x99, 0x12, 0x31], true), [0x99, 0x12, 0x31]);
+        assert_eq!(shifted([0x26, 0x07, 0x15], false), [0x26, 0x07, 0x14]);
+    }
+}
