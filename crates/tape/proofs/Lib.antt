@@ -1,0 +1,13 @@
+pub mod Extra
+pub mod Numbers
+pub mod Windows
+pub mod Parts
+pub mod Codes
+pub mod Back
+pub mod Steps
+pub mod Roundtrip
+pub mod Unique
+pub mod OneReading
+pub mod Refusals
+pub mod Filling
+pub mod Growing
