@@ -1,0 +1,31 @@
+// The data of a command, and the byte that ends it.
+use lists::lay;
+use object_lists::Known;
+use object_lists::fill::fill;
+use object_lists::wanted::total;
+ghost use mathlib.Core.Path.{_≡_};
+ghost use mathlib.Core.List.{[], _∷_, _++_};
+ghost use Prim.Native.Nat.{_+_, _≤_};
+ghost use lib.ListN.{length};
+ghost use Rattle.lists.specs.Writing.{put};
+ghost use Rattle.terminal.specs.Reading.{readingOf};
+ghost use Rattle.object_lists.specs.Filled.{filling};
+ghost use Rattle.commands.specs.Commands.{dataSize};
+
+// How many bytes a list is filled with.
+pub fn data_size(list: &[u8]) -> usize
+    ensures { λ r. ⌜ (r ≡ dataSize (now (list .entry))) × (r ≤ 252) ⌝ }
+{
+    let n = total(list);
+    if 252 < n { 0 } else { n }
+}
+
+// The list filled from a place on, and '00' after it.
+pub fn lay_data(list: &[u8], start: &[u8], known: Known, buf: &mut [u8], at: usize)
+    requires { ⌜ at + (dataSize (now list) + 1) ≤ length (now buf) ⌝ }
+    ensures { λ _. ⌜ now (buf .exit) ≡ put (filling (readingOf (now (start .entry))) known (now (list .entry)) ++ (0 ∷ [])) at (now (buf .entry)) ⌝ }
+{
+    let end = at + data_size(list);
+    fill(list, start, known, buf, at);
+    lay(buf, end, b"\x00");
+}
