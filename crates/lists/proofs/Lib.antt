@@ -1,3 +1,4 @@
 pub mod Choice
 pub mod Writing
 pub mod Shorter
+pub mod Cutting

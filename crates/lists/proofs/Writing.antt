@@ -4,12 +4,11 @@
 use mathlib.Core.Path.{_≡_, refl, ap, sym, _∙_}
 use mathlib.Core.List.{List, [], _∷_, _++_, append-assoc}
 use Prim.Native.Nat.{ℕ, _+_, _≤_, _<_, _-_}
-use native.Mathlib.Nat.{le-refl}
 use native.Mathlib.Numerals.{add-one}
 use native.Mathlib.Omega.{arith}
 use lib.Dec.{leb}
 use lib.ListN.{length, take, drop, getD, set, replicate, length-append, length-take, length-drop, length-replicate, take-append-drop}
-use lib.Seq.{length-take-le, take-length, take-all, take-append-seam, drop-append-seam, take-append-le, take-at, drop-at, drop-drop, drop-append-le, set-split, drop-append-add, take-suc, take-add, paste, paste-zero, paste-suc}
+use lib.Seq.{length-take-le, take-length, take-append-seam, drop-append-seam, take-append-le, take-at, drop-at, drop-drop, drop-append-le, set-split, drop-append-add, take-suc, take-add, paste, paste-zero, paste-suc}
 use borrow.Author.Tests.{le-leb, lt-leb}
 use Rattle.lists.specs.Choice.{pick}
 use Rattle.lists.specs.Writing.{put, laid, zeros}
@@ -75,10 +74,6 @@ laid-short s p d h = pick-no _ _ _ (lt-leb _ _ h)
 pub zeros-length : (n : ℕ) → length (zeros n) ≡ n
 unfolding zeros
 zeros-length n = length-replicate n 0
-
--- the part of a list from a place to its end is what is left from there
-pub rest-part : (s : List ℕ) (p : ℕ) → take (length s - p) (drop p s) ≡ drop p s
-rest-part s p = take-all (length s - p) (drop p s) (rw length-drop (le-refl _))
 
 -- a part of a buffer that was lent and has come back holding as many bytes is a write
 pub put-back : (s : List ℕ) (p e : ℕ) (d : List ℕ) → length s ≡ e - p → take p d ++ (s ++ drop (e - p) (drop p d)) ≡ put s p d

@@ -1,7 +1,7 @@
-// Bytes in lent buffers: a read that is never out of range, and a copy into a place.
+// Bytes in lent buffers: reads that are never out of range, and writes that never run past the end.
 ghost use mathlib.Core.Path.{_≡_};
 ghost use Prim.Native.Nat.{_<_};
-ghost use lib.ListN.{length, getD, replicate};
+ghost use lib.ListN.{length, getD, take, drop, replicate};
 ghost use Rattle.lists.specs.Writing.{laid};
 
 // The byte at a place; 0 past the end.
@@ -9,6 +9,19 @@ pub fn byte(s: &[u8], i: usize) -> usize
     ensures { λ r. ⌜ (r ≡ getD (now (s .entry)) i 0) × (r < 256) ⌝ }
 {
     if i < s.len() { s[i] as usize } else { 0 }
+}
+
+// At most n bytes from a place on, as a part of the slice itself: those that are there.
+pub fn part(s: &[u8], from: usize, n: usize) -> &[u8]
+    ensures { λ r. ⌜ now r ≡ take n (drop from (now (s .entry))) ⌝ }
+{
+    if s.len() < from {
+        return &s[..0];
+    }
+    if s.len() - from < n {
+        return &s[from..];
+    }
+    &s[from..from + n]
 }
 
 // Bytes laid into a buffer from a place on; where they do not fit, nothing changes.

@@ -3,6 +3,7 @@ use crate::Next;
 use crate::head::member_at;
 use crate::list::is_list;
 use lists::byte;
+use lists::part;
 ghost use mathlib.Core.Path.{_≡_};
 ghost use Prim.Native.Nat.{_+_, _<_, _≤_};
 ghost use lib.ListN.{length, drop};
@@ -55,16 +56,10 @@ pub fn next(s: &[u8], at: usize) -> Next
 pub fn value(s: &[u8], start: usize, end: usize) -> &[u8]
     ensures { λ r. ⌜ now r ≡ between (now (s .entry)) start end ⌝ }
 {
-    if s.len() < end {
-        if s.len() < start {
-            return &s[0..0];
-        }
-        return &s[start..];
-    }
     if end < start {
-        return &s[0..0];
+        return part(s, start, 0);
     }
-    &s[start..end]
+    part(s, start, end - start)
 }
 
 // The data field of a card's answer.

@@ -4,9 +4,9 @@ use crate::CHECK_AT;
 use crate::PAYLOAD;
 use crate::PAYLOAD_AT;
 use crate::no_kind;
+use lists::part;
 ghost use mathlib.Core.Path.{_≡_};
 ghost use Prim.Native.Nat.{_≤_, _<_, _+_, _-_};
-ghost use lib.ListN.{take, drop};
 ghost use Rattle.lists.specs.Choice.{firstOf};
 ghost use Rattle.crc.specs.Check.{covered};
 ghost use Rattle.tape.specs.Entries.{blockSize};
@@ -125,17 +125,4 @@ fn long_at(s: &[u8], at: usize) -> u32
     ensures { λ r. ⌜ r ≡ field at 4 (now (s .entry)) ⌝ }
 {
     (short_at(s, at) * 65536 + short_at(s, at + 2)) as u32
-}
-
-// So many bytes from a place on, as a part of the slice itself; as many as are there.
-fn part(s: &[u8], at: usize, n: usize) -> &[u8]
-    ensures { λ r. ⌜ now r ≡ take n (drop at (now (s .entry))) ⌝ }
-{
-    if s.len() < at {
-        return &s[..0];
-    }
-    if s.len() - at < n {
-        return &s[at..];
-    }
-    &s[at..at + n]
 }

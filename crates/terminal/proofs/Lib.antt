@@ -1,5 +1,4 @@
 pub mod Tests
-mod Parts
 pub mod Reading
 mod Digits
 mod Examples

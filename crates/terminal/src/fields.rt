@@ -7,6 +7,7 @@ ghost use Rattle.terminal.specs.Layout.{beginOf, sizeOf, octetAt};
 ghost use Rattle.terminal.specs.Reading.{readingOf, bytesOf, octetOf, amountOf, otherAmountOf, floorLimitOf, thresholdOf, digitsIn, aidLengthIn, aidRoomIn};
 ghost use Rattle.terminal.specs.Decimal.{decimal as decimalOf, sixBytesLimit};
 use super::decimal::decimal;
+use lists::part;
 
 // The fields that are runs of bytes.
 pub enum Field {
@@ -82,19 +83,6 @@ fn octet_at(o: Octet) -> usize
         Octet::Target => 32,
         Octet::Maximum => 39,
     }
-}
-
-// At most n bytes from a place on: those that are there.
-fn part(s: &[u8], from: usize, n: usize) -> &[u8]
-    ensures { λ r. ⌜ now r ≡ take n (drop from (now (s .entry))) ⌝ }
-{
-    if s.len() < from {
-        return &s[..0];
-    }
-    if s.len() - from < n {
-        return &s[from..];
-    }
-    &s[from..from + n]
 }
 
 pub fn bytes(s: &[u8], f: Field) -> &[u8]

@@ -8,7 +8,8 @@ use lib.ListN.{length, take, drop, length-take, length-drop}
 use Rattle.objects.specs.Head.{tagSize}
 use Rattle.objects.specs.Objects.{isSome}
 use Rattle.lists.specs.Writing.{put}
-use Rattle.lists.proofs.Writing.{rest-part, put-length, put-nothing}
+use Rattle.lists.proofs.Cutting.{rest-part}
+use Rattle.lists.proofs.Writing.{put-length, put-nothing}
 use Rattle.terminal.specs.Reading.{readingOf}
 use Rattle.object_lists.specs.Wanted.{sizeAt, entriesOf, totalBy, totalOf}
 use Rattle.object_lists.specs.Filled.{firstBytes, filled, filledBy, filledList}

@@ -6,7 +6,7 @@ use mathlib.Core.List.{List, []}
 use Prim.Native.Nat.{ℕ, _+_, _-_, _≤_, _<_}
 use lib.ListN.{length, take, drop, getD, length-take, length-drop}
 use Rattle.objects.specs.Head.{tagSize}
-use Rattle.lists.proofs.Writing.{rest-part}
+use Rattle.lists.proofs.Cutting.{rest-part}
 use Rattle.object_lists.specs.Wanted.{sizeAt, asks, entriesOf, tally}
 use Rattle.object_lists.proofs.Entries.{countedOn, tally-counted, turn-counted, turn-malformed, counted-over, counted-end, entries-empty, asked-fits, nothing-left}
 use native.Mathlib.Omega.{arith}

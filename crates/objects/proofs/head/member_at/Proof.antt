@@ -8,7 +8,7 @@ use native.Mathlib.Nat.{le-of-lt}
 use lib.ListN.{length, take, drop, drop-of-length-le}
 use borrow.Author.Needs.{needs}
 use Rattle.lists.specs.Choice.{pick}
-use Rattle.lists.proofs.Writing.{rest-part}
+use Rattle.lists.proofs.Cutting.{rest-part}
 use Rattle.lists.proofs.Choice.{pick-yes, pick-no}
 use Rattle.objects.specs.Head.{tagOf, tagRight, tagSize, twoBytes, lengthByte, lengthForm, lengthSize, lengthOf, valueStart, valueEnd, whole}
 use Rattle.objects.specs.Place.{memberAt}

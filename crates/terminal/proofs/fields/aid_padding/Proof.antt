@@ -7,7 +7,7 @@ use native.Mathlib.Omega.{arith}
 use borrow.Author.Needs.{needs}
 use lib.ListN.{take, drop, length-take}
 use Rattle.terminal.specs.Reading.{aidLengthIn, aidRoomIn}
-use Rattle.terminal.proofs.Parts.{to-end}
+use Rattle.lists.proofs.Cutting.{to-end}
 use Rattle.terminal.proofs.fields.aid_padding.Statement.{statement}
 use Rattle.terminal.proofs.fields.aid_padding.Tie as tie
 

@@ -1,13 +1,13 @@
--- `terminal::fields::part` meets its contract: it hands over the part that is asked for, cut at the slice's end.
+-- `lists::part` meets its contract: it hands over the part that is asked for, cut at the slice's end.
 -- Assumes nothing.
 use mathlib.Core.Path.{_≡_, sym, ap, _∙_}
 use Prim.Native.Nat.{ℕ, _+_, _-_}
 use native.Mathlib.Omega.{arith}
 use borrow.Author.Needs.{needs}
 use lib.ListN.{take, drop, length}
-use Rattle.terminal.proofs.Parts.{past-end, to-end}
-use Rattle.terminal.proofs.fields.part.Statement.{statement}
-use Rattle.terminal.proofs.fields.part.Tie as tie
+use Rattle.lists.proofs.Cutting.{past-end, to-end}
+use Rattle.lists.proofs.part.Statement.{statement}
+use Rattle.lists.proofs.part.Tie as tie
 
 returns : tie.Need-returns
 returns c = let a = c .before .before .args in sym (past-end (a .n) (a .from) (a .s .now) (omega arith))

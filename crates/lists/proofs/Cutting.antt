@@ -13,3 +13,7 @@ past-end n from s h = ap (take n) (drop-of-length-le s h) ∙ take-nil n
 
 pub to-end : (n from : ℕ) (s : List ℕ) → length s ≤ from + n → take n (drop from s) ≡ drop from s
 to-end n from s h = take-all n (drop from s) (simp length-drop (omega arith))
+
+-- the part from a place to the end is what is left from there
+pub rest-part : (s : List ℕ) (p : ℕ) → take (length s - p) (drop p s) ≡ drop p s
+rest-part s p = to-end (length s - p) p s (omega arith)
