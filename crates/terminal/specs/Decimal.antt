@@ -30,4 +30,4 @@ unfoldable pub digitsOnly : List ℕ → Bool
 digitsOnly s = every (map decimalByte s)
 
 unfoldable pub zerosOnly : List ℕ → Bool
-zerosOnly s = every (map (eqb 0) s)
+zerosOnly s = every (map (λ b. eqb b 0) s)

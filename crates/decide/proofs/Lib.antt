@@ -1,0 +1,7 @@
+mod Signed
+mod Words
+pub mod Rows
+pub mod Laws
+pub mod Interpolation
+mod ExampleResults
+mod ExampleRequests

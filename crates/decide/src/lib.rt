@@ -1,0 +1,6 @@
+// From facts to a decision: the TVR and TSI, the requests, the answers that they allow, and the issuer's reply.
+mod bits;
+pub mod reply;
+pub mod requests;
+pub mod results;
+pub mod selection;

@@ -1,0 +1,65 @@
+// The issuer's reply HOST, and the response code.
+ghost use mathlib.Core.Path.{_≡_};
+ghost use Rattle.terminal.specs.Decimal.{zerosOnly};
+ghost use Rattle.decide.specs.Replies.{codeIn, replyOf, responseCode};
+use super::requests::Cryptogram;
+
+pub enum Reply {
+    Approve,
+    Decline,
+    Unable,
+}
+
+// What three bytes say: a reply, or nothing that is one.
+pub enum Heard {
+    Said(Reply),
+    Nothing,
+}
+
+fn zero_code(s: &[u8]) -> bool
+    ensures { λ r. ⌜ r ≡ zerosOnly (codeIn (now (s .entry))) ⌝ }
+{
+    lists::byte(s, 1) == 0 && lists::byte(s, 2) == 0
+}
+
+pub fn reply_of(s: &[u8]) -> Heard
+    ensures { λ r. ⌜ r ≡ replyOf (now (s .entry)) ⌝ }
+{
+    if s.len() != 3 {
+        return Heard::Nothing;
+    }
+    match lists::byte(s, 0) {
+        1 => Heard::Said(Reply::Approve),
+        2 => Heard::Said(Reply::Decline),
+        3 => {
+            if zero_code(s) {
+                Heard::Said(Reply::Unable)
+            } else {
+                Heard::Nothing
+            }
+        }
+        _ => Heard::Nothing,
+    }
+}
+
+// The response code that came with a reply.
+pub fn code_in(s: &[u8]) -> [u8; 2]
+    ensures { λ r. ⌜ r ≡ codeIn (now (s .entry)) ⌝ }
+{
+    [lists::byte(s, 1) as u8, lists::byte(s, 2) as u8]
+}
+
+// The response code beside the second request.
+pub fn response_code(reply: Reply, asked: Cryptogram, code: [u8; 2]) -> [u8; 2]
+    ensures { λ r. ⌜ r ≡ responseCode reply asked code ⌝ }
+{
+    match reply {
+        Reply::Approve => code,
+        Reply::Decline => code,
+        Reply::Unable => match asked {
+            Cryptogram::Tc => [0x59, 0x33],
+            Cryptogram::Aac => [0x5A, 0x33],
+            Cryptogram::Arqc => [0x5A, 0x33],
+        },
+    }
+}
