@@ -118,7 +118,11 @@ givens = refl
 abbrev answers : (Given → Bool) → List Bool
 answers allowed = map allowed (Of Tc ∷ Of Arqc ∷ Of Aac ∷ Reserved ∷ [])
 
-first-answers : map (λ asked. answers (firstAllowed asked)) (Tc ∷ Arqc ∷ Aac ∷ []) ≡ (true ∷ true ∷ true ∷ false ∷ []) ∷ (false ∷ true ∷ true ∷ false ∷ []) ∷ (false ∷ false ∷ true ∷ false ∷ []) ∷ []
+first-answers : map (λ asked. answers (firstAllowed asked)) (Tc ∷ Arqc ∷ Aac ∷ [])
+    ≡ (true ∷ true ∷ true ∷ false ∷ [])
+    ∷ (false ∷ true ∷ true ∷ false ∷ [])
+    ∷ (false ∷ false ∷ true ∷ false ∷ [])
+    ∷ []
 first-answers = refl
 
 second-answers : map (λ asked. answers (secondAllowed asked)) (Tc ∷ Aac ∷ []) ≡ (true ∷ false ∷ true ∷ false ∷ []) ∷ (false ∷ false ∷ true ∷ false ∷ []) ∷ []

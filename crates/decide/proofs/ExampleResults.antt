@@ -4,7 +4,8 @@ use mathlib.Core.Path.{_≡_, refl}
 use mathlib.Core.Bool.{Bool, true, false}
 use mathlib.Core.List.{List, [], _∷_, map}
 use mathlib.Core.Option.{Option, some, none}
-use Prim.Native.Nat.{ℕ}
+use Prim.Native.Nat.{ℕ, _+_, _-_, _*_, _/_}
+use lib.Dec.{leb}
 use Rattle.lists.specs.Choice.{pick}
 use Rattle.terminal.specs.Tests.{every}
 use Rattle.terminal.specs.Decimal.{decimal, decimalFrom}
@@ -33,6 +34,10 @@ draws =
 draws-right : map (λ d. chosen (d .0) 10 70 (d .1) 10000 5000) draws ≡ map (λ d. d .2) draws
 unfolding chosen biased pick
 draws-right = refl
+
+-- a percentage rounded to a whole number first would select case K: 10 + 60 * 2499 / 5000 is 39.988
+rounded-first : leb 40 (10 + ((70 - 10) * (7499 - 5000) + 2500) / 5000) ≡ true
+rounded-first = refl
 
 -- ---- the TVR and the TSI
 

@@ -1,12 +1,12 @@
 -- What holds of the TVR and the TSI whatever the card sends: no bit is ever cleared, neither changes its length, and their
 -- bytes stay bytes. Each follows from their being joined to what stood there.
 -- Assumes nothing.
-use mathlib.Core.Path.{_≡_, refl, sym, ap, _∙_}
+use mathlib.Core.Path.{_≡_, _∙_}
 use mathlib.Core.Bool.{Bool}
 use mathlib.Core.List.{List, [], _∷_}
 use Prim.Native.Nat.{ℕ, zero, suc, _+_, _≤_, _<_}
 use native.Mathlib.Omega.{arith}
-use lib.Bits.{bitOr, or-lt}
+use lib.Bits.{or-lt}
 use lib.ListN.{length, getD}
 use Rattle.lists.proofs.Choice.{picked}
 use Rattle.terminal.specs.Reading.{Terminal}

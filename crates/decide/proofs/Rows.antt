@@ -5,17 +5,16 @@ use mathlib.Core.Path.{_≡_, refl, sym, ap, ap₂, _∙_}
 use mathlib.Core.Bool.{Bool, true, false, _&&_, _||_, or-true, or-false, false≢true}
 use mathlib.Core.List.{List, [], _∷_}
 use Prim.Native.Nat.{ℕ, zero, suc, _+_, _<_, _≤_}
-use native.Mathlib.Nat.{not-suc-le-zero, add-zero, add-suc, suc-add}
 use native.Mathlib.Numerals.{add-one}
 use native.Mathlib.Omega.{arith}
-use lib.Bits.{bitAnd, bitOr, or-self, or-zero-r}
+use lib.Bits.{bitAnd, bitOr, or-self}
 use lib.Dec.{eqb}
 use lib.ListN.{length, drop, getD, drop-of-length-le}
-use lib.Seq.{drop-cons, drop-length}
+use lib.Seq.{drop-cons}
 use borrow.Author.Tests.{eq-eqb, ne-eqb, eqb-true, eqb-false}
 use Rattle.lists.specs.Choice.{pick}
 use Rattle.lists.proofs.Choice.{pick-yes, pick-no, picked}
-use Rattle.decide.specs.Bits.{joined, meet, same, flag}
+use Rattle.decide.specs.Bits.{joined, meet, same}
 use Rattle.decide.proofs.Words.{or-assoc, and-over-or, or-zero}
 
 pub joined-nil : (a : List ℕ) → joined a [] ≡ a
@@ -92,6 +91,12 @@ meet-joined (x ∷ a) (y ∷ b) (z ∷ t) =
     either true true m n = refl
     either true false m n = sym (or-true m)
     either false q m n = refl
+
+pub meet-first : (a b t : List ℕ) → meet a t ≡ true → meet (joined a b) t ≡ true
+meet-first a b t e = meet-joined a b t ∙ ap (λ (m : Bool). m || meet b t) e
+
+pub meet-second : (a b t : List ℕ) → meet a t ≡ false → meet (joined a b) t ≡ meet b t
+meet-second a b t e = meet-joined a b t ∙ ap (λ (m : Bool). m || meet b t) e
 
 module _ (a b : List ℕ) (i : ℕ) (p : i < length a) (q : i < length b) where
   pub meet-on : bitAnd (getD a i 0) (getD b i 0) ≡ 0 → meet (drop i a) (drop i b) ≡ meet (drop (i + 1) a) (drop (i + 1) b)

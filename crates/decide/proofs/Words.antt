@@ -1,10 +1,10 @@
 -- `and` and `or` of numbers, digit by digit: each law holds of the lowest digits and of the halves.
 -- Assumes nothing.
-use mathlib.Core.Path.{_≡_, refl, sym, ap, ap₂, _∙_}
-use Prim.Native.Nat.{ℕ, _+_, _*_, _/_, _%_, _≤_, min, max}
+use mathlib.Core.Path.{_≡_, refl, ap, ap₂, _∙_}
+use Prim.Native.Nat.{ℕ, _/_, _%_, min, max}
 use native.Mathlib.Omega.{arith}
 use lib.Arith.{bin-ind}
-use lib.Bits.{bitAnd, bitOr, and-step, or-step, or-self, and-zero-r, or-add-and, and-le-l, and-le-r}
+use lib.Bits.{bitAnd, bitOr, and-step, or-step, or-add-and, and-le-l, and-le-r}
 
 or-half : (a b : ℕ) → bitOr a b / 2 ≡ bitOr (a / 2) (b / 2)
 or-half a b = omega (arith, or-step a b)

@@ -3,7 +3,7 @@
 use mathlib.Core.Bool.{Bool}
 use Prim.Native.Nat.{ℕ}
 use lib.Dec.{leb, ltb}
-use lib.IntN.{ℤ, pos, _-ℤ_, _*ℤ_}
+use lib.IntN.{pos, _-ℤ_, _*ℤ_}
 use lib.Signed.{leZ}
 use Rattle.lists.specs.Choice.{pick}
 use Rattle.terminal.specs.Reading.{Terminal, amountOf, floorLimitOf, thresholdOf}

@@ -1,8 +1,7 @@
 // Bytes compared as rows of bits.
 ghost use mathlib.Core.Path.{_≡_};
 ghost use Prim.Native.Nat.{_≤_};
-ghost use Rattle.decide.specs.Bits.{joined, meet, flag as flagOf};
-ghost use Rattle.decide.specs.Bits.{same as sameOf};
+ghost use Rattle.decide.specs.Bits.{joined, meet, same as sameOf, flag as flagOf};
 
 pub fn flag(test: bool, bit: u8) -> u8
     ensures { λ r. ⌜ (r ≡ flagOf test bit) × (r ≤ bit) ⌝ }

@@ -8,7 +8,6 @@ use borrow.Author.Tests.{eq-eqb, ne-eqb}
 use lib.ListN.{length, getD}
 use Rattle.lists.specs.Choice.{pick}
 use Rattle.lists.proofs.Choice.{pick-yes, pick-no}
-use Rattle.decide.specs.declared.reply.Heard.{Heard}
 use Rattle.decide.specs.Replies.{codeIn, saidBy, replyOf}
 use Rattle.decide.proofs.reply.reply_of.Statement.{statement}
 use Rattle.decide.proofs.reply.reply_of.Tie as tie

@@ -29,4 +29,17 @@ unfolding responseCode
 returns-5 c = let e = c .before .before in sym (ap₂ (λ (r : Reply) (a : Cryptogram). responseCode r a (e .before .before .args .code)) (e .enum-told3 .given .1) (c .enum-told6 .given .1))
 
 pub response-code-spec : {M : Type 1} → statement M
-response-code-spec = tie.close (tie.spec (λ c. search needs) (λ c. search needs) (λ c. search needs) (λ c. search needs) (λ c. search needs) (λ c. search needs) returns returns-2 returns-3 returns-4 returns-5)
+response-code-spec =
+    tie.close
+    (tie.spec
+    (λ c. search needs)
+    (λ c. search needs)
+    (λ c. search needs)
+    (λ c. search needs)
+    (λ c. search needs)
+    (λ c. search needs)
+    returns
+    returns-2
+    returns-3
+    returns-4
+    returns-5)

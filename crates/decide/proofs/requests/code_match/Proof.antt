@@ -1,15 +1,12 @@
 -- `decide::requests::code_match` meets its contract: a bit is shared with the joined codes where it is shared with one of them.
 -- Assumes nothing.
 use mathlib.Core.Path.{sym, ap, _∙_}
-use mathlib.Core.Bool.{Bool, _||_}
 use mathlib.Core.List.{List}
 use Prim.Native.Nat.{ℕ}
 use borrow.Author.Needs.{needs}
-use Rattle.terminal.specs.Reading.{readingOf, bytesOf}
 use Rattle.decide.specs.Bits.{meet}
-use Rattle.decide.specs.Card.{given}
-use Rattle.decide.specs.Requests.{issuerCode, codeMatch}
-use Rattle.decide.proofs.Rows.{meet-joined}
+use Rattle.decide.specs.Requests.{codeMatch}
+use Rattle.decide.proofs.Rows.{meet-first, meet-second}
 use Rattle.decide.proofs.requests.code_match.Statement.{statement}
 use Rattle.decide.proofs.requests.code_match.Tie as tie
 
@@ -17,21 +14,30 @@ returns : tie.Need-returns
 unfolding codeMatch
 returns c =
     let b = c .before .before .before .before in
-    let a = b .before .before .args in
-    let issuer = c .before .in-both .ensures ∙ ap (λ (l : List ℕ). meet l (a .t5)) (b .issuer-code .ensures) in
-    let found = ap (λ (t : Bool). t || meet (bytesOf (a .which) (readingOf (a .start .now))) (a .t5)) (sym issuer ∙ c .if1 .taken) in
-    c .if1 .taken ∙ sym (meet-joined (issuerCode (a .absent) (given (a .issuer .present) (a .issuer .bytes))) (bytesOf (a .which) (readingOf (a .start .now))) (a .t5) ∙ found)
+    let tvr = b .before .before .args .t5 in
+    let issuer = c .before .in-both .ensures ∙ ap (λ (l : List ℕ). meet l tvr) (b .issuer-code .ensures) in
+    c .if1 .taken ∙ sym (meet-first _ _ tvr (sym issuer ∙ c .if1 .taken))
 
 returns-2 : tie.Need-returns-2
 unfolding codeMatch
 returns-2 c =
     let e = c .before .before .before in
     let b = e .before .before .before .before in
-    let a = b .before .before .args in
-    let issuer = e .before .in-both .ensures ∙ ap (λ (l : List ℕ). meet l (a .t5)) (b .issuer-code .ensures) in
-    let terminal = c .in-both2 .ensures ∙ ap (λ (l : List ℕ). meet l (a .t5)) (c .before .before .bytes .ensures) in
-    let missed = ap (λ (t : Bool). t || meet (bytesOf (a .which) (readingOf (a .start .now))) (a .t5)) (sym issuer ∙ e .if1 .left) in
-    terminal ∙ sym (meet-joined (issuerCode (a .absent) (given (a .issuer .present) (a .issuer .bytes))) (bytesOf (a .which) (readingOf (a .start .now))) (a .t5) ∙ missed)
+    let tvr = b .before .before .args .t5 in
+    let issuer = e .before .in-both .ensures ∙ ap (λ (l : List ℕ). meet l tvr) (b .issuer-code .ensures) in
+    let terminal = c .in-both2 .ensures ∙ ap (λ (l : List ℕ). meet l tvr) (c .before .before .bytes .ensures) in
+    terminal ∙ sym (meet-second _ _ tvr (sym issuer ∙ e .if1 .left))
 
 pub code-match-spec : {M : Type 1} → statement M
-code-match-spec = tie.close (tie.spec (λ c κs. search needs) (λ c. search needs) (λ c. search needs) (λ c κs. search needs) (λ c κs. search needs) (λ c. search needs) (λ c κs. search needs) returns returns-2)
+code-match-spec =
+    tie.close
+    (tie.spec
+    (λ c κs. search needs)
+    (λ c. search needs)
+    (λ c. search needs)
+    (λ c κs. search needs)
+    (λ c κs. search needs)
+    (λ c. search needs)
+    (λ c κs. search needs)
+    returns
+    returns-2)

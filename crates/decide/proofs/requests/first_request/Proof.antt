@@ -1,6 +1,6 @@
 -- `decide::requests::first_request` meets its contract: a denial comes first, and then the type decides on the two matches.
 -- Assumes nothing.
-use mathlib.Core.Path.{sym, ap, _∙_}
+use mathlib.Core.Path.{sym, _∙_}
 use borrow.Author.Needs.{needs}
 use Rattle.lists.proofs.Choice.{pick-yes, pick-no}
 use Rattle.decide.specs.Requests.{byType, firstRequest}
@@ -22,4 +22,13 @@ returns-2 c =
     ∙ ((λ i. byType (kind i) (default i) (online i)) ∙ sym (pick-no _ _ _ (sym (e .before .denial-match .ensures) ∙ e .if1 .left)))
 
 pub first-request-spec : {M : Type 1} → statement M
-first-request-spec = tie.close (tie.spec (λ c κs. search needs) returns (λ c κs. search needs) (λ c κs. search needs) (λ c κs. search needs) (λ c κs. search needs) returns-2)
+first-request-spec =
+    tie.close
+    (tie.spec
+    (λ c κs. search needs)
+    returns
+    (λ c κs. search needs)
+    (λ c κs. search needs)
+    (λ c κs. search needs)
+    (λ c κs. search needs)
+    returns-2)

@@ -34,4 +34,15 @@ returns-3 c =
     c .when-unable .ensures ∙ ((λ i. whenUnable (kind i) (default i)) ∙ at (a .start .now) (a .issuer) (a .tvr) (e .enum-told3 .given .1))
 
 pub second-request-spec : {M : Type 1} → statement M
-second-request-spec = tie.close (tie.spec (λ c. search needs) (λ c. search needs) (λ c. search needs) (λ c κs. search needs) (λ c κs. search needs) (λ c κs. search needs) returns returns-2 returns-3)
+second-request-spec =
+    tie.close
+    (tie.spec
+    (λ c. search needs)
+    (λ c. search needs)
+    (λ c. search needs)
+    (λ c κs. search needs)
+    (λ c κs. search needs)
+    (λ c κs. search needs)
+    returns
+    returns-2
+    returns-3)

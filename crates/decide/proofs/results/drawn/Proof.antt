@@ -1,6 +1,6 @@
 -- `decide::results::drawn` meets its contract: it asks the definition's tests in their order.
 -- Assumes nothing.
-use mathlib.Core.Path.{refl, sym, ap, ap₂, _∙_}
+use mathlib.Core.Path.{sym, ap, ap₂, _∙_}
 use Prim.Native.Nat.{ℕ}
 use borrow.Author.Needs.{needs}
 use borrow.Author.Tests.{eq-eqb, ne-eqb, lt-ltb, le-ltb}
@@ -33,4 +33,13 @@ returns-3 c =
     sym (held kind _ (eq-eqb _ 2 (e .if1 .left)) ∙ failed below _ (le-ltb _ _ (c .if2 .left)))
 
 pub drawn-spec : {M : Type 1} → statement M
-drawn-spec = tie.close (tie.spec (λ c κs. search needs) returns (λ c κs. search needs) (λ c κs. search needs) (λ c κs. search needs) returns-2 returns-3)
+drawn-spec =
+    tie.close
+    (tie.spec
+    (λ c κs. search needs)
+    returns
+    (λ c κs. search needs)
+    (λ c κs. search needs)
+    (λ c κs. search needs)
+    returns-2
+    returns-3)

@@ -23,4 +23,12 @@ unfolding notYetEffective
 returns-2 c = sym (ap (notYetEffective (readingOf (c .before .before .args .start .now))) (pick-no _ _ _ (c .if1 .left)))
 
 pub not-yet-effective-spec : {M : Type 1} → statement M
-not-yet-effective-spec = tie.close (tie.spec (λ c κs. search needs) (λ c κs. search needs) (λ c. search needs) (λ c κs. search needs) returns returns-2)
+not-yet-effective-spec =
+    tie.close
+    (tie.spec
+    (λ c κs. search needs)
+    (λ c κs. search needs)
+    (λ c. search needs)
+    (λ c κs. search needs)
+    returns
+    returns-2)

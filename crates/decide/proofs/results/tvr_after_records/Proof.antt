@@ -1,7 +1,7 @@
 -- `decide::results::tvr_after_records` meets its contract: it joins the bytes that the definition joins.
 -- Assumes nothing.
 use mathlib.Core.Path.{ap₂, _∙_}
-use mathlib.Core.List.{List, [], _∷_}
+use mathlib.Core.List.{[], _∷_}
 use Prim.Native.Nat.{ℕ}
 use borrow.Author.Needs.{needs}
 use Rattle.decide.specs.Bits.{joined}
