@@ -1,0 +1,46 @@
+-- `answers::named::named` meets its contract: the part of the bytes where the search found the value, or none of them.
+-- Assumes nothing.
+use mathlib.Core.Path.{sym, ap, _∙_}
+use borrow.Author.Needs.{needs}
+use Rattle.objects.specs.Lookup.{foundValue}
+use Rattle.answers.specs.Named.{told, valueOf}
+use Rattle.answers.proofs.Members.{found-as}
+use Rattle.answers.proofs.named.named.Statement.{statement}
+use Rattle.answers.proofs.named.named.Tie as tie
+
+returns : tie.Need-returns
+unfolding valueOf told foundValue
+returns c =
+    let b = c .before .before .before in
+    sym (ap valueOf (found-as _ _ (b .before .before .pre) (b .find .ensures) (c .before .enum-told .given .1)))
+
+returns-2 : tie.Need-returns-2
+unfolding valueOf told foundValue
+returns-2 c =
+    let b = c .before .before .before .before in
+    c .value .ensures ∙ sym (ap valueOf (found-as _ _ (b .before .before .pre) (b .find .ensures) (c .before .before .start .given .1)))
+
+returns-3 : tie.Need-returns-3
+unfolding valueOf told foundValue
+returns-3 c =
+    let b = c .before .before .before in
+    sym (ap valueOf (found-as _ _ (b .before .before .pre) (b .find .ensures) (c .before .enum-told2 .given .1)))
+
+pub named-spec : {M : Type 1} → statement M
+named-spec =
+    tie.close
+    (tie.spec
+    (λ c κs. search needs)
+    (λ c. search needs)
+    (λ c. search needs)
+    (λ c. search needs)
+    (λ c. search needs)
+    (λ c. search needs)
+    (λ c κs. search needs)
+    (λ c. search needs)
+    (λ c. search needs)
+    (λ c. search needs)
+    (λ c. search needs)
+    returns
+    returns-2
+    returns-3)
