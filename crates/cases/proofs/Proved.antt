@@ -1,0 +1,48 @@
+-- Each case holds by computation.
+-- Assumes nothing.
+use mathlib.Core.Path.{_≡_, refl}
+use Rattle.lists.specs.Choice.{pick, firstOf}
+use Rattle.lists.specs.Shorter.{counted, shorter}
+use Rattle.lists.specs.Writing.{zeros}
+use Rattle.objects.specs.Head.{firstByte, constructed, twoBytes, tagSize, tagOf, tagRight, lengthByte, lengthForm, lengthSize, lengthOf, valueStart, valueEnd, whole}
+use Rattle.objects.specs.Objects.{between, firstObject, isSome, before, rightInside, listed, objects}
+use Rattle.objects.specs.Place.{dataField}
+use Rattle.objects.specs.Lookup.{met, lookup}
+use Rattle.terminal.specs.Tests.{every}
+use Rattle.terminal.specs.Tests.{between as within}
+use Rattle.object_lists.specs.Shape.{shaped, numeric, formatOf}
+use Rattle.commands.specs.Commands.{recordCommand}
+use Rattle.answers.specs.Tables.{anyOf, beside}
+use Rattle.answers.specs.Answer.{sizeBad, statusBad, only, outer, tagged, valueUnder, isOne, inside, outerBad, frame}
+use Rattle.answers.specs.Content.{wholeEntries, meets, rules, ruleFor, rightValue}
+use Rattle.answers.specs.Named.{membersIn, direct, times, told, valueOf, wrongValue, anyTimes, anyWrong}
+use Rattle.answers.specs.Forms.{lacks}
+use Rattle.answers.specs.Locator.{firstEntry, entries, sfi, records, entryRight, entriesRight, recordsOf, recordCount, tooMany, run, readEntry, readAll, toRead, fileRight}
+use Rattle.answers.specs.Options.{profileOf, locatorOf, optionsWrong, optionsLines, optionsReason}
+use Rattle.decide.specs.Bits.{joined, meet}
+use Rattle.decide.specs.Selection.{biased, chosen}
+use Rattle.decide.specs.Requests.{issuerCode, codeMatch, byType, firstRequest}
+use Rattle.cases.specs.Table.{plain, noCodes, Cases}
+
+pub table : Cases
+unfolding pick firstOf counted shorter zeros firstByte constructed twoBytes tagSize tagOf tagRight lengthByte lengthForm lengthSize lengthOf valueStart valueEnd whole between firstObject isSome before rightInside listed objects shaped numeric formatOf recordCommand firstEntry entries sfi records entryRight entriesRight recordsOf recordCount tooMany run readEntry readAll toRead joined meet biased chosen issuerCode codeMatch byType firstRequest plain noCodes dataField met lookup every within anyOf beside sizeBad statusBad only outer tagged valueUnder isOne inside outerBad frame wholeEntries meets rules ruleFor rightValue lacks profileOf locatorOf optionsWrong optionsLines optionsReason membersIn direct times told valueOf wrongValue anyTimes anyWrong fileRight
+table =
+    record {
+      a = refl;
+      b = refl;
+      c = refl;
+      d = refl;
+      e = refl;
+      f = refl;
+      g = refl;
+      g-command = refl;
+      h = refl;
+      h-read = refl;
+      i = refl;
+      j-selected = refl;
+      j-not = refl;
+      k = refl;
+      l-offline = refl;
+      l-online = refl;
+      l-both = refl;
+    }

@@ -1,0 +1,1 @@
+// The cases of the bench have no code: see specs/ and proofs/.

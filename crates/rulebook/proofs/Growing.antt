@@ -1,0 +1,150 @@
+-- Along any session no bit of the TVR or of the TSI is cleared: whatever is answered, each is kept as it is or joined with more.
+-- Assumes nothing.
+use mathlib.Core.Path.{_≡_, refl, sym, ap, _∙_, subst}
+use mathlib.Core.List.{List, [], _∷_}
+use Prim.Native.Nat.{ℕ}
+use lib.Dec.{eqb}
+use Rattle.lists.specs.Writing.{zeros}
+use Rattle.lists.proofs.Choice.{picked}
+use Rattle.objects.specs.Objects.{isSome}
+use Rattle.terminal.specs.Reading.{Terminal}
+use Rattle.tape.specs.Entries.{Entry}
+use Rattle.object_lists.specs.Wanted.{fillable}
+use Rattle.answers.specs.Select.{selectReason, pdolOf}
+use Rattle.answers.specs.Options.{optionsReason, profileOf, locatorOf}
+use Rattle.answers.specs.Locator.{toRead}
+use Rattle.answers.specs.Records.{recordReason, afterRecords}
+use Rattle.answers.specs.Cryptogram.{cryptogramReason, cryptogramOf}
+use Rattle.decide.specs.Bits.{joined}
+use Rattle.decide.specs.Requests.{firstRequest, secondRequest}
+use Rattle.decide.specs.Replies.{codeIn, responseCode}
+use Rattle.decide.specs.declared.reply.Reply.{Reply}
+use Rattle.decide.specs.declared.reply.Reply.the-variants.{Unable}
+use Rattle.decide.proofs.Rows.{joined-self, kept-on}
+use Rattle.decide.proofs.Laws.{tvr-kept, tsi-kept, tsi-kept-on}
+use Rattle.rulebook.specs.Situation.{Situation, begun, cardFacts, issuerCodes, listIn}
+use Rattle.rulebook.specs.Phase.{Asked, selecting, optioning, reading, first, second, Phase, opens, asks, hears, decides, situationOf, decided, ended, approved, declined, terminated, tvrOf, tsiOf}
+use Rattle.rulebook.specs.Turn.{goesOn, opened, selected, managed, requested, allRead, readOn, withProfile, optioned, withRecord, recorded, answered, replied, online, byFirst, firstAllows, secondAllows, firstAnswered, secondAnswered, turn, heard}
+use Rattle.rulebook.specs.Session.{ReadsFrom, here, began, asked, went, listened, closed}
+
+-- every bit that is set in a situation is set in a phase
+pub record Reaches (s : Situation) (q : Phase) : Type 0 where
+  pub tvr : joined (s .tvr) (tvrOf q) ≡ tvrOf q
+  pub tsi : joined (s .tsi) (tsiOf q) ≡ tsiOf q
+
+-- and from a phase to another
+pub record Grows (p q : Phase) : Type 0 where
+  pub tvr : joined (tvrOf p) (tvrOf q) ≡ tvrOf q
+  pub tsi : joined (tsiOf p) (tsiOf q) ≡ tsiOf q
+
+asks-kept : (w : Asked) → Reaches (situationOf w) (asks w)
+unfolding tvrOf tsiOf
+asks-kept w = record { tvr = joined-self (situationOf w .tvr); tsi = joined-self (situationOf w .tsi) }
+
+module _ (s : Situation) where
+  end-kept : (outcome reason : ℕ) → Reaches s (decides outcome reason s)
+  unfolding tvrOf tsiOf
+  end-kept outcome reason = record { tvr = joined-self (s .tvr); tsi = joined-self (s .tsi) }
+
+  hears-kept : Reaches s (hears s)
+  unfolding tvrOf tsiOf
+  hears-kept = record { tvr = joined-self (s .tvr); tsi = joined-self (s .tsi) }
+
+  goes-kept : (reason : ℕ) (next : Phase) → Reaches s next → Reaches s (goesOn reason s next)
+  unfolding goesOn ended
+  goes-kept reason next h = picked (Reaches s) (eqb reason 0) next _ (λ e. h) (λ e. end-kept terminated reason)
+
+  requested-kept : (reason : ℕ) → Reaches s (requested reason s)
+  unfolding requested situationOf
+  requested-kept reason = goes-kept reason _ (asks-kept (first s (firstRequest (s .terminal) (issuerCodes s) (s .tvr))))
+
+  replied-kept : (reply : Reply) (code : List ℕ) → Reaches s (replied s reply code)
+  unfolding replied ended situationOf
+  replied-kept reply code =
+      let request = secondRequest reply (s .terminal) (issuerCodes s) (s .tvr) in
+      picked (Reaches s) (fillable (listIn s 0x8D)) _ _ (λ e. asks-kept (second s request (responseCode reply request code))) (λ e. end-kept terminated 9)
+
+  online-kept : Reaches s (online s)
+  unfolding online
+  online-kept = picked (Reaches s) (eqb (s .terminal .kind) 0) _ _ (λ e. replied-kept Unable []) (λ e. hears-kept)
+
+  by-first-kept : (type : ℕ) → Reaches s (byFirst type s)
+  unfolding byFirst decided
+  by-first-kept type =
+      picked (Reaches s) (eqb type 1) _ _ (λ e. end-kept approved 0) (λ e.
+      picked (Reaches s) (eqb type 0) _ _ (λ f. end-kept declined 0) (λ f. online-kept))
+
+-- through a situation that keeps what another has
+through : (s t : Situation) (q : Phase) → joined (s .tvr) (t .tvr) ≡ t .tvr → joined (s .tsi) (t .tsi) ≡ t .tsi → Reaches t q → Reaches s q
+through s t q a b h = record { tvr = kept-on (s .tvr) (t .tvr) (tvrOf q) a (h .tvr); tsi = kept-on (s .tsi) (t .tsi) (tsiOf q) b (h .tsi) }
+
+all-read-kept : (s : Situation) → Reaches s (allRead s)
+unfolding allRead ended managed
+all-read-kept s =
+    picked (Reaches s) (eqb (afterRecords (s .facts)) 8) _ _ (λ e. end-kept s terminated 8)
+    (λ e.
+    through s (managed s) _ (tvr-kept (s .terminal) (cardFacts s) (s .tvr)) (tsi-kept (s .tsi) (cardFacts s))
+    (requested-kept (managed s) (afterRecords (s .facts))))
+
+read-kept : (s : Situation) (rest : List (ℕ × ℕ)) → Reaches s (readOn s rest)
+unfolding readOn situationOf
+read-kept s [] = all-read-kept s
+read-kept s (r ∷ rest) = asks-kept (reading s (r .0) (r .1) rest)
+
+-- a situation with the same TVR and TSI
+same-kept : (s t : Situation) (q : Phase) → s .tvr ≡ t .tvr → s .tsi ≡ t .tsi → Reaches t q → Reaches s q
+same-kept s t q a b h = through s t q (ap (λ (x : List ℕ). joined x (t .tvr)) a ∙ joined-self (t .tvr)) (ap (λ (x : List ℕ). joined x (t .tsi)) b ∙ joined-self (t .tsi)) h
+
+-- whatever the card answers
+pub turn-kept : (w : Asked) (a : List ℕ) → Reaches (situationOf w) (turn w a)
+unfolding turn situationOf selected optioned recorded withProfile withRecord firstAnswered secondAnswered answered decided
+turn-kept (selecting s) a = goes-kept s (selectReason (s .terminal) a) _ (asks-kept (optioning s (pdolOf a)))
+turn-kept (optioning s list) a =
+    goes-kept s (optionsReason a) _
+    (same-kept s (withProfile s (profileOf a)) _ refl refl (read-kept (withProfile s (profileOf a)) (toRead (locatorOf a))))
+turn-kept (reading s number file rest) a =
+    goes-kept s (recordReason (λ tag. isSome (s .facts tag)) a) _ (same-kept s (withRecord s a) _ refl refl (read-kept (withRecord s a) rest))
+turn-kept (first s request) a =
+    goes-kept s (cryptogramReason (firstAllows request) a) _
+    (through s (answered s) _ (joined-self (s .tvr)) (tsi-kept-on (s .tsi)) (by-first-kept (answered s) (cryptogramOf a)))
+turn-kept (second s request code) a = goes-kept s (cryptogramReason (secondAllows request) a) _ (end-kept s _ 0)
+
+-- no step clears a bit: START, an answer, the issuer's reply
+pub turn-grows : (w : Asked) (a : List ℕ) → Grows (asks w) (turn w a)
+unfolding tvrOf tsiOf
+turn-grows w a = record { tvr = turn-kept w a .tvr; tsi = turn-kept w a .tsi }
+
+pub heard-grows : (s : Situation) (reply : Reply) (payload : List ℕ) → Grows (hears s) (heard s reply payload)
+unfolding tvrOf tsiOf heard
+heard-grows s reply payload = record { tvr = replied-kept s reply (codeIn payload) .tvr; tsi = replied-kept s reply (codeIn payload) .tsi }
+
+pub opened-grows : (t : Terminal) → Grows opens (opened t)
+unfolding tvrOf tsiOf opened begun situationOf
+opened-grows t = record { tvr = joined-self (zeros 5); tsi = joined-self (zeros 2) }
+
+-- phases in a row, no bit cleared from one to the next
+pub data Growing : List Phase → Type 0 where
+  alone : {p : Phase} → Growing (p ∷ [])
+  onward : {p q : Phase} {ps : List Phase} → Grows p q → Growing (q ∷ ps) → Growing (p ∷ q ∷ ps)
+
+-- a reading passes first the phase that it starts from
+starts : {p : Phase} {es : List Entry} {ps : List Phase} → ReadsFrom p es ps → (qs : List Phase) × (ps ≡ p ∷ qs)
+starts here = ([], refl)
+starts (began {ps} f ok r) = (ps, refl)
+starts (asked f) = ([], refl)
+starts (went {ps} f ok r) = (ps, refl)
+starts (listened {ps} f ok r) = (ps, refl)
+starts (closed f) = ([], refl)
+
+more : (p q : Phase) (ps : List Phase) → Grows p q → (qs : List Phase) × (ps ≡ q ∷ qs) → Growing ps → Growing (p ∷ ps)
+more p q ps g s h =
+    subst (λ (l : List Phase). Growing (p ∷ l)) (sym (s .1)) (onward g (subst Growing (s .1) h))
+
+-- along any beginning no bit of the TVR or the TSI is cleared
+pub reading-grows : {p : Phase} {es : List Entry} {ps : List Phase} → ReadsFrom p es ps → Growing ps
+reading-grows here = alone
+reading-grows (began {t} {ps} f ok r) = more opens (opened t) ps (opened-grows t) (starts r) (reading-grows r)
+reading-grows (asked f) = alone
+reading-grows (went {w} {a} {ps} f ok r) = more (asks w) (turn w a) ps (turn-grows w a) (starts r) (reading-grows r)
+reading-grows (listened {s} {p} {r = reply} {ps} f ok r) = more (hears s) (heard s reply p) ps (heard-grows s reply p) (starts r) (reading-grows r)
+reading-grows (closed f) = alone

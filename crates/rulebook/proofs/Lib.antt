@@ -1,0 +1,11 @@
+pub mod Single
+pub mod Growing
+pub mod Finishing
+pub mod Running
+pub mod Reading
+pub mod Sorting
+pub mod Trichotomy
+pub mod Ends
+pub mod Theorem
+pub mod Opening
+pub mod Sessions

@@ -1,0 +1,254 @@
+-- The rulebook as a machine that reads one entry at a time: at each state at most one entry kind is due, and its payload settles
+-- the next state. A list of entries is a session exactly where the machine ends on it.
+-- Assumes nothing.
+use mathlib.Core.Path.{_≡_, refl, sym, ap, _∙_, subst}
+use mathlib.Core.Bool.{Bool, true, false, _&&_}
+use mathlib.Core.List.{List, [], _∷_, _++_}
+use mathlib.Core.Option.{Option, none, some}
+use Prim.Native.Nat.{ℕ}
+use native.Mathlib.Omega.{arith}
+use lib.Dec.{eqb}
+use borrow.Author.Tests.{eqb-true, eq-eqb}
+use Rattle.lists.specs.Choice.{pick}
+use Rattle.lists.proofs.Choice.{pick-yes, pick-no, either, and-left, and-right, and-both}
+use Rattle.terminal.specs.Reading.{Terminal}
+use Rattle.terminal.specs.Start.{terminalOf}
+use Rattle.tape.specs.Entries.{Entry, entry, start, command, answer, host, decision}
+use Rattle.decide.specs.Replies.{replyOf}
+use Rattle.decide.specs.declared.reply.Reply.{Reply}
+use Rattle.decide.specs.declared.reply.Heard.{Heard}
+use Rattle.decide.specs.declared.reply.Heard.the-variants.{Said, Nothing}
+use Rattle.rulebook.specs.Situation.{Situation}
+use Rattle.rulebook.specs.Phase.{Asked, Phase, opens, asks, hears, decides, commandOf, decisionOf}
+use Rattle.rulebook.specs.Turn.{opened, turn, heard}
+use Rattle.rulebook.specs.Session.{isPayload, Plays, started, exchanged, told, decided, Session}
+
+-- a phase, or a command that was sent and awaits its answer, or the end
+pub data State : Type 0 where
+  at : Phase → State
+  owes : Asked → State
+  done : State
+
+-- two lists of bytes that are equal
+unfoldable pub alike : List ℕ → List ℕ → Bool
+alike [] [] = true
+alike [] (b ∷ bs) = false
+alike (a ∷ as′) [] = false
+alike (a ∷ as′) (b ∷ bs) = eqb a b && alike as′ bs
+
+pub alike-same : (a b : List ℕ) → alike a b ≡ true → a ≡ b
+unfolding alike
+alike-same [] [] e = refl
+alike-same [] (b ∷ bs) e = absurd (let z : _≡_ {A = ℕ} 0 1 = cc in omega arith)
+alike-same (a ∷ as′) [] e = absurd (let z : _≡_ {A = ℕ} 0 1 = cc in omega arith)
+alike-same (a ∷ as′) (b ∷ bs) e =
+    let first : a ≡ b = eqb-true a b (and-left (eqb a b) (alike as′ bs) e) in
+    let rest = alike-same as′ bs (and-right (eqb a b) (alike as′ bs) e) in
+    cc
+
+pub same-alike : (a : List ℕ) → alike a a ≡ true
+unfolding alike
+same-alike [] = refl
+same-alike (a ∷ as′) = and-both (eqb a a) (alike as′ as′) (eq-eqb a a refl) (same-alike as′)
+
+-- an entry of a kind, where its payload passes a test
+unfoldable pub due : ℕ → Bool → Entry → Bool
+due kind test e = eqb (e .kind) kind && test
+
+unfoldable pub ofTerminal : Option Terminal → Option State
+ofTerminal none = none
+ofTerminal (some t) = some (at (opened t))
+
+unfoldable pub ofReply : Situation → List ℕ → Heard → Option State
+ofReply s p (Said r) = some (at (heard s r p))
+ofReply s p Nothing = none
+
+-- the state after an entry; none where the entry cannot be
+unfoldable pub next : State → Entry → Option State
+next (at opens) e = pick (due start (isPayload (e .payload)) e) (ofTerminal (terminalOf (e .payload))) none
+next (at (asks w)) e = pick (due command (alike (e .payload) (commandOf w)) e) (some (owes w)) none
+next (at (hears s)) e = pick (due host (isPayload (e .payload)) e) (ofReply s (e .payload) (replyOf (e .payload))) none
+next (at (decides outcome reason s)) e = pick (due decision (alike (e .payload) (decisionOf outcome reason s)) e) (some done) none
+next (owes w) e = pick (due answer (isPayload (e .payload)) e) (some (at (turn w (e .payload)))) none
+next done e = none
+
+-- what is left of a session in a state
+abbrev pub Follows : State → List Entry → Type 0
+Follows (at p) es = Plays p es
+Follows (owes w) es = Plays (asks w) (entry command (commandOf w) ∷ es)
+Follows done es = es ≡ []
+
+-- an entry that is due, and one that is not
+due-yes : (k : ℕ) (test : Bool) (p : List ℕ) → test ≡ true → due k test (entry k p) ≡ true
+unfolding due
+due-yes k test p e = and-both (eqb k k) test (eq-eqb k k refl) e
+
+pub due-entry : (k : ℕ) (test : Bool) (e : Entry) → due k test e ≡ true → e ≡ entry k (e .payload)
+unfolding due
+due-entry k test e h = ap (λ (n : ℕ). entry n (e .payload)) (eqb-true (e .kind) k (and-left (eqb (e .kind) k) test h))
+
+due-test : (k : ℕ) (test : Bool) (e : Entry) → due k test e ≡ true → test ≡ true
+unfolding due
+due-test k test e h = and-right (eqb (e .kind) k) test h
+
+pub no-state : {A : Type 0} (σ : State) → none ≡ some σ → A
+no-state σ e = absurd (let z : _≡_ {A = ℕ} 0 1 = cc in omega arith)
+
+-- what a passed test leaves of a choice
+pub chosen : (test : Bool) (o : Option State) (σ : State) → pick test o none ≡ some σ → (test ≡ true) × (o ≡ some σ)
+chosen test o σ h = either test (λ y. (y, sym (pick-yes _ _ _ y) ∙ h)) (λ n. no-state σ (sym (pick-no _ _ _ n) ∙ h))
+
+terminal-state : (o : Option Terminal) (σ : State) → ofTerminal o ≡ some σ → (t : Terminal) × ((o ≡ some t) × (σ ≡ at (opened t)))
+unfolding ofTerminal
+terminal-state none σ h = no-state σ h
+terminal-state (some t) σ h = (t, (refl, cc))
+
+reply-state : (s : Situation) (p : List ℕ) (h : Heard) (σ : State) → ofReply s p h ≡ some σ → (r : Reply) × ((h ≡ Said r) × (σ ≡ at (heard s r p)))
+unfolding ofReply
+reply-state s p (Said r) σ e = (r, (refl, cc))
+reply-state s p Nothing σ e = no-state σ e
+
+pub follows-from : (σ τ : State) (es : List Entry) → σ ≡ τ → Follows σ es → Follows τ es
+follows-from σ τ es e h = subst (λ (x : State). Follows x es) e h
+
+-- an entry that can be, and what follows it
+pub step-on : (σ τ : State) (e : Entry) (es : List Entry) → next σ e ≡ some τ → Follows τ es → Follows σ (e ∷ es)
+unfolding next
+step-on (at opens) τ e es h rest =
+    let c = chosen (due start (isPayload (e .payload)) e) (ofTerminal (terminalOf (e .payload))) τ h in
+    let t = terminal-state (terminalOf (e .payload)) τ (c .1) in
+    subst (λ (x : Entry). Plays opens (x ∷ es)) (sym (due-entry start _ e (c .0)))
+    (started (t .1 .0) (due-test start _ e (c .0)) (follows-from τ (at (opened (t .0))) es (t .1 .1) rest))
+step-on (at (asks w)) τ e es h rest =
+    let c = chosen (due command (alike (e .payload) (commandOf w)) e) (some (owes w)) τ h in
+    let same : e .payload ≡ commandOf w = alike-same (e .payload) (commandOf w) (due-test command _ e (c .0)) in
+    subst (λ (x : Entry). Plays (asks w) (x ∷ es)) (sym (due-entry command _ e (c .0) ∙ ap (entry command) same))
+    (follows-from τ (owes w) es (cc (c .1)) rest)
+step-on (at (hears s)) τ e es h rest =
+    let c = chosen (due host (isPayload (e .payload)) e) (ofReply s (e .payload) (replyOf (e .payload))) τ h in
+    let r = reply-state s (e .payload) (replyOf (e .payload)) τ (c .1) in
+    subst (λ (x : Entry). Plays (hears s) (x ∷ es)) (sym (due-entry host _ e (c .0)))
+    (told (r .1 .0) (due-test host _ e (c .0)) (follows-from τ (at (heard s (r .0) (e .payload))) es (r .1 .1) rest))
+step-on (at (decides outcome reason s)) τ e es h rest =
+    let c = chosen (due decision (alike (e .payload) (decisionOf outcome reason s)) e) (some done) τ h in
+    let same : e .payload ≡ decisionOf outcome reason s = alike-same (e .payload) (decisionOf outcome reason s) (due-test decision _ e (c .0)) in
+    let ended : es ≡ [] = follows-from τ done es (cc (c .1)) rest in
+    subst (λ (x : Entry). Plays (decides outcome reason s) (x ∷ es)) (sym (due-entry decision _ e (c .0)))
+    (subst (λ (l : List Entry). Plays (decides outcome reason s) (entry decision (e .payload) ∷ l)) (sym ended) (decided same))
+step-on (owes w) τ e es h rest =
+    let c = chosen (due answer (isPayload (e .payload)) e) (some (at (turn w (e .payload)))) τ h in
+    subst (λ (x : Entry). Plays (asks w) (entry command (commandOf w) ∷ x ∷ es)) (sym (due-entry answer _ e (c .0)))
+    (exchanged refl (due-test answer _ e (c .0)) (follows-from τ (at (turn w (e .payload))) es (cc (c .1)) rest))
+step-on done τ e es h rest = no-state τ h
+
+head-same : (e f : Entry) (es fs : List Entry) → e ∷ es ≡ f ∷ fs → e ≡ f
+head-same e f es fs h = cc
+
+tail-same : (e f : Entry) (es fs : List Entry) → e ∷ es ≡ f ∷ fs → es ≡ fs
+tail-same e f es fs h = cc
+
+-- how the machine takes an entry that is due
+takes-start : (b : List ℕ) (t : Terminal) → terminalOf b ≡ some t → isPayload b ≡ true → next (at opens) (entry start b) ≡ some (at (opened t))
+unfolding next ofTerminal
+takes-start b t f ok = pick-yes _ _ _ (due-yes start _ b ok) ∙ ap ofTerminal f
+
+takes-command : (w : Asked) → next (at (asks w)) (entry command (commandOf w)) ≡ some (owes w)
+unfolding next
+takes-command w = pick-yes _ _ _ (due-yes command _ (commandOf w) (same-alike (commandOf w)))
+
+takes-answer : (w : Asked) (a : List ℕ) → isPayload a ≡ true → next (owes w) (entry answer a) ≡ some (at (turn w a))
+unfolding next
+takes-answer w a ok = pick-yes _ _ _ (due-yes answer _ a ok)
+
+takes-reply : (s : Situation) (p : List ℕ) (r : Reply) → replyOf p ≡ Said r → isPayload p ≡ true → next (at (hears s)) (entry host p) ≡ some (at (heard s r p))
+unfolding next ofReply
+takes-reply s p r f ok = pick-yes _ _ _ (due-yes host _ p ok) ∙ ap (ofReply s p) f
+
+takes-decision : (outcome reason : ℕ) (s : Situation) → next (at (decides outcome reason s)) (entry decision (decisionOf outcome reason s)) ≡ some done
+unfolding next
+takes-decision outcome reason s = pick-yes _ _ _ (due-yes decision _ (decisionOf outcome reason s) (same-alike (decisionOf outcome reason s)))
+
+-- what an entry leads to
+abbrev pub Led : State → Entry → List Entry → Type 0
+Led σ e es = (τ : State) × ((next σ e ≡ some τ) × Follows τ es)
+
+led : (σ τ : State) (x e : Entry) (fs es : List Entry) → next σ x ≡ some τ → Follows τ fs → x ∷ fs ≡ e ∷ es → Led σ e es
+led σ τ x e fs es h play same =
+    (τ, (ap (next σ) (sym (head-same x e fs es same)) ∙ h, subst (λ (l : List Entry). Follows τ l) (tail-same x e fs es same) play))
+
+from-phase : {p : Phase} {l : List Entry} → Plays p l → (e : Entry) (es : List Entry) → l ≡ e ∷ es → Led (at p) e es
+from-phase (started {b} {t} {es = fs} f ok play) e es h = led (at opens) (at (opened t)) (entry start b) e fs es (takes-start b t f ok) play h
+from-phase (exchanged {w} {c} {a} {es = fs} f ok play) e es h =
+    led (at (asks w)) (owes w) (entry command c) e (entry answer a ∷ fs) es
+    (ap (λ (x : List ℕ). next (at (asks w)) (entry command x)) f ∙ takes-command w) (exchanged refl ok play) h
+from-phase (told {s} {p} {r} {es = fs} f ok play) e es h = led (at (hears s)) (at (heard s r p)) (entry host p) e fs es (takes-reply s p r f ok) play h
+from-phase (decided {outcome} {reason} {s} {d} f) e es h =
+    led (at (decides outcome reason s)) done (entry decision d) e [] es
+    (ap (λ (x : List ℕ). next (at (decides outcome reason s)) (entry decision x)) f ∙ takes-decision outcome reason s) refl h
+
+from-asked : {w : Asked} {l : List Entry} → Plays (asks w) l → (c e : Entry) (es : List Entry) → l ≡ c ∷ e ∷ es → Led (owes w) e es
+from-asked (exchanged {w} {c = d} {a} {es = fs} f ok play) c e es h =
+    led (owes w) (at (turn w a)) (entry answer a) e fs es (takes-answer w a ok) play (tail-same (entry command d) c (entry answer a ∷ fs) (e ∷ es) h)
+
+-- a session's entry can be, and what follows it follows the next state
+pub step-back : (σ : State) (e : Entry) (es : List Entry) → Follows σ (e ∷ es) → Led σ e es
+step-back (at p) e es play = from-phase play e es refl
+step-back (owes w) e es play = from-asked play (entry command (commandOf w)) e es refl
+step-back done e es h = absurd (let z : _≡_ {A = ℕ} 0 1 = cc in omega arith)
+
+-- the state after several entries
+unfoldable pub andOn : (State → Option State) → Option State → Option State
+andOn f none = none
+andOn f (some σ) = f σ
+
+unfoldable pub run : List Entry → State → Option State
+run [] σ = some σ
+run (e ∷ es) σ = andOn (run es) (next σ e)
+
+-- nothing is left of a session only at its end
+pub no-play : {p : Phase} {l : List Entry} → Plays p l → l ≡ [] → ⊥
+no-play (started f ok play) h = let z : _≡_ {A = ℕ} 0 1 = cc in omega arith
+no-play (exchanged f ok play) h = let z : _≡_ {A = ℕ} 0 1 = cc in omega arith
+no-play (told f ok play) h = let z : _≡_ {A = ℕ} 0 1 = cc in omega arith
+no-play (decided f) h = let z : _≡_ {A = ℕ} 0 1 = cc in omega arith
+
+not-alone : {w : Asked} {l : List Entry} → Plays (asks w) l → (c : Entry) → l ≡ c ∷ [] → ⊥
+not-alone (exchanged {c = d} {a} {es} f ok play) c h =
+    let none-left : entry answer a ∷ es ≡ [] = tail-same (entry command d) c (entry answer a ∷ es) [] h in
+    let z : _≡_ {A = ℕ} 0 1 = cc in omega arith
+
+pub at-end : (σ : State) → Follows σ [] → σ ≡ done
+at-end (at p) play = absurd (no-play play refl)
+at-end (owes w) play = absurd (not-alone play (entry command (commandOf w)) refl)
+at-end done h = refl
+
+-- the machine ends on what follows a state to the end, and on nothing else
+pub follows-ends : (es : List Entry) (σ : State) → Follows σ es → run es σ ≡ some done
+unfolding run andOn
+follows-ends [] σ play = ap some (at-end σ play)
+follows-ends (e ∷ es) σ play =
+    let l = step-back σ e es play in
+    ap (andOn (run es)) (l .1 .0) ∙ follows-ends es (l .0) (l .1 .1)
+
+pub taken : (f : State → Option State) (o : Option State) (τ : State) → andOn f o ≡ some τ → (σ : State) × ((o ≡ some σ) × (f σ ≡ some τ))
+unfolding andOn
+taken f none τ h = no-state τ h
+taken f (some σ) τ h = (σ, (refl, h))
+
+pub ends-follow : (es : List Entry) (σ : State) → run es σ ≡ some done → Follows σ es
+unfolding run
+ends-follow [] σ h =
+    let e : σ ≡ done = cc in
+    follows-from done σ [] (sym e) refl
+ends-follow (e ∷ es) σ h =
+    let t = taken (run es) (next σ e) done h in
+    step-on σ (t .0) e es (t .1 .0) (ends-follow es (t .0) (t .1 .1))
+
+-- a list of entries is a session exactly where the machine ends on it
+pub session-run : (es : List Entry) → Session es → run es (at opens) ≡ some done
+unfolding Session
+session-run es play = follows-ends es (at opens) play
+
+pub run-session : (es : List Entry) → run es (at opens) ≡ some done → Session es
+unfolding Session
+run-session es h = ends-follow es (at opens) h

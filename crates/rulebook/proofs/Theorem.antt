@@ -1,0 +1,36 @@
+-- What holds of the rulebook, in one place: no session is the beginning of a longer one, and a beginning has one reading, of
+-- sessions that there are; each list is exactly one of session, open and neither; every phase can be finished; and no bit of the
+-- TVR or the TSI is cleared along the way.
+-- Assumes nothing.
+use mathlib.Core.Path.{_≡_}
+use mathlib.Core.List.{List, [], _++_}
+use Rattle.tape.specs.Entries.{Entry}
+use Rattle.rulebook.specs.Phase.{Phase, opens}
+use Rattle.rulebook.specs.Session.{Session, Open, Reads}
+use Rattle.rulebook.proofs.Single.{prefix-free, reads-once}
+use Rattle.rulebook.proofs.Finishing.{Finished}
+use Rattle.rulebook.proofs.Growing.{Growing, reading-grows}
+use Rattle.rulebook.proofs.Trichotomy.{Sort, sorted, one-sort}
+use Rattle.rulebook.proofs.Ends.{finishes}
+
+pub record Rulebook : Type 0 where
+  pub inhabited : (es : List Entry) × Session es
+  pub no-longer : (es rest : List Entry) → Session es → Session (es ++ rest) → rest ≡ []
+  pub one-reading : (es : List Entry) (ps qs : List Phase) → Reads es ps → Reads es qs → ps ≡ qs
+  pub finished : (p : Phase) → Finished p
+  pub sort : (es : List Entry) → Sort es
+  pub apart : (es : List Entry) → Session es → Open es → ⊥
+  pub growing : (es : List Entry) (ps : List Phase) → Reads es ps → Growing ps
+
+pub rulebook : Rulebook
+unfolding Session Reads
+rulebook =
+    record {
+      inhabited = finishes opens;
+      no-longer = prefix-free;
+      one-reading = reads-once;
+      finished = finishes;
+      sort = sorted finishes;
+      apart = one-sort;
+      growing = λ es ps r. reading-grows r;
+    }

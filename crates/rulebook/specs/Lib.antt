@@ -1,0 +1,5 @@
+-- The rulebook: which whole sessions there are. It names neither the kernel nor the judge.
+pub mod Situation
+pub mod Phase
+pub mod Turn
+pub mod Session

@@ -1,0 +1,83 @@
+-- Where a session stands: what is due next, and what was asked for. 01, "What the kernel plays and who decides".
+-- Assumes nothing.
+use mathlib.Core.List.{List, [], _∷_, _++_}
+use mathlib.Core.Option.{Option, none, some}
+use Prim.Native.Nat.{ℕ}
+use Rattle.lists.specs.Writing.{zeros}
+use Rattle.object_lists.specs.Filled.{filling}
+use Rattle.commands.specs.Commands.{selectCommand, optionsCommand, recordCommand, cryptogramCommand}
+use Rattle.decide.specs.Requests.{p1Of}
+use Rattle.decide.specs.declared.requests.Cryptogram.{Cryptogram}
+use Rattle.rulebook.specs.Situation.{Situation, knownIn, listIn}
+
+-- what the card was asked
+pub data Asked : Type 0 where
+  -- SELECT
+  selecting : Situation → Asked
+  -- GPO, with the list 9F38
+  optioning : Situation → List ℕ → Asked
+  -- READ RECORD: this record of this file, and those that follow
+  reading : Situation → ℕ → ℕ → List (ℕ × ℕ) → Asked
+  -- the first GENERATE AC
+  first : Situation → Cryptogram → Asked
+  -- the second, beside its response code
+  second : Situation → Cryptogram → List ℕ → Asked
+
+pub data Phase : Type 0 where
+  -- START is due
+  opens : Phase
+  -- a command is due, and then the card's answer
+  asks : Asked → Phase
+  -- the issuer's reply is due
+  hears : Situation → Phase
+  -- the decision is due: its outcome, its reason or 0, and the situation that it was made in
+  decides : ℕ → ℕ → Situation → Phase
+
+-- the situation in which something was asked
+unfoldable pub situationOf : Asked → Situation
+situationOf (selecting s) = s
+situationOf (optioning s list) = s
+situationOf (reading s number file rest) = s
+situationOf (first s request) = s
+situationOf (second s request code) = s
+
+-- the command that asks it (01, "The commands")
+unfoldable pub commandOf : Asked → List ℕ
+commandOf (selecting s) = selectCommand (s .terminal .aid)
+commandOf (optioning s list) = optionsCommand (filling (s .terminal) (knownIn s none) list)
+commandOf (reading s number file rest) = recordCommand number file
+commandOf (first s request) = cryptogramCommand (p1Of request) (filling (s .terminal) (knownIn s none) (listIn s 0x8C))
+commandOf (second s request code) = cryptogramCommand (p1Of request) (filling (s .terminal) (knownIn s (some code)) (listIn s 0x8D))
+
+-- the outcomes (01, "The tape")
+abbrev pub approved : ℕ
+approved = 1
+
+abbrev pub declined : ℕ
+declined = 2
+
+abbrev pub terminated : ℕ
+terminated = 3
+
+-- DECISION's nine bytes: outcome, reason or 0, TVR and TSI as they stand at that moment
+unfoldable pub decisionOf : ℕ → ℕ → Situation → List ℕ
+decisionOf outcome reason s = outcome ∷ reason ∷ (s .tvr ++ s .tsi)
+
+unfoldable pub decided : ℕ → Situation → Phase
+decided outcome s = decides outcome 0 s
+
+unfoldable pub ended : ℕ → Situation → Phase
+ended reason s = decides terminated reason s
+
+-- TVR and TSI as they stand in a phase; both are zeros before START
+unfoldable pub tvrOf : Phase → List ℕ
+tvrOf opens = zeros 5
+tvrOf (asks w) = situationOf w .tvr
+tvrOf (hears s) = s .tvr
+tvrOf (decides outcome reason s) = s .tvr
+
+unfoldable pub tsiOf : Phase → List ℕ
+tsiOf opens = zeros 2
+tsiOf (asks w) = situationOf w .tsi
+tsiOf (hears s) = s .tsi
+tsiOf (decides outcome reason s) = s .tsi

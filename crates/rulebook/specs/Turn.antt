@@ -1,0 +1,129 @@
+-- How a session goes on: after START, after each of the card's answers, and after the issuer's reply. 01, "What the card must
+-- answer" and "From facts to a decision".
+-- Assumes nothing.
+use mathlib.Core.Bool.{Bool}
+use mathlib.Core.List.{List, [], _∷_}
+use mathlib.Core.Option.{Option, none, some}
+use Prim.Native.Nat.{ℕ, _*_}
+use lib.Dec.{eqb}
+use Rattle.lists.specs.Choice.{pick}
+use Rattle.objects.specs.Objects.{isSome}
+use Rattle.terminal.specs.Reading.{Terminal}
+use Rattle.object_lists.specs.Known.{orElse}
+use Rattle.object_lists.specs.Wanted.{fillable}
+use Rattle.answers.specs.Select.{selectReason, pdolOf}
+use Rattle.answers.specs.Options.{optionsReason, profileOf, locatorOf}
+use Rattle.answers.specs.Locator.{toRead}
+use Rattle.answers.specs.Records.{recordReason, valueIn, afterRecords}
+use Rattle.answers.specs.Cryptogram.{cryptogramReason, cryptogramOf}
+use Rattle.decide.specs.Results.{tvrAfterRecords, tsiAfterRecords, tsiAfterFirstAnswer}
+use Rattle.decide.specs.Requests.{firstRequest, secondRequest, givenBy, firstAllowed, secondAllowed}
+use Rattle.decide.specs.Replies.{codeIn, responseCode}
+use Rattle.decide.specs.declared.requests.Cryptogram.{Cryptogram}
+use Rattle.decide.specs.declared.reply.Reply.{Reply}
+use Rattle.decide.specs.declared.reply.Reply.the-variants.{Unable}
+use Rattle.rulebook.specs.Situation.{Situation, Facts, begun, cardFacts, issuerCodes, listIn}
+use Rattle.rulebook.specs.Phase.{Asked, selecting, optioning, reading, first, second, Phase, asks, hears, decided, ended, approved, declined}
+
+-- a bad answer ends the session with its reason; otherwise it goes on
+unfoldable pub goesOn : ℕ → Situation → Phase → Phase
+goesOn reason s next = pick (eqb reason 0) next (ended reason s)
+
+-- after START
+unfoldable pub opened : Terminal → Phase
+opened t = asks (selecting (begun t))
+
+-- after the answer to SELECT
+unfoldable pub selected : Situation → List ℕ → Phase
+selected s a = goesOn (selectReason (s .terminal) a) s (asks (optioning s (pdolOf a)))
+
+-- the bits that the facts set, after the last record and before 8C is filled
+unfoldable pub managed : Situation → Situation
+managed s =
+    record {
+      terminal = s .terminal;
+      profile = s .profile;
+      facts = s .facts;
+      tvr = tvrAfterRecords (s .terminal) (cardFacts s) (s .tvr);
+      tsi = tsiAfterRecords (cardFacts s) (s .tsi);
+    }
+
+-- the first request, or reason 9 where its list cannot be filled
+unfoldable pub requested : ℕ → Situation → Phase
+requested reason s = goesOn reason s (asks (first s (firstRequest (s .terminal) (issuerCodes s) (s .tvr))))
+
+-- after the last record: 8 comes before the bits are set, 9 after
+unfoldable pub allRead : Situation → Phase
+allRead s = pick (eqb (afterRecords (s .facts)) 8) (ended 8 s) (requested (afterRecords (s .facts)) (managed s))
+
+-- the next record, or the end of them
+unfoldable pub readOn : Situation → List (ℕ × ℕ) → Phase
+readOn s [] = allRead s
+readOn s (record′ ∷ rest) = asks (reading s (record′ .0) (record′ .1) rest)
+
+unfoldable pub withProfile : Situation → List ℕ → Situation
+withProfile s profile = record { terminal = s .terminal; profile = profile; facts = s .facts; tvr = s .tvr; tsi = s .tsi }
+
+-- after the answer to GPO
+unfoldable pub optioned : Situation → List ℕ → Phase
+optioned s a = goesOn (optionsReason a) s (readOn (withProfile s (profileOf a)) (toRead (locatorOf a)))
+
+-- what a record tells is added to what was told before
+unfoldable pub withRecord : Situation → List ℕ → Situation
+withRecord s a =
+    record {
+      terminal = s .terminal;
+      profile = s .profile;
+      facts = λ tag. orElse (s .facts tag) (valueIn tag a);
+      tvr = s .tvr;
+      tsi = s .tsi;
+    }
+
+-- after a record
+unfoldable pub recorded : Situation → List (ℕ × ℕ) → List ℕ → Phase
+recorded s rest a = goesOn (recordReason (λ tag. isSome (s .facts tag)) a) s (readOn (withRecord s a) rest)
+
+-- an allowed first answer sets a bit of the TSI
+unfoldable pub answered : Situation → Situation
+answered s = record { terminal = s .terminal; profile = s .profile; facts = s .facts; tvr = s .tvr; tsi = tsiAfterFirstAnswer (s .tsi) }
+
+-- the second request, once the issuer's reply is in; reason 9 where its list cannot be filled
+unfoldable pub replied : Situation → Reply → List ℕ → Phase
+replied s reply code =
+    let request = secondRequest reply (s .terminal) (issuerCodes s) (s .tvr) in
+    pick (fillable (listIn s 0x8D)) (asks (second s request (responseCode reply request code))) (ended 9 s)
+
+-- an ARQC waits for the issuer; a terminal of type 0 goes on as unable
+unfoldable pub online : Situation → Phase
+online s = pick (eqb (s .terminal .kind) 0) (replied s Unable []) (hears s)
+
+-- a TC approves, an AAC declines, an ARQC goes online
+unfoldable pub byFirst : ℕ → Situation → Phase
+byFirst type s = pick (eqb type 1) (decided approved s) (pick (eqb type 0) (decided declined s) (online s))
+
+unfoldable pub firstAllows : Cryptogram → ℕ → Bool
+firstAllows request type = firstAllowed request (givenBy (64 * type))
+
+unfoldable pub secondAllows : Cryptogram → ℕ → Bool
+secondAllows request type = secondAllowed request (givenBy (64 * type))
+
+-- after the first GENERATE AC
+unfoldable pub firstAnswered : Situation → Cryptogram → List ℕ → Phase
+firstAnswered s request a = goesOn (cryptogramReason (firstAllows request) a) s (byFirst (cryptogramOf a) (answered s))
+
+-- after the second
+unfoldable pub secondAnswered : Situation → Cryptogram → List ℕ → Phase
+secondAnswered s request a =
+    goesOn (cryptogramReason (secondAllows request) a) s (decided (pick (eqb (cryptogramOf a) 1) approved declined) s)
+
+-- after any answer of the card
+unfoldable pub turn : Asked → List ℕ → Phase
+turn (selecting s) a = selected s a
+turn (optioning s list) a = optioned s a
+turn (reading s number file rest) a = recorded s rest a
+turn (first s request) a = firstAnswered s request a
+turn (second s request code) a = secondAnswered s request a
+
+-- after the issuer's reply
+unfoldable pub heard : Situation → Reply → List ℕ → Phase
+heard s reply payload = replied s reply (codeIn payload)

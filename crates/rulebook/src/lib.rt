@@ -1,0 +1,1 @@
+// The rulebook has definitions and laws only: see specs/.
