@@ -4,12 +4,12 @@ use mathlib.Core.Path.{_≡_, refl}
 use mathlib.Core.Bool.{Bool, true, false}
 use mathlib.Core.List.{List, [], _∷_, _++_, map}
 use Prim.Native.Nat.{ℕ}
-use lib.ListN.{length, take, set}
+use lib.ListN.{take, set}
 use Rattle.lists.specs.Choice.{pick}
 use Rattle.terminal.specs.Tests.{every, between}
 use Rattle.terminal.specs.Decimal.{decimalFrom, decimal, decimalByte, digitsOnly, zerosOnly}
 use Rattle.terminal.specs.Dates.{dateKey, monthAndDay, validStartDate, validCardDate}
-use Rattle.terminal.specs.Reading.{Terminal, readingOf, amountOf, otherAmountOf, floorLimitOf, thresholdOf}
+use Rattle.terminal.specs.Reading.{readingOf, amountOf, otherAmountOf, floorLimitOf, thresholdOf}
 use Rattle.terminal.specs.Start.{validKind, validDigits, validRandom, validPercentages, validThreshold, validAid, validStart}
 
 -- type 1, amount 123456789012, other amount 7500, country 0826, currency 0978, date 251231, transaction type 09,

@@ -1,21 +1,20 @@
 -- What is known of the terminal data that a valid START hands over: it is the reading of 74 bytes, every field has its
 -- length, and every number is in its range. Each fact is one of the tests that the START passed.
 -- Assumes nothing.
-use mathlib.Core.Path.{_≡_, refl, sym, ap, subst, _∙_}
-use mathlib.Core.Bool.{Bool, true, false}
+use mathlib.Core.Path.{_≡_, subst}
+use mathlib.Core.Bool.{true, false}
 use mathlib.Core.List.{List, [], _∷_}
 use mathlib.Core.Logic.{_⊎_, inl, inr}
-use mathlib.Core.Option.{Option, some, none, Option·some-injective, Option·none-ne-some}
+use mathlib.Core.Option.{some, none, Option·some-injective, Option·none-ne-some}
 use Prim.Native.Nat.{ℕ, _≤_, _<_}
 use native.Mathlib.Omega.{arith}
 use lib.Dec.{leb, ltb, eqb}
 use lib.ListN.{length, getD, length-take, length-drop}
 use borrow.Author.Tests.{leb-true, ltb-true, eqb-true}
-use Rattle.lists.specs.Choice.{pick}
 use Rattle.lists.proofs.Choice.{pick-yes, pick-no, picked}
 use Rattle.terminal.specs.declared.fields.Field.{Field}
 use Rattle.terminal.specs.declared.fields.Field.the-variants.{Amount, OtherAmount, FloorLimit}
-use Rattle.terminal.specs.Tests.{every, between}
+use Rattle.terminal.specs.Tests.{between}
 use Rattle.terminal.specs.Layout.{sizeOf, startLength}
 use Rattle.terminal.specs.Reading.{Terminal, readingOf, bytesOf, amountOf, otherAmountOf, floorLimitOf, thresholdOf, aidLengthIn}
 use Rattle.terminal.specs.Start.{startTests, validKind, validDigits, validRandom, validPercentages, validThreshold, validAid, validStart, terminalOf}

@@ -2,8 +2,7 @@
 ghost use mathlib.Core.Path.{_≡_};
 ghost use Prim.Native.Nat.{_<_, _≤_};
 ghost use lib.ListN.{length};
-ghost use Rattle.terminal.specs.Decimal.{twoDigits, decimalByte, digitsOnly, zerosOnly};
-ghost use Rattle.terminal.specs.Decimal.{decimal as decimalOf, sixBytesLimit};
+ghost use Rattle.terminal.specs.Decimal.{twoDigits, decimal as decimalOf, sixBytesLimit, decimalByte, digitsOnly, zerosOnly};
 
 pub fn two_digits(b: u64) -> u64
     ensures { λ r. ⌜ r ≡ twoDigits b ⌝ }

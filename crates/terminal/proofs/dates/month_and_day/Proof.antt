@@ -22,4 +22,12 @@ returns-2 c =
     sym (failed month _ (c .if1 .left))
 
 pub month-and-day-spec : {M : Type 1} → statement M
-month-and-day-spec = tie.close (tie.spec (λ c κs. search needs) (λ c κs. search needs) (λ c κs. search needs) (λ c κs. search needs) returns returns-2)
+month-and-day-spec =
+    tie.close
+    (tie.spec
+    (λ c κs. search needs)
+    (λ c κs. search needs)
+    (λ c κs. search needs)
+    (λ c κs. search needs)
+    returns
+    returns-2)

@@ -24,4 +24,12 @@ returns-2 c =
     sym (failed size _ (c .if1 .left))
 
 pub valid-aid-spec : {M : Type 1} → statement M
-valid-aid-spec = tie.close (tie.spec (λ c κs. search needs) (λ c κs. search needs) (λ c κs. search needs) (λ c κs. search needs) returns returns-2)
+valid-aid-spec =
+    tie.close
+    (tie.spec
+    (λ c κs. search needs)
+    (λ c κs. search needs)
+    (λ c κs. search needs)
+    (λ c κs. search needs)
+    returns
+    returns-2)

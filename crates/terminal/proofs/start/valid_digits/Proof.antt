@@ -32,4 +32,15 @@ returns-3 c =
     sym (passed run _ (b .if1 .left) ∙ failed floor _ (c .if2 .left))
 
 pub valid-digits-spec : {M : Type 1} → statement M
-valid-digits-spec = tie.close (tie.spec (λ c κs. search needs) (λ c κs. search needs) returns (λ c κs. search needs) (λ c κs. search needs) (λ c κs. search needs) (λ c κs. search needs) returns-2 returns-3)
+valid-digits-spec =
+    tie.close
+    (tie.spec
+    (λ c κs. search needs)
+    (λ c κs. search needs)
+    returns
+    (λ c κs. search needs)
+    (λ c κs. search needs)
+    (λ c κs. search needs)
+    (λ c κs. search needs)
+    returns-2
+    returns-3)

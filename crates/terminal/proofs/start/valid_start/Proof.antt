@@ -1,7 +1,6 @@
 -- `terminal::start::valid_start` meets its contract: it asks the definition's tests in their order, so where one fails that
 -- is the answer, and where one holds the rest decide. Assumes nothing.
 use mathlib.Core.Path.{_≡_, refl, sym, ap, _∙_}
-use mathlib.Core.Bool.{Bool}
 use mathlib.Core.List.{List}
 use Prim.Native.Nat.{ℕ}
 use borrow.Author.Needs.{needs}
