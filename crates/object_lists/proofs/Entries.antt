@@ -28,7 +28,7 @@ use Rattle.object_lists.specs.declared.Known.{Known}
 use Rattle.object_lists.specs.declared.Format.{Format}
 use Rattle.object_lists.specs.declared.Format.the-variants.{Numeric, CardNumber, Other}
 
-entry-fits : (s : List ℕ) → asks s ≡ true → tagSize s + 1 ≤ length s
+pub entry-fits : (s : List ℕ) → asks s ≡ true → tagSize s + 1 ≤ length s
 unfolding asks
 entry-fits s e = leb-true _ _ (and-right (tagRight s) _ (and-right (not (eqb (getD s 0 0) 0)) _ e))
 
@@ -206,9 +206,6 @@ module _ (r : List ℕ) (some-bytes : 0 < length r) (n : ℕ) where
 
   pub turn-malformed : asks r ≡ false → countedOn n (entriesOf r) ≡ most + 1
   turn-malformed e = ap (countedOn n) (entries-none r some-bytes e) ∙ counted-none n
-
-pub asked-fits : (r : List ℕ) → asks r ≡ true → tagSize r + 1 ≤ length r
-asked-fits r e = entry-fits r e
 
 pub nothing-left : (r : List ℕ) → length r ≤ 0 → r ≡ []
 nothing-left [] h = refl

@@ -7,7 +7,6 @@ use mathlib.Core.List.{List, [], _∷_}
 use mathlib.Core.Option.{Option, some}
 use Prim.Native.Nat.{ℕ}
 use lib.Dec.{eqb, leb}
-use lib.Pow.{areBytes}
 use Rattle.lists.specs.Choice.{pick}
 use Rattle.lists.proofs.Choice.{pick-no, picked}
 use Rattle.terminal.specs.Tests.{every}
@@ -34,7 +33,7 @@ abbrev pub Finished : Phase → Type 0
 Finished p = (es : List Entry) × Plays p es
 
 no-bytes : isPayload [] ≡ true
-unfolding isPayload areBytes
+unfolding isPayload
 no-bytes = refl
 
 -- the issuer was not reached
@@ -42,7 +41,7 @@ unable : List ℕ
 unable = 0x03 ∷ 0x00 ∷ 0x00 ∷ []
 
 unable-payload : isPayload unable ≡ true
-unfolding isPayload areBytes unable
+unfolding isPayload unable
 unable-payload = refl
 
 unable-said : replyOf unable ≡ Said Unable

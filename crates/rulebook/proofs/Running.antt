@@ -22,6 +22,7 @@ use Rattle.rulebook.specs.Situation.{Situation}
 use Rattle.rulebook.specs.Phase.{Asked, Phase, opens, asks, hears, decides, commandOf, decisionOf}
 use Rattle.rulebook.specs.Turn.{opened, turn, heard}
 use Rattle.rulebook.specs.Session.{isPayload, Plays, started, exchanged, told, decided, Session}
+use Rattle.rulebook.proofs.Single.{head-same, tail-same}
 
 -- a phase, or a command that was sent and awaits its answer, or the end
 pub data State : Type 0 where
@@ -140,12 +141,6 @@ step-on (owes w) τ e es h rest =
     subst (λ (x : Entry). Plays (asks w) (entry command (commandOf w) ∷ x ∷ es)) (sym (due-entry answer _ e (c .0)))
     (exchanged refl (due-test answer _ e (c .0)) (follows-from τ (at (turn w (e .payload))) es (cc (c .1)) rest))
 step-on done τ e es h rest = no-state τ h
-
-head-same : (e f : Entry) (es fs : List Entry) → e ∷ es ≡ f ∷ fs → e ≡ f
-head-same e f es fs h = cc
-
-tail-same : (e f : Entry) (es fs : List Entry) → e ∷ es ≡ f ∷ fs → es ≡ fs
-tail-same e f es fs h = cc
 
 -- how the machine takes an entry that is due
 takes-start : (b : List ℕ) (t : Terminal) → terminalOf b ≡ some t → isPayload b ≡ true → next (at opens) (entry start b) ≡ some (at (opened t))

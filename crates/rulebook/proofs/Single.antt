@@ -20,10 +20,10 @@ use Rattle.rulebook.specs.Turn.{opened, turn, heard}
 use Rattle.rulebook.specs.Session.{Plays, started, exchanged, told, decided, Session, ReadsFrom, here, began, asked, went, listened, closed, Reads}
 
 -- the parts of two lists that are equal
-head-same : (e f : Entry) (es fs : List Entry) → e ∷ es ≡ f ∷ fs → e ≡ f
+pub head-same : (e f : Entry) (es fs : List Entry) → e ∷ es ≡ f ∷ fs → e ≡ f
 head-same e f es fs h = cc
 
-tail-same : (e f : Entry) (es fs : List Entry) → e ∷ es ≡ f ∷ fs → es ≡ fs
+pub tail-same : (e f : Entry) (es fs : List Entry) → e ∷ es ≡ f ∷ fs → es ≡ fs
 tail-same e f es fs h = cc
 
 payload-same : (k : ℕ) (p q : List ℕ) → entry k p ≡ entry k q → p ≡ q

@@ -8,7 +8,7 @@ use lib.ListN.{length, take, drop, getD, length-take, length-drop}
 use Rattle.objects.specs.Head.{tagSize}
 use Rattle.lists.proofs.Cutting.{rest-part}
 use Rattle.object_lists.specs.Wanted.{sizeAt, asks, entriesOf, tally}
-use Rattle.object_lists.proofs.Entries.{countedOn, tally-counted, turn-counted, turn-malformed, counted-over, counted-end, entries-empty, asked-fits, nothing-left}
+use Rattle.object_lists.proofs.Entries.{countedOn, tally-counted, turn-counted, turn-malformed, counted-over, counted-end, entries-empty, entry-fits, nothing-left}
 use native.Mathlib.Omega.{arith}
 use Rattle.object_lists.proofs.wanted.total.Statement.{statement}
 use Rattle.object_lists.proofs.wanted.total.Tie as tie
@@ -42,7 +42,7 @@ returns c =
 inside : (c : tie.After-tag-size Inv-loop μ-loop) → c .tag-size .result + 1 ≤ length (c .before .before .before .before .before .before .loop .rest .now)
 inside c =
     let r = c .before .before .before .before .before .before .loop .rest .now in
-    let f = asked-fits r (entry (c .before .before .before)) in
+    let f = entry-fits r (entry (c .before .before .before)) in
     let t = c .tag-size .ensures .0 in
     omega arith
 
