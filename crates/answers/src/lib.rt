@@ -9,3 +9,4 @@ mod named;
 mod number;
 pub mod options;
 pub mod records;
+pub mod select;

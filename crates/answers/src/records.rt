@@ -1,4 +1,36 @@
-// What the records have told so far.
+// The answer to READ RECORD, and what all records together must tell.
+use crate::answer::frame_reason;
+use crate::answer::inside;
+use crate::named::any_times;
+use crate::named::any_wrong;
+use crate::named::named;
+use crate::named::times;
+use object_lists::wanted::is_fillable;
+ghost use mathlib.Core.Path.{_≡_};
+ghost use mathlib.Core.Bool.{true, not};
+ghost use mathlib.Core.List.{[], map};
+ghost use mathlib.Core.Option.{Option·getD};
+ghost use Rattle.lists.specs.Choice.{firstOf};
+ghost use Rattle.objects.specs.Objects.{isSome, isList};
+ghost use Rattle.objects.specs.Lookup.{lookup};
+ghost use Rattle.answers.specs.Tables.{anyOf};
+ghost use Rattle.answers.specs.Named.{membersIn, again, anyAgain};
+ghost use Rattle.answers.specs.Records.{recordTwice, recordLines, recordReason, valueIn, completeReason, toldBy};
+
+const NAMES: [usize; 9] = [
+    0x5A,
+    0x5F24,
+    0x5F25,
+    0x9F08,
+    0x8C,
+    0x8D,
+    0x9F0D,
+    0x9F0E,
+    0x9F0F,
+];
+
+const MANDATORY: [usize; 4] = [0x5A, 0x5F24, 0x8C, 0x8D];
+
 // Which names were told by the records so far.
 pub struct Seen {
     pub number: bool,
@@ -10,4 +42,120 @@ pub struct Seen {
     pub default: bool,
     pub denial: bool,
     pub online: bool,
+}
+
+fn was_told(seen: Seen, tag: usize) -> bool
+    ensures { λ r. ⌜ r ≡ toldBy seen tag ⌝ }
+{
+    match tag {
+        0x5A => seen.number,
+        0x5F24 => seen.expiry,
+        0x5F25 => seen.effective,
+        0x9F08 => seen.version,
+        0x8C => seen.first_list,
+        0x8D => seen.second_list,
+        0x9F0D => seen.default,
+        0x9F0E => seen.denial,
+        0x9F0F => seen.online,
+        _ => false,
+    }
+}
+
+fn is_again(seen: Seen, s: &[u8], tag: usize) -> bool
+    requires { ⌜ isList (now s) ≡ true ⌝ }
+    ensures { λ r. ⌜ r ≡ again (toldBy seen tag) (lookup tag (membersIn (now (s .entry)))) ⌝ }
+{
+    was_told(seen, tag) && times(s, tag) != 0
+}
+
+// Whether one of the names stands there, and had been told before.
+fn any_again(seen: Seen, s: &[u8], names: &[usize]) -> bool
+    requires { ⌜ isList (now s) ≡ true ⌝ }
+    ensures { λ r. ⌜ r ≡ anyAgain (toldBy seen) (now (names .entry)) (membersIn (now (s .entry))) ⌝ }
+{
+    let mut i = 0;
+    while i < names.len() {
+        if is_again(seen, s, names[i]) {
+            return true;
+        }
+        i += 1;
+    }
+    false
+}
+
+fn is_twice(seen: Seen, s: &[u8]) -> bool
+    requires { ⌜ isList (now s) ≡ true ⌝ }
+    ensures { λ r. ⌜ r ≡ recordTwice (toldBy seen) (membersIn (now (s .entry))) ⌝ }
+{
+    let names = NAMES;
+    if any_times(s, 2, &names) {
+        return true;
+    }
+    any_again(seen, s, &names)
+}
+
+// Reasons 4 and 5, given 70's value; 0 where neither applies.
+fn content_reason(seen: Seen, s: &[u8]) -> usize
+    requires { ⌜ isList (now s) ≡ true ⌝ }
+    ensures { λ r. ⌜ r ≡ firstOf (recordLines (toldBy seen) (membersIn (now (s .entry)))) ⌝ }
+{
+    if is_twice(seen, s) {
+        return 4;
+    }
+    let names = NAMES;
+    if any_wrong(s, &names) {
+        return 5;
+    }
+    0
+}
+
+// The lowest reason that applies to one record; 0 where none does.
+pub fn record_reason(seen: Seen, answer: &[u8]) -> usize
+    ensures { λ r. ⌜ r ≡ recordReason (toldBy seen) (now (answer .entry)) ⌝ }
+{
+    let expected = [0x70];
+    let why = frame_reason(answer, &expected);
+    if why != 0 {
+        return why;
+    }
+    content_reason(seen, inside(answer, 0x70))
+}
+
+// Whether a record tells a name's value.
+pub fn has_value(answer: &[u8], tag: usize) -> bool
+    ensures { λ r. ⌜ r ≡ isSome (valueIn tag (now (answer .entry))) ⌝ }
+{
+    times(inside(answer, 0x70), tag) == 1
+}
+
+// That value; nothing where it tells none.
+pub fn record_value(answer: &[u8], tag: usize) -> &[u8]
+    ensures { λ r. ⌜ now r ≡ Option·getD (valueIn tag (now (answer .entry))) [] ⌝ }
+{
+    named(inside(answer, 0x70), tag)
+}
+
+// Whether one of the names was not told.
+fn any_untold(seen: Seen, names: &[usize]) -> bool
+    ensures { λ r. ⌜ r ≡ anyOf (map (λ tag. not (toldBy seen tag)) (now (names .entry))) ⌝ }
+{
+    let mut i = 0;
+    while i < names.len() {
+        if !was_told(seen, names[i]) {
+            return true;
+        }
+        i += 1;
+    }
+    false
+}
+
+// Reasons 8 and 9 after the last record, given the names that were told and the object list 8C; 0 where neither applies.
+pub fn complete_reason(seen: Seen, list: &[u8]) -> usize
+    ensures { λ r. ⌜ r ≡ completeReason (toldBy seen) (now (list .entry)) ⌝ }
+{
+    let mandatory = MANDATORY;
+    if any_untold(seen, &mandatory) {
+        return 8;
+    }
+    if is_fillable(list) { 0 } else { 9 }
 }
