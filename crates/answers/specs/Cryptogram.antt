@@ -7,10 +7,9 @@ use Prim.Native.Nat.{ℕ, _/_}
 use lib.ListN.{length, getD}
 use Rattle.lists.specs.Choice.{pick, firstOf}
 use Rattle.terminal.specs.Tests.{between}
-use Rattle.objects.specs.Lookup.{lookup}
-use Rattle.answers.specs.Tables.{beside}
-use Rattle.answers.specs.Answer.{isOne, inside, frame}
-use Rattle.answers.specs.Named.{direct, valueOf, anyTwice, anyWrong}
+use Rattle.card_data.specs.Tables.{beside}
+use Rattle.card_data.specs.Answer.{isOne, inside, frame}
+use Rattle.card_data.specs.Named.{direct, valueOf, anyTwice, anyWrong}
 use Rattle.answers.specs.Forms.{template, joined, bothForms, lacks}
 use Rattle.answers.specs.declared.cryptogram.Allowed.{Allowed}
 
@@ -23,7 +22,7 @@ cryptogramNames = 0x9F27 ∷ 0x9F36 ∷ 0x9F26 ∷ 0x9F10 ∷ []
 
 -- the bytes that begin with 9F27's one byte: its own value, or all of the joined ones
 unfoldable pub informationOf : List ℕ → List ℕ
-informationOf a = pick (isOne joined a) (inside joined a) (valueOf (lookup 0x9F27 (direct template a)))
+informationOf a = pick (isOne joined a) (inside joined a) (valueOf (direct template a 0x9F27))
 
 -- the cryptogram's type, the top two bits of that byte: 0 AAC, 1 TC, 2 ARQC
 unfoldable pub cryptogramOf : List ℕ → ℕ

@@ -4,8 +4,8 @@
 use mathlib.Core.Bool.{Bool, _&&_}
 use mathlib.Core.List.{List, [], _∷_}
 use Prim.Native.Nat.{ℕ}
-use Rattle.answers.specs.Answer.{isOne}
-use Rattle.answers.specs.Named.{direct, anyMissing}
+use Rattle.card_data.specs.Answer.{isOne}
+use Rattle.card_data.specs.Named.{direct, anyMissing}
 
 abbrev pub template : ℕ
 template = 0x77

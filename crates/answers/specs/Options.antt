@@ -5,23 +5,22 @@ use mathlib.Core.List.{List, [], _∷_, _++_}
 use Prim.Native.Nat.{ℕ}
 use lib.ListN.{take, drop}
 use Rattle.lists.specs.Choice.{pick, firstOf}
-use Rattle.objects.specs.Lookup.{lookup}
-use Rattle.answers.specs.Answer.{isOne, inside, frame}
-use Rattle.answers.specs.Content.{wholeEntries}
-use Rattle.answers.specs.Named.{direct, valueOf, anyTwice, anyWrong}
+use Rattle.card_data.specs.Answer.{isOne, inside, frame}
+use Rattle.locator.specs.Entries.{wholeEntries}
+use Rattle.card_data.specs.Named.{direct, valueOf, anyTwice, anyWrong}
 use Rattle.answers.specs.Forms.{template, joined, bothForms, lacks}
-use Rattle.answers.specs.Locator.{entriesRight, tooMany}
+use Rattle.locator.specs.Entries.{entriesRight, tooMany}
 
 abbrev pub optionNames : List ℕ
 optionNames = 0x82 ∷ 0x94 ∷ []
 
 -- the AIP's bytes: the first two of the joined values
 unfoldable pub profileOf : List ℕ → List ℕ
-profileOf a = pick (isOne joined a) (take 2 (inside joined a)) (valueOf (lookup 0x82 (direct template a)))
+profileOf a = pick (isOne joined a) (take 2 (inside joined a)) (valueOf (direct template a 0x82))
 
 -- the AFL's bytes: all that follow
 unfoldable pub locatorOf : List ℕ → List ℕ
-locatorOf a = pick (isOne joined a) (drop 2 (inside joined a)) (valueOf (lookup 0x94 (direct template a)))
+locatorOf a = pick (isOne joined a) (drop 2 (inside joined a)) (valueOf (direct template a 0x94))
 
 -- joined values of 2+4n bytes, n from 1
 unfoldable pub optionsWrong : List ℕ → Bool

@@ -1,17 +1,21 @@
 -- The answer to READ RECORD, and what all records together must tell. 01, "What the card must answer".
 -- Assumes nothing.
-use mathlib.Core.Bool.{Bool, true, false, not, _||_}
+use mathlib.Core.Bool.{Bool, true, false, not, _&&_, _||_}
 use mathlib.Core.List.{List, [], _∷_, _++_, map}
 use mathlib.Core.Option.{Option, none, some, Option·getD}
 use Prim.Native.Nat.{ℕ}
+use lib.Dec.{eqb}
 use Rattle.lists.specs.Choice.{firstOf}
-use Rattle.objects.specs.Objects.{Object, isSome}
-use Rattle.objects.specs.Lookup.{lookup}
+use Rattle.objects.specs.Objects.{isSome}
+use Rattle.objects.specs.Lookup.{Lookup}
 use Rattle.object_lists.specs.Wanted.{fillable}
-use Rattle.answers.specs.Tables.{anyOf, beside}
-use Rattle.answers.specs.Answer.{frame}
-use Rattle.answers.specs.Named.{direct, told, anyTwice, anyWrong, anyAgain}
+use Rattle.card_data.specs.Tables.{anyOf, beside}
+use Rattle.card_data.specs.Answer.{frame}
+use Rattle.card_data.specs.Named.{direct, times, told, anyTwice, anyWrong}
 use Rattle.answers.specs.declared.records.Seen.{Seen}
+
+abbrev pub recordTag : ℕ
+recordTag = 0x70
 
 -- card number, expiry, effective date, version, the object lists for the first and the second GENERATE AC, and the action
 -- codes default, denial and online
@@ -22,22 +26,30 @@ recordNames = 0x5A ∷ 0x5F24 ∷ 0x5F25 ∷ 0x9F08 ∷ 0x8C ∷ 0x8D ∷ 0x9F0D
 abbrev pub mandatory : List ℕ
 mandatory = 0x5A ∷ 0x5F24 ∷ 0x8C ∷ 0x8D ∷ []
 
--- twice in this record, or in this one and an earlier one: `before` are the names that those told
-unfoldable pub recordTwice : (ℕ → Bool) → List Object → Bool
-recordTwice before ms = anyTwice recordNames ms || anyAgain before recordNames ms
+-- a name is there, and earlier records told it
+unfoldable pub again : Bool → Lookup → Bool
+again before l = before && not (eqb (times l) 0)
 
-unfoldable pub recordLines : (ℕ → Bool) → List Object → List (Bool × ℕ)
-recordLines before ms = (recordTwice before ms, 4) ∷ (anyWrong recordNames ms, 5) ∷ []
+unfoldable pub anyAgain : (ℕ → Bool) → List ℕ → (ℕ → Lookup) → Bool
+anyAgain before names look = anyOf (map (λ name. again (before name) (look name)) names)
 
+-- twice in this record, or in this one and an earlier one
+unfoldable pub recordTwice : (ℕ → Bool) → List ℕ → Bool
+recordTwice before a = anyTwice recordNames (direct recordTag a) || anyAgain before recordNames (direct recordTag a)
+
+unfoldable pub recordLines : (ℕ → Bool) → List ℕ → List (Bool × ℕ)
+recordLines before a = (recordTwice before a, 4) ∷ (anyWrong recordNames (direct recordTag a), 5) ∷ []
+
+-- `before` are the names that earlier records told
 unfoldable pub recordReason : (ℕ → Bool) → List ℕ → ℕ
-recordReason before a = firstOf (frame (0x70 ∷ []) a ++ recordLines before (direct 0x70 a))
+recordReason before a = firstOf (frame (recordTag ∷ []) a ++ recordLines before a)
 
 -- what a record tells of a name
 unfoldable pub valueIn : ℕ → List ℕ → Option (List ℕ)
-valueIn tag a = told (lookup tag (direct 0x70 a))
+valueIn name a = told (direct recordTag a name)
 
 unfoldable pub incomplete : (ℕ → Bool) → Bool
-incomplete there = anyOf (map (λ tag. not (there tag)) mandatory)
+incomplete there = anyOf (map (λ name. not (there name)) mandatory)
 
 -- after the last record, given which names were told and the object list for the first GENERATE AC
 unfoldable pub completeReason : (ℕ → Bool) → List ℕ → ℕ
@@ -45,12 +57,12 @@ completeReason there list = firstOf ((incomplete there, 8) ∷ (not (fillable li
 
 -- the same over all that the records told
 unfoldable pub afterRecords : (ℕ → Option (List ℕ)) → ℕ
-afterRecords facts = completeReason (λ tag. isSome (facts tag)) (Option·getD (facts 0x8C) [])
+afterRecords facts = completeReason (λ name. isSome (facts name)) (Option·getD (facts 0x8C) [])
 
 -- which names were told, as flags
 unfoldable pub toldBy : Seen → ℕ → Bool
-toldBy s tag =
-    beside false tag
+toldBy s name =
+    beside false name
     ((0x5A, s .number)
     ∷ (0x5F24, s .expiry)
     ∷ (0x5F25, s .effective)

@@ -6,12 +6,14 @@ use mathlib.Core.List.{List, [], _∷_, _++_}
 use Prim.Native.Nat.{ℕ}
 use lib.Dec.{eqb}
 use Rattle.lists.specs.Choice.{firstOf}
-use Rattle.objects.specs.Objects.{Object}
-use Rattle.objects.specs.Lookup.{Lookup, absent, once, twice, lookup}
+use Rattle.objects.specs.Lookup.{Lookup, absent, once, twice}
 use Rattle.terminal.specs.Reading.{Terminal}
 use Rattle.object_lists.specs.Wanted.{fillable}
-use Rattle.answers.specs.Answer.{inside, frame}
-use Rattle.answers.specs.Named.{membersIn, direct, valueOf, anyTwice, anyMissing, anyWrong}
+use Rattle.card_data.specs.Answer.{frame}
+use Rattle.card_data.specs.Named.{among, direct, valueOf, anyTwice, anyMissing, anyWrong}
+
+abbrev pub selectTag : ℕ
+selectTag = 0x6F
 
 -- named directly in 6F, both mandatory, and directly in A5
 abbrev pub selectNames : List ℕ
@@ -20,9 +22,13 @@ selectNames = 0x84 ∷ 0xA5 ∷ []
 abbrev pub innerNames : List ℕ
 innerNames = 0x9F38 ∷ []
 
--- the members of A5, given those of 6F
-unfoldable pub inner : List Object → List Object
-inner ms = membersIn (valueOf (lookup 0xA5 ms))
+-- what stands under a name directly in A5
+unfoldable pub inner : List ℕ → ℕ → Lookup
+inner a = among (valueOf (direct selectTag a 0xA5))
+
+-- the value of 9F38; an empty list where there is none
+unfoldable pub pdolOf : List ℕ → List ℕ
+pdolOf a = valueOf (inner a 0x9F38)
 
 -- whether one list begins with another
 unfoldable pub begins : List ℕ → List ℕ → Bool
@@ -36,26 +42,21 @@ nameWrong aid absent = false
 nameWrong aid (once v) = not (begins aid v)
 nameWrong aid twice = false
 
-unfoldable pub selectTwice : List Object → Bool
-selectTwice ms = anyTwice selectNames ms || anyTwice innerNames (inner ms)
+unfoldable pub selectTwice : List ℕ → Bool
+selectTwice a = anyTwice selectNames (direct selectTag a) || anyTwice innerNames (inner a)
 
-unfoldable pub selectWrong : List ℕ → List Object → Bool
-selectWrong aid ms = anyWrong selectNames ms || (anyWrong innerNames (inner ms) || nameWrong aid (lookup 0x84 ms))
+unfoldable pub selectWrong : List ℕ → List ℕ → Bool
+selectWrong aid a =
+    anyWrong selectNames (direct selectTag a)
+    || (anyWrong innerNames (inner a) || nameWrong aid (direct selectTag a 0x84))
 
--- the value of 9F38; an empty list where there is none
-unfoldable pub pdolIn : List Object → List ℕ
-pdolIn ms = valueOf (lookup 0x9F38 (inner ms))
-
-unfoldable pub selectLines : List ℕ → List Object → List (Bool × ℕ)
-selectLines aid ms =
-    (selectTwice ms, 4)
-    ∷ (selectWrong aid ms, 5)
-    ∷ (anyMissing selectNames ms, 8)
-    ∷ (not (fillable (pdolIn ms)), 9)
+unfoldable pub selectLines : List ℕ → List ℕ → List (Bool × ℕ)
+selectLines aid a =
+    (selectTwice a, 4)
+    ∷ (selectWrong aid a, 5)
+    ∷ (anyMissing selectNames (direct selectTag a), 8)
+    ∷ (not (fillable (pdolOf a)), 9)
     ∷ []
 
 unfoldable pub selectReason : Terminal → List ℕ → ℕ
-selectReason t a = firstOf (frame (0x6F ∷ []) a ++ selectLines (t .aid) (direct 0x6F a))
-
-unfoldable pub pdolOf : List ℕ → List ℕ
-pdolOf a = pdolIn (direct 0x6F a)
+selectReason t a = firstOf (frame (selectTag ∷ []) a ++ selectLines (t .aid) a)

@@ -1,13 +1,13 @@
 // The answer to GENERATE AC.
-use crate::answer::frame_reason;
-use crate::answer::inside;
-use crate::answer::is_one;
 use crate::forms::JOINED;
 use crate::forms::TEMPLATE;
 use crate::forms::lacks;
-use crate::named::any_times;
-use crate::named::any_wrong;
-use crate::named::named;
+use card_data::answer::frame_reason;
+use card_data::answer::inside;
+use card_data::answer::is_one;
+use card_data::named::any_times;
+use card_data::named::any_wrong;
+use card_data::named::value_of;
 use lists::byte;
 ghost use mathlib.Core.Path.{_≡_};
 ghost use Rattle.lists.specs.Choice.{firstOf};
@@ -42,7 +42,7 @@ fn information(answer: &[u8]) -> &[u8]
     if is_one(answer, JOINED) {
         inside(answer, JOINED)
     } else {
-        named(inside(answer, TEMPLATE), 0x9F27)
+        value_of(inside(answer, TEMPLATE), 0x9F27)
     }
 }
 

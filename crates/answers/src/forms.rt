@@ -1,7 +1,7 @@
 // Answers that come as a template 77 of objects, or as 80 with their values joined.
-use crate::answer::inside;
-use crate::answer::is_one;
-use crate::named::any_times;
+use card_data::answer::inside;
+use card_data::answer::is_one;
+use card_data::named::any_times;
 ghost use mathlib.Core.Path.{_≡_};
 ghost use Rattle.answers.specs.Forms.{lacks as lacksOf};
 

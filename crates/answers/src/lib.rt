@@ -1,12 +1,7 @@
 // What the card must answer: for each kind of answer the lowest reason that applies, and the facts that it tells. Facts are
 // parts of the lent answer itself.
-mod answer;
-mod content;
 pub mod cryptogram;
 mod forms;
-pub mod locator;
-mod named;
-mod number;
 pub mod options;
 pub mod records;
 pub mod select;

@@ -1,17 +1,17 @@
 // The answer to GET PROCESSING OPTIONS.
-use crate::answer::frame_reason;
-use crate::answer::inside;
-use crate::answer::is_one;
-use crate::content::are_whole_entries;
 use crate::forms::JOINED;
 use crate::forms::TEMPLATE;
 use crate::forms::lacks;
-use crate::locator::are_entries_right;
-use crate::locator::are_too_many;
-use crate::named::any_times;
-use crate::named::any_wrong;
-use crate::named::named;
+use card_data::answer::frame_reason;
+use card_data::answer::inside;
+use card_data::answer::is_one;
+use card_data::named::any_times;
+use card_data::named::any_wrong;
+use card_data::named::value_of;
 use lists::part;
+use locator::entries::are_right;
+use locator::entries::are_too_many;
+use locator::entries::are_whole;
 ghost use mathlib.Core.Path.{_≡_};
 ghost use Rattle.lists.specs.Choice.{firstOf};
 ghost use Rattle.answers.specs.Options.{profileOf, locatorOf, optionsWrong, optionsLines, optionsReason};
@@ -25,7 +25,7 @@ pub fn profile(answer: &[u8]) -> &[u8]
     if is_one(answer, JOINED) {
         part(inside(answer, JOINED), 0, 2)
     } else {
-        named(inside(answer, TEMPLATE), 0x82)
+        value_of(inside(answer, TEMPLATE), 0x82)
     }
 }
 
@@ -37,7 +37,7 @@ pub fn locator(answer: &[u8]) -> &[u8]
         let both = inside(answer, JOINED);
         part(both, 2, both.len())
     } else {
-        named(inside(answer, TEMPLATE), 0x94)
+        value_of(inside(answer, TEMPLATE), 0x94)
     }
 }
 
@@ -48,7 +48,7 @@ fn is_wrong(answer: &[u8]) -> bool
     if any_wrong(inside(answer, TEMPLATE), &names) {
         return true;
     }
-    is_one(answer, JOINED) && !are_whole_entries(locator(answer))
+    is_one(answer, JOINED) && !are_whole(locator(answer))
 }
 
 // Reasons 4 to 8; 0 where none of them applies.
@@ -63,7 +63,7 @@ fn content_reason(answer: &[u8]) -> usize
         return 5;
     }
     let afl = locator(answer);
-    if !are_entries_right(afl) {
+    if !are_right(afl) {
         return 6;
     }
     if are_too_many(afl) {

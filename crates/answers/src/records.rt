@@ -1,21 +1,22 @@
 // The answer to READ RECORD, and what all records together must tell.
-use crate::answer::frame_reason;
-use crate::answer::inside;
-use crate::named::any_times;
-use crate::named::any_wrong;
-use crate::named::named;
-use crate::named::times;
+use card_data::answer::frame_reason;
+use card_data::answer::inside;
+use card_data::named::any_times;
+use card_data::named::any_wrong;
+use card_data::named::times;
+use card_data::named::value_of;
 use object_lists::wanted::is_fillable;
 ghost use mathlib.Core.Path.{_≡_};
-ghost use mathlib.Core.Bool.{true, not};
+ghost use mathlib.Core.Bool.{not};
 ghost use mathlib.Core.List.{[], map};
 ghost use mathlib.Core.Option.{Option·getD};
 ghost use Rattle.lists.specs.Choice.{firstOf};
-ghost use Rattle.objects.specs.Objects.{isSome, isList};
-ghost use Rattle.objects.specs.Lookup.{lookup};
-ghost use Rattle.answers.specs.Tables.{anyOf};
-ghost use Rattle.answers.specs.Named.{membersIn, again, anyAgain};
-ghost use Rattle.answers.specs.Records.{recordTwice, recordLines, recordReason, valueIn, completeReason, toldBy};
+ghost use Rattle.objects.specs.Objects.{isSome};
+ghost use Rattle.card_data.specs.Tables.{anyOf};
+ghost use Rattle.card_data.specs.Named.{standing};
+ghost use Rattle.answers.specs.Records.{again, anyAgain, recordTwice, recordLines, recordReason, valueIn, completeReason, toldBy};
+
+const RECORD: usize = 0x70;
 
 const NAMES: [usize; 9] = [
     0x5A,
@@ -44,10 +45,10 @@ pub struct Seen {
     pub online: bool,
 }
 
-fn was_told(seen: Seen, tag: usize) -> bool
-    ensures { λ r. ⌜ r ≡ toldBy seen tag ⌝ }
+fn was_told(seen: Seen, name: usize) -> bool
+    ensures { λ r. ⌜ r ≡ toldBy seen name ⌝ }
 {
-    match tag {
+    match name {
         0x5A => seen.number,
         0x5F24 => seen.expiry,
         0x5F25 => seen.effective,
@@ -61,17 +62,15 @@ fn was_told(seen: Seen, tag: usize) -> bool
     }
 }
 
-fn is_again(seen: Seen, s: &[u8], tag: usize) -> bool
-    requires { ⌜ isList (now s) ≡ true ⌝ }
-    ensures { λ r. ⌜ r ≡ again (toldBy seen tag) (lookup tag (membersIn (now (s .entry)))) ⌝ }
+fn is_again(seen: Seen, s: &[u8], name: usize) -> bool
+    ensures { λ r. ⌜ r ≡ again (toldBy seen name) (standing (now (s .entry)) name) ⌝ }
 {
-    was_told(seen, tag) && times(s, tag) != 0
+    was_told(seen, name) && times(s, name) != 0
 }
 
 // Whether one of the names stands there, and had been told before.
 fn any_again(seen: Seen, s: &[u8], names: &[usize]) -> bool
-    requires { ⌜ isList (now s) ≡ true ⌝ }
-    ensures { λ r. ⌜ r ≡ anyAgain (toldBy seen) (now (names .entry)) (membersIn (now (s .entry))) ⌝ }
+    ensures { λ r. ⌜ r ≡ anyAgain (toldBy seen) (now (names .entry)) (standing (now (s .entry))) ⌝ }
 {
     let mut i = 0;
     while i < names.len() {
@@ -83,27 +82,26 @@ fn any_again(seen: Seen, s: &[u8], names: &[usize]) -> bool
     false
 }
 
-fn is_twice(seen: Seen, s: &[u8]) -> bool
-    requires { ⌜ isList (now s) ≡ true ⌝ }
-    ensures { λ r. ⌜ r ≡ recordTwice (toldBy seen) (membersIn (now (s .entry))) ⌝ }
+fn is_twice(seen: Seen, answer: &[u8]) -> bool
+    ensures { λ r. ⌜ r ≡ recordTwice (toldBy seen) (now (answer .entry)) ⌝ }
 {
     let names = NAMES;
+    let s = inside(answer, RECORD);
     if any_times(s, 2, &names) {
         return true;
     }
     any_again(seen, s, &names)
 }
 
-// Reasons 4 and 5, given 70's value; 0 where neither applies.
-fn content_reason(seen: Seen, s: &[u8]) -> usize
-    requires { ⌜ isList (now s) ≡ true ⌝ }
-    ensures { λ r. ⌜ r ≡ firstOf (recordLines (toldBy seen) (membersIn (now (s .entry)))) ⌝ }
+// Reasons 4 and 5; 0 where neither applies.
+fn content_reason(seen: Seen, answer: &[u8]) -> usize
+    ensures { λ r. ⌜ r ≡ firstOf (recordLines (toldBy seen) (now (answer .entry))) ⌝ }
 {
-    if is_twice(seen, s) {
+    if is_twice(seen, answer) {
         return 4;
     }
     let names = NAMES;
-    if any_wrong(s, &names) {
+    if any_wrong(inside(answer, RECORD), &names) {
         return 5;
     }
     0
@@ -113,31 +111,31 @@ fn content_reason(seen: Seen, s: &[u8]) -> usize
 pub fn record_reason(seen: Seen, answer: &[u8]) -> usize
     ensures { λ r. ⌜ r ≡ recordReason (toldBy seen) (now (answer .entry)) ⌝ }
 {
-    let expected = [0x70];
+    let expected = [RECORD];
     let why = frame_reason(answer, &expected);
     if why != 0 {
         return why;
     }
-    content_reason(seen, inside(answer, 0x70))
+    content_reason(seen, answer)
 }
 
 // Whether a record tells a name's value.
-pub fn has_value(answer: &[u8], tag: usize) -> bool
-    ensures { λ r. ⌜ r ≡ isSome (valueIn tag (now (answer .entry))) ⌝ }
+pub fn has_value(answer: &[u8], name: usize) -> bool
+    ensures { λ r. ⌜ r ≡ isSome (valueIn name (now (answer .entry))) ⌝ }
 {
-    times(inside(answer, 0x70), tag) == 1
+    times(inside(answer, RECORD), name) == 1
 }
 
 // That value; nothing where it tells none.
-pub fn record_value(answer: &[u8], tag: usize) -> &[u8]
-    ensures { λ r. ⌜ now r ≡ Option·getD (valueIn tag (now (answer .entry))) [] ⌝ }
+pub fn record_value(answer: &[u8], name: usize) -> &[u8]
+    ensures { λ r. ⌜ now r ≡ Option·getD (valueIn name (now (answer .entry))) [] ⌝ }
 {
-    named(inside(answer, 0x70), tag)
+    value_of(inside(answer, RECORD), name)
 }
 
 // Whether one of the names was not told.
 fn any_untold(seen: Seen, names: &[usize]) -> bool
-    ensures { λ r. ⌜ r ≡ anyOf (map (λ tag. not (toldBy seen tag)) (now (names .entry))) ⌝ }
+    ensures { λ r. ⌜ r ≡ anyOf (map (λ name. not (toldBy seen name)) (now (names .entry))) ⌝ }
 {
     let mut i = 0;
     while i < names.len() {

@@ -12,12 +12,12 @@ use Rattle.terminal.specs.Tests.{every}
 use Rattle.terminal.specs.Tests.{between as within}
 use Rattle.object_lists.specs.Shape.{shaped, numeric, formatOf}
 use Rattle.commands.specs.Commands.{recordCommand}
-use Rattle.answers.specs.Tables.{anyOf, beside}
-use Rattle.answers.specs.Answer.{sizeBad, statusBad, only, outer, tagged, valueUnder, isOne, inside, outerBad, frame}
-use Rattle.answers.specs.Content.{wholeEntries, meets, rules, ruleFor, rightValue}
-use Rattle.answers.specs.Named.{membersIn, direct, times, told, valueOf, wrongValue, anyTimes, anyWrong}
+use Rattle.card_data.specs.Tables.{anyOf, beside}
+use Rattle.card_data.specs.Answer.{sizeBad, statusBad, only, outer, tagged, valueUnder, isOne, inside, outerBad, frame}
+use Rattle.card_data.specs.Content.{meets, rules, ruleFor, rightValue}
+use Rattle.card_data.specs.Named.{membersIn, named, among, direct, standing, times, told, valueOf, wrongValue, anyTimes, anyWrong}
 use Rattle.answers.specs.Forms.{lacks}
-use Rattle.answers.specs.Locator.{firstEntry, entries, sfi, records, entryRight, entriesRight, recordsOf, recordCount, tooMany, run, readEntry, readAll, toRead, fileRight}
+use Rattle.locator.specs.Entries.{firstEntry, entries, wholeEntries, sfi, records, entryRight, entriesRight, recordsOf, recordCount, tooMany, run, readEntry, readAll, toRead, fileRight}
 use Rattle.answers.specs.Options.{profileOf, locatorOf, optionsWrong, optionsLines, optionsReason}
 use Rattle.decide.specs.Bits.{joined, meet}
 use Rattle.decide.specs.Selection.{biased, chosen}
@@ -25,7 +25,7 @@ use Rattle.decide.specs.Requests.{issuerCode, codeMatch, byType, firstRequest}
 use Rattle.cases.specs.Table.{plain, noCodes, Cases}
 
 pub table : Cases
-unfolding pick firstOf counted shorter zeros firstByte constructed twoBytes tagSize tagOf tagRight lengthByte lengthForm lengthSize lengthOf valueStart valueEnd whole between firstObject isSome before rightInside listed objects shaped numeric formatOf recordCommand firstEntry entries sfi records entryRight entriesRight recordsOf recordCount tooMany run readEntry readAll toRead joined meet biased chosen issuerCode codeMatch byType firstRequest plain noCodes dataField met lookup every within anyOf beside sizeBad statusBad only outer tagged valueUnder isOne inside outerBad frame wholeEntries meets rules ruleFor rightValue lacks profileOf locatorOf optionsWrong optionsLines optionsReason membersIn direct times told valueOf wrongValue anyTimes anyWrong fileRight
+unfolding pick firstOf counted shorter zeros firstByte constructed twoBytes tagSize tagOf tagRight lengthByte lengthForm lengthSize lengthOf valueStart valueEnd whole between firstObject isSome before rightInside listed objects shaped numeric formatOf recordCommand firstEntry entries sfi records entryRight entriesRight recordsOf recordCount tooMany run readEntry readAll toRead joined meet biased chosen issuerCode codeMatch byType firstRequest plain noCodes dataField met lookup every within anyOf beside sizeBad statusBad only outer tagged valueUnder isOne inside outerBad frame wholeEntries meets rules ruleFor rightValue lacks profileOf locatorOf optionsWrong optionsLines optionsReason membersIn named among direct standing times told valueOf wrongValue anyTimes anyWrong fileRight
 table =
     record {
       a = refl;

@@ -10,7 +10,7 @@ use Rattle.object_lists.specs.Shape.{shaped, formatOf}
 use Rattle.lists.specs.Writing.{zeros}
 use Rattle.terminal.specs.Reading.{Terminal}
 use Rattle.commands.specs.Commands.{recordCommand}
-use Rattle.answers.specs.Locator.{toRead, recordCount}
+use Rattle.locator.specs.Entries.{toRead, recordCount}
 use Rattle.answers.specs.Options.{optionsReason}
 use Rattle.decide.specs.Selection.{chosen}
 use Rattle.decide.specs.Card.{IssuerCodes}

@@ -12,7 +12,7 @@ use Rattle.terminal.specs.Start.{validKind, validDigits, validRandom, validPerc
 use Rattle.terminal.specs.Tests.{every, between}
 use Rattle.terminal.specs.Decimal.{decimalFrom, decimal, decimalByte, digitsOnly, zerosOnly}
 use Rattle.terminal.specs.Dates.{monthAndDay, validStartDate}
-use Rattle.answers.specs.Answer.{sizeBad, frame}
+use Rattle.card_data.specs.Answer.{sizeBad, frame}
 use Rattle.answers.specs.Select.{selectReason}
 use Rattle.answers.specs.Options.{optionsReason}
 use Rattle.answers.specs.Records.{recordReason}

@@ -12,7 +12,7 @@ use Rattle.tape.specs.Entries.{Entry}
 use Rattle.object_lists.specs.Wanted.{fillable}
 use Rattle.answers.specs.Select.{selectReason, pdolOf}
 use Rattle.answers.specs.Options.{optionsReason, profileOf, locatorOf}
-use Rattle.answers.specs.Locator.{toRead}
+use Rattle.locator.specs.Entries.{toRead}
 use Rattle.answers.specs.Records.{recordReason, afterRecords}
 use Rattle.answers.specs.Cryptogram.{cryptogramReason, cryptogramOf}
 use Rattle.decide.specs.Bits.{joined}

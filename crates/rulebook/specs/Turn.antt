@@ -13,7 +13,7 @@ use Rattle.object_lists.specs.Known.{orElse}
 use Rattle.object_lists.specs.Wanted.{fillable}
 use Rattle.answers.specs.Select.{selectReason, pdolOf}
 use Rattle.answers.specs.Options.{optionsReason, profileOf, locatorOf}
-use Rattle.answers.specs.Locator.{toRead}
+use Rattle.locator.specs.Entries.{toRead}
 use Rattle.answers.specs.Records.{recordReason, valueIn, afterRecords}
 use Rattle.answers.specs.Cryptogram.{cryptogramReason, cryptogramOf}
 use Rattle.decide.specs.Results.{tvrAfterRecords, tsiAfterRecords, tsiAfterFirstAnswer}

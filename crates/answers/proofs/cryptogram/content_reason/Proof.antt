@@ -7,12 +7,11 @@ use Prim.Native.Nat.{ℕ}
 use lib.ListN.{drop}
 use borrow.Author.Needs.{needs}
 use Rattle.lists.specs.Choice.{firstOf}
-use Rattle.objects.specs.Objects.{isList}
-use Rattle.answers.specs.Named.{membersIn, direct, anyTimes}
+use Rattle.card_data.specs.Named.{direct, anyTimes}
 use Rattle.answers.specs.Cryptogram.{cryptogramNames, cryptogramOf, cryptogramLines, allows}
 use Rattle.answers.specs.declared.cryptogram.Allowed.{Allowed}
-use Rattle.answers.proofs.Lines.{line-yes, line-no, last-no}
-use Rattle.answers.proofs.Members.{template-list}
+use Rattle.card_data.proofs.Lines.{line-yes, line-no, last-no}
+use Rattle.answers.proofs.Standing.{template-found}
 use Rattle.answers.proofs.cryptogram.content_reason.Statement.{statement}
 use Rattle.answers.proofs.cryptogram.content_reason.Tie as tie
 
@@ -21,8 +20,7 @@ abbrev From : ℕ → Allowed → List ℕ → Type 0
 From k w a = firstOf (cryptogramLines (allows w) a) ≡ firstOf (drop k (cryptogramLines (allows w) a))
 
 twice-told : (c : tie.After-any-times) → c .any-times .result ≡ anyTimes 2 cryptogramNames (direct 0x77 (c .before .before .before .before .args .answer .now))
-unfolding direct
-twice-told c = c .any-times .ensures ∙ ap (λ (s : List ℕ). anyTimes 2 cryptogramNames (membersIn s)) (c .before .before .inside .ensures)
+twice-told c = c .any-times .ensures ∙ ap (anyTimes 2 cryptogramNames) (template-found _ (c .before .before .inside .ensures))
 
 at-1 : (c : tie.Else1) → From 1 (c .before .before .before .before .before .args .allowed) (c .before .before .before .before .before .args .answer .now)
 unfolding cryptogramLines
@@ -65,7 +63,7 @@ content-reason-spec =
     (tie.spec
     (λ c κs. search needs)
     (λ c. search needs)
-    (λ c κs. ap isList (c .before .inside .ensures) ∙ template-list _)
+    (λ c κs. search needs)
     returns
     (λ c κs. search needs)
     returns-2

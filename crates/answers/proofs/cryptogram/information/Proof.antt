@@ -1,15 +1,13 @@
 -- `answers::cryptogram::information` meets its contract: the joined bytes, or the value of 9F27.
 -- Assumes nothing.
 use mathlib.Core.Path.{_≡_, sym, ap, _∙_}
-use mathlib.Core.List.{List}
 use Prim.Native.Nat.{ℕ}
 use borrow.Author.Needs.{needs}
 use Rattle.lists.proofs.Choice.{pick-yes, pick-no}
-use Rattle.objects.specs.Objects.{isList}
-use Rattle.objects.specs.Lookup.{lookup}
-use Rattle.answers.specs.Named.{membersIn, direct, valueOf}
+use Rattle.objects.specs.Lookup.{Lookup}
+use Rattle.card_data.specs.Named.{valueOf}
 use Rattle.answers.specs.Cryptogram.{informationOf}
-use Rattle.answers.proofs.Members.{template-list}
+use Rattle.answers.proofs.Standing.{template-found}
 use Rattle.answers.proofs.cryptogram.information.Statement.{statement}
 use Rattle.answers.proofs.cryptogram.information.Tie as tie
 
@@ -20,11 +18,11 @@ returns c =
     c .inside .ensures ∙ sym (pick-yes _ _ _ (sym (b .before .is-one .ensures) ∙ b .if1 .taken))
 
 returns-2 : tie.Need-returns-2
-unfolding informationOf direct
+unfolding informationOf
 returns-2 c =
     let b = c .before .before in
-    c .named .ensures
-    ∙ (ap (λ (s : List ℕ). valueOf (lookup 0x9F27 (membersIn s))) (c .before .inside2 .ensures)
+    c .value-of .ensures
+    ∙ (ap (λ (look : ℕ → Lookup). valueOf (look 0x9F27)) (template-found _ (c .before .inside2 .ensures))
     ∙ sym (pick-no _ _ _ (sym (b .before .is-one .ensures) ∙ b .if1 .left)))
 
 pub information-spec : {M : Type 1} → statement M
@@ -34,6 +32,6 @@ information-spec =
     (λ c κs. search needs)
     (λ c κs. search needs)
     (λ c κs. search needs)
-    (λ c κs. ap isList (c .inside2 .ensures) ∙ template-list _)
+    (λ c κs. search needs)
     returns
     returns-2)

@@ -7,20 +7,18 @@ use Prim.Native.Nat.{ℕ}
 use lib.ListN.{length}
 use borrow.Author.Needs.{needs}
 use Rattle.terminal.specs.Tests.{between}
-use Rattle.objects.specs.Objects.{isList}
-use Rattle.answers.specs.Answer.{isOne, inside}
-use Rattle.answers.specs.Named.{membersIn, direct, anyWrong}
+use Rattle.card_data.specs.Answer.{isOne, inside}
+use Rattle.card_data.specs.Named.{direct, anyWrong}
 use Rattle.answers.specs.Cryptogram.{cryptogramNames, cryptogramWrong}
-use Rattle.answers.proofs.Limits.{below-out, above-out}
-use Rattle.answers.proofs.Tables.{or-yes, or-no, and-yes, and-no}
-use Rattle.answers.proofs.Members.{template-list}
+use Rattle.card_data.proofs.Limits.{below-out, above-out}
+use Rattle.card_data.proofs.Tables.{or-yes, or-no, and-yes, and-no}
+use Rattle.answers.proofs.Standing.{template-found}
 use Rattle.answers.proofs.cryptogram.is_wrong.Statement.{statement}
 use Rattle.answers.proofs.cryptogram.is_wrong.Tie as tie
 
 -- what was found among the members
 found : (c : tie.After-any-wrong) → c .any-wrong .result ≡ anyWrong cryptogramNames (direct 0x77 (c .before .before .before .before .args .answer .now))
-unfolding direct
-found c = c .any-wrong .ensures ∙ ap (λ (s : List ℕ). anyWrong cryptogramNames (membersIn s)) (c .before .before .inside .ensures)
+found c = c .any-wrong .ensures ∙ ap (anyWrong cryptogramNames) (template-found _ (c .before .before .inside .ensures))
 
 -- where the values are joined, their size decides
 by-size : (c : tie.Then2) → cryptogramWrong (c .before .before .before .before .before .before .before .args .answer .now) ≡ not (between 11 43 (length (inside 0x80 (c .before .before .before .before .before .before .before .args .answer .now))))
@@ -56,7 +54,7 @@ is-wrong-spec =
     (tie.spec
     (λ c κs. search needs)
     (λ c. search needs)
-    (λ c κs. ap isList (c .before .inside .ensures) ∙ template-list _)
+    (λ c κs. search needs)
     returns
     (λ c κs. search needs)
     (λ c κs. search needs)

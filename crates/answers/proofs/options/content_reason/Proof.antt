@@ -1,18 +1,17 @@
 -- `answers::options::content_reason` meets its contract: the lines in their order, each left behind where its test fails.
 -- Assumes nothing.
 use mathlib.Core.Path.{_≡_, sym, ap, _∙_}
-use mathlib.Core.Bool.{Bool, not}
+use mathlib.Core.Bool.{not}
 use mathlib.Core.List.{List}
 use Prim.Native.Nat.{ℕ}
 use lib.ListN.{drop}
 use borrow.Author.Needs.{needs}
 use Rattle.lists.specs.Choice.{firstOf}
-use Rattle.objects.specs.Objects.{isList}
-use Rattle.answers.specs.Locator.{entriesRight, tooMany}
-use Rattle.answers.specs.Named.{membersIn, direct, anyTimes}
-use Rattle.answers.specs.Options.{optionNames, optionsLines}
-use Rattle.answers.proofs.Lines.{line-yes, line-no, last-no}
-use Rattle.answers.proofs.Members.{template-list}
+use Rattle.locator.specs.Entries.{entriesRight, tooMany}
+use Rattle.card_data.specs.Named.{direct, anyTimes}
+use Rattle.answers.specs.Options.{optionNames, locatorOf, optionsLines}
+use Rattle.card_data.proofs.Lines.{line-yes, line-no, last-no}
+use Rattle.answers.proofs.Standing.{template-found}
 use Rattle.answers.proofs.options.content_reason.Statement.{statement}
 use Rattle.answers.proofs.options.content_reason.Tie as tie
 
@@ -21,8 +20,7 @@ abbrev From : ℕ → List ℕ → Type 0
 From k a = firstOf (optionsLines a) ≡ firstOf (drop k (optionsLines a))
 
 twice-told : (c : tie.After-any-times) → c .any-times .result ≡ anyTimes 2 optionNames (direct 0x77 (c .before .before .before .before .args .answer .now))
-unfolding direct
-twice-told c = c .any-times .ensures ∙ ap (λ (s : List ℕ). anyTimes 2 optionNames (membersIn s)) (c .before .before .inside .ensures)
+twice-told c = c .any-times .ensures ∙ ap (anyTimes 2 optionNames) (template-found _ (c .before .before .inside .ensures))
 
 at-1 : (c : tie.Else1) → From 1 (c .before .before .before .before .before .args .answer .now)
 unfolding optionsLines
@@ -33,14 +31,14 @@ unfolding optionsLines
 at-2 c = at-1 (c .before .before) ∙ line-no (c .before .is-wrong .ensures) 5 _ (c .if2 .left)
 
 -- the AFL's tests
-entries-told : (c : tie.After-are-entries-right) → not (c .are-entries-right .result) ≡ not (entriesRight (Rattle.answers.specs.Options.locatorOf (c .before .before .before .before .before .before .before .before .before .args .answer .now)))
-entries-told c = ap not (c .are-entries-right .ensures ∙ ap entriesRight (c .before .locator .ensures))
+entries-told : (c : tie.After-are-right) → not (c .are-right .result) ≡ not (entriesRight (locatorOf (c .before .before .before .before .before .before .before .before .before .args .answer .now)))
+entries-told c = ap not (c .are-right .ensures ∙ ap entriesRight (c .before .locator .ensures))
 
 at-3 : (c : tie.Else3) → From 3 (c .before .before .before .before .before .before .before .before .before .before .args .answer .now)
 unfolding optionsLines
 at-3 c = at-2 (c .before .before .before) ∙ line-no (entries-told (c .before)) 6 _ (c .if3 .left)
 
-many-told : (c : tie.After-are-too-many) → c .are-too-many .result ≡ tooMany (Rattle.answers.specs.Options.locatorOf (c .before .before .before .before .before .before .before .before .before .before .before .args .answer .now))
+many-told : (c : tie.After-are-too-many) → c .are-too-many .result ≡ tooMany (locatorOf (c .before .before .before .before .before .before .before .before .before .before .before .args .answer .now))
 many-told c = c .are-too-many .ensures ∙ ap tooMany (c .before .before .before .locator .ensures)
 
 at-4 : (c : tie.Else4) → From 4 (c .before .before .before .before .before .before .before .before .before .before .before .before .args .answer .now)
@@ -77,7 +75,7 @@ content-reason-spec =
     (tie.spec
     (λ c κs. search needs)
     (λ c. search needs)
-    (λ c κs. ap isList (c .before .inside .ensures) ∙ template-list _)
+    (λ c κs. search needs)
     returns
     (λ c κs. search needs)
     returns-2

@@ -1,23 +1,19 @@
 -- `answers::options::is_wrong` meets its contract: the template's members are judged one by one, joined values by their size.
 -- Assumes nothing.
 use mathlib.Core.Path.{_≡_, sym, ap, _∙_}
-use mathlib.Core.Bool.{Bool, not}
-use mathlib.Core.List.{List}
-use Prim.Native.Nat.{ℕ}
+use mathlib.Core.Bool.{not}
 use borrow.Author.Needs.{needs}
-use Rattle.objects.specs.Objects.{isList}
-use Rattle.answers.specs.Content.{wholeEntries}
-use Rattle.answers.specs.Named.{membersIn, direct, anyWrong}
+use Rattle.locator.specs.Entries.{wholeEntries}
+use Rattle.card_data.specs.Named.{direct, anyWrong}
 use Rattle.answers.specs.Options.{optionNames, optionsWrong}
-use Rattle.answers.proofs.Tables.{or-yes, or-no, and-yes, and-no}
-use Rattle.answers.proofs.Members.{template-list}
+use Rattle.card_data.proofs.Tables.{or-yes, or-no, and-yes, and-no}
+use Rattle.answers.proofs.Standing.{template-found}
 use Rattle.answers.proofs.options.is_wrong.Statement.{statement}
 use Rattle.answers.proofs.options.is_wrong.Tie as tie
 
 -- what was found among the members
 found : (c : tie.After-any-wrong) → c .any-wrong .result ≡ anyWrong optionNames (direct 0x77 (c .before .before .before .before .args .answer .now))
-unfolding direct
-found c = c .any-wrong .ensures ∙ ap (λ (s : List ℕ). anyWrong optionNames (membersIn s)) (c .before .before .inside .ensures)
+found c = c .any-wrong .ensures ∙ ap (anyWrong optionNames) (template-found _ (c .before .before .inside .ensures))
 
 returns : tie.Need-returns
 unfolding optionsWrong
@@ -28,7 +24,7 @@ unfolding optionsWrong
 returns-2 c =
     let d = c .before .before in
     let b = d .before .before in
-    ap not (c .are-whole-entries .ensures ∙ ap wholeEntries (c .before .locator .ensures))
+    ap not (c .are-whole .ensures ∙ ap wholeEntries (c .before .locator .ensures))
     ∙ sym (or-no (found (b .before)) _ (b .if1 .left) ∙ and-yes (d .before .is-one .ensures) _ (d .if2 .taken))
 
 returns-3 : tie.Need-returns-3
@@ -43,7 +39,7 @@ is-wrong-spec =
     (tie.spec
     (λ c κs. search needs)
     (λ c. search needs)
-    (λ c κs. ap isList (c .before .inside .ensures) ∙ template-list _)
+    (λ c κs. search needs)
     returns
     (λ c κs. search needs)
     (λ c κs. search needs)

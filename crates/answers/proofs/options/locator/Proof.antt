@@ -1,18 +1,16 @@
 -- `answers::options::locator` meets its contract: the joined bytes after the first two, or the value of 94.
 -- Assumes nothing.
 use mathlib.Core.Path.{_≡_, sym, ap, _∙_}
-use mathlib.Core.List.{List}
 use Prim.Native.Nat.{ℕ}
 use native.Mathlib.Omega.{arith}
 use lib.ListN.{length, drop}
 use borrow.Author.Needs.{needs}
 use Rattle.lists.proofs.Cutting.{to-end}
 use Rattle.lists.proofs.Choice.{pick-yes, pick-no}
-use Rattle.objects.specs.Objects.{isList}
-use Rattle.objects.specs.Lookup.{lookup}
-use Rattle.answers.specs.Named.{membersIn, direct, valueOf}
+use Rattle.objects.specs.Lookup.{Lookup}
+use Rattle.card_data.specs.Named.{valueOf}
 use Rattle.answers.specs.Options.{locatorOf}
-use Rattle.answers.proofs.Members.{template-list}
+use Rattle.answers.proofs.Standing.{template-found}
 use Rattle.answers.proofs.options.locator.Statement.{statement}
 use Rattle.answers.proofs.options.locator.Tie as tie
 
@@ -25,11 +23,11 @@ returns c =
     ∙ (ap (drop 2) (c .before .inside .ensures) ∙ sym (pick-yes _ _ _ (sym (b .before .is-one .ensures) ∙ b .if1 .taken))))
 
 returns-2 : tie.Need-returns-2
-unfolding locatorOf direct
+unfolding locatorOf
 returns-2 c =
     let b = c .before .before in
-    c .named .ensures
-    ∙ (ap (λ (s : List ℕ). valueOf (lookup 0x94 (membersIn s))) (c .before .inside2 .ensures)
+    c .value-of .ensures
+    ∙ (ap (λ (look : ℕ → Lookup). valueOf (look 0x94)) (template-found _ (c .before .inside2 .ensures))
     ∙ sym (pick-no _ _ _ (sym (b .before .is-one .ensures) ∙ b .if1 .left)))
 
 pub locator-spec : {M : Type 1} → statement M
@@ -40,6 +38,6 @@ locator-spec =
     (λ c κs. search needs)
     (λ c κs. search needs)
     (λ c κs. search needs)
-    (λ c κs. ap isList (c .inside2 .ensures) ∙ template-list _)
+    (λ c κs. search needs)
     returns
     returns-2)

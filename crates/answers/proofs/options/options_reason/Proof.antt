@@ -4,7 +4,7 @@ use mathlib.Core.Path.{_∙_}
 use borrow.Author.Needs.{needs}
 use Rattle.answers.specs.Forms.{bothForms}
 use Rattle.answers.specs.Options.{optionsLines, optionsReason}
-use Rattle.answers.proofs.Lines.{frame-decides, frame-clear}
+use Rattle.card_data.proofs.Lines.{frame-decides, frame-clear}
 use Rattle.answers.proofs.options.options_reason.Statement.{statement}
 use Rattle.answers.proofs.options.options_reason.Tie as tie
 

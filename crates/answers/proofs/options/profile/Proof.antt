@@ -1,16 +1,14 @@
 -- `answers::options::profile` meets its contract: the first two of the joined bytes, or the value of 82.
 -- Assumes nothing.
 use mathlib.Core.Path.{_≡_, sym, ap, _∙_}
-use mathlib.Core.List.{List}
 use Prim.Native.Nat.{ℕ}
 use lib.ListN.{take}
 use borrow.Author.Needs.{needs}
 use Rattle.lists.proofs.Choice.{pick-yes, pick-no}
-use Rattle.objects.specs.Objects.{isList}
-use Rattle.objects.specs.Lookup.{lookup}
-use Rattle.answers.specs.Named.{membersIn, direct, valueOf}
+use Rattle.objects.specs.Lookup.{Lookup}
+use Rattle.card_data.specs.Named.{valueOf}
 use Rattle.answers.specs.Options.{profileOf}
-use Rattle.answers.proofs.Members.{template-list}
+use Rattle.answers.proofs.Standing.{template-found}
 use Rattle.answers.proofs.options.profile.Statement.{statement}
 use Rattle.answers.proofs.options.profile.Tie as tie
 
@@ -22,11 +20,11 @@ returns c =
     ∙ (ap (take 2) (c .before .inside .ensures) ∙ sym (pick-yes _ _ _ (sym (b .before .is-one .ensures) ∙ b .if1 .taken)))
 
 returns-2 : tie.Need-returns-2
-unfolding profileOf direct
+unfolding profileOf
 returns-2 c =
     let b = c .before .before in
-    c .named .ensures
-    ∙ (ap (λ (s : List ℕ). valueOf (lookup 0x82 (membersIn s))) (c .before .inside2 .ensures)
+    c .value-of .ensures
+    ∙ (ap (λ (look : ℕ → Lookup). valueOf (look 0x82)) (template-found _ (c .before .inside2 .ensures))
     ∙ sym (pick-no _ _ _ (sym (b .before .is-one .ensures) ∙ b .if1 .left)))
 
 pub profile-spec : {M : Type 1} → statement M
@@ -37,6 +35,6 @@ profile-spec =
     (λ c κs. search needs)
     (λ c κs. search needs)
     (λ c κs. search needs)
-    (λ c κs. ap isList (c .inside2 .ensures) ∙ template-list _)
+    (λ c κs. search needs)
     returns
     returns-2)

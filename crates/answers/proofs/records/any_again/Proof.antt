@@ -1,23 +1,22 @@
 -- `answers::records::any_again` meets its contract. The loop's invariant: the names that are left decide as all do.
 -- Assumes nothing.
 use mathlib.Core.Path.{_≡_, refl, sym, ap, _∙_}
-use mathlib.Core.Bool.{Bool, true}
+use mathlib.Core.Bool.{Bool}
 use mathlib.Core.List.{List, map}
 use Prim.Native.Nat.{ℕ, _-_, _≤_, _<_}
 use native.Mathlib.Omega.{arith}
 use lib.ListN.{length, drop}
 use borrow.Author.Needs.{needs}
-use Rattle.objects.specs.Lookup.{lookup}
-use Rattle.answers.specs.Tables.{anyOf}
-use Rattle.answers.specs.Named.{membersIn, again, anyAgain}
-use Rattle.answers.specs.Records.{toldBy}
+use Rattle.card_data.specs.Tables.{anyOf}
+use Rattle.card_data.specs.Named.{standing}
+use Rattle.answers.specs.Records.{again, anyAgain, toldBy}
 use Rattle.answers.specs.declared.records.Seen.{Seen}
-use Rattle.answers.proofs.Tables.{any-one-on, any-found, any-through}
+use Rattle.card_data.proofs.Tables.{any-one-on, any-found, any-through}
 use Rattle.answers.proofs.records.any_again.Statement.{statement}
 use Rattle.answers.proofs.records.any_again.Tie as tie
 
 abbrev both : Seen → List ℕ → ℕ → Bool
-both seen s tag = again (toldBy seen tag) (lookup tag (membersIn s))
+both seen s name = again (toldBy seen name) (standing s name)
 
 abbrev Inv-loop : tie.InvT-loop
 Inv-loop seen s names i₀ i = anyOf (map (both seen s) (drop i names)) ≡ anyOf (map (both seen s) names)
@@ -54,7 +53,7 @@ any-again-spec =
     (λ c. refl)
     (λ c. search needs)
     (λ c. omega arith)
-    (λ c κs. c .before .before .before .before .before .pre)
+    (λ c κs. tt)
     returns
     (λ c. omega arith)
     (λ c. omega arith)

@@ -7,15 +7,15 @@ use Prim.Native.Nat.{ℕ, _-_, _≤_, _<_}
 use native.Mathlib.Omega.{arith}
 use lib.ListN.{length, drop}
 use borrow.Author.Needs.{needs}
-use Rattle.answers.specs.Tables.{anyOf}
+use Rattle.card_data.specs.Tables.{anyOf}
 use Rattle.answers.specs.Records.{toldBy}
 use Rattle.answers.specs.declared.records.Seen.{Seen}
-use Rattle.answers.proofs.Tables.{any-one-on, any-found, any-through}
+use Rattle.card_data.proofs.Tables.{any-one-on, any-found, any-through}
 use Rattle.answers.proofs.records.any_untold.Statement.{statement}
 use Rattle.answers.proofs.records.any_untold.Tie as tie
 
 abbrev untold : Seen → ℕ → Bool
-untold seen tag = not (toldBy seen tag)
+untold seen name = not (toldBy seen name)
 
 abbrev Inv-loop : tie.InvT-loop
 Inv-loop seen names i₀ i = anyOf (map (untold seen) (drop i names)) ≡ anyOf (map (untold seen) names)

@@ -4,7 +4,7 @@ use mathlib.Core.Path.{_≡_, sym, ap, _∙_}
 use mathlib.Core.Bool.{not}
 use borrow.Author.Needs.{needs}
 use Rattle.answers.specs.Records.{incomplete, completeReason}
-use Rattle.answers.proofs.Lines.{line-yes, line-no, last-no}
+use Rattle.card_data.proofs.Lines.{line-yes, line-no, last-no}
 use Rattle.answers.proofs.records.complete_reason.Statement.{statement}
 use Rattle.answers.proofs.records.complete_reason.Tie as tie
 

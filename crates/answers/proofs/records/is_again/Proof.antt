@@ -5,8 +5,8 @@ use mathlib.Core.Bool.{not}
 use Prim.Native.Nat.{ℕ}
 use lib.Dec.{eqb}
 use borrow.Author.Needs.{needs}
-use Rattle.answers.specs.Named.{again}
-use Rattle.answers.proofs.Tables.{and-yes, and-no}
+use Rattle.card_data.proofs.Tables.{and-yes, and-no}
+use Rattle.answers.specs.Records.{again}
 use Rattle.answers.proofs.records.is_again.Statement.{statement}
 use Rattle.answers.proofs.records.is_again.Tie as tie
 
@@ -21,4 +21,4 @@ unfolding again
 returns-2 c = sym (and-no (c .before .was-told .ensures) _ (c .if1 .left))
 
 pub is-again-spec : {M : Type 1} → statement M
-is-again-spec = tie.close (tie.spec (λ c κs. search needs) (λ c κs. c .before .before .before .pre) returns returns-2)
+is-again-spec = tie.close (tie.spec (λ c κs. search needs) (λ c κs. search needs) returns returns-2)

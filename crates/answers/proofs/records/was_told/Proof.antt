@@ -3,15 +3,15 @@
 use mathlib.Core.Path.{sym, ap}
 use mathlib.Core.Bool.{false}
 use Rattle.lists.specs.Choice.{pick}
-use Rattle.answers.specs.Tables.{beside}
+use Rattle.card_data.specs.Tables.{beside}
 use Rattle.answers.specs.Records.{toldBy}
-use Rattle.answers.proofs.Tables.{beside-none}
+use Rattle.card_data.proofs.Tables.{beside-none}
 use Rattle.answers.proofs.records.was_told.Statement.{statement}
 use Rattle.answers.proofs.records.was_told.Tie as tie
 
 returns-10 : tie.Need-returns-10
 unfolding toldBy
-returns-10 c = sym (beside-none false (c .before .args .tag) _ (c .match .rest))
+returns-10 c = sym (beside-none false (c .before .args .name) _ (c .match .rest))
 
 pub was-told-spec : {M : Type 1} → statement M
 unfolding toldBy beside pick

@@ -1,37 +1,37 @@
--- `answers::select::is_twice` meets its contract: first among the members of 6F, then among those of A5.
+-- `answers::select::is_twice` meets its contract: first directly in 6F, then directly in A5.
 -- Assumes nothing.
 use mathlib.Core.Path.{_≡_, sym, ap, _∙_}
-use mathlib.Core.List.{List}
-use Prim.Native.Nat.{ℕ}
 use borrow.Author.Needs.{needs}
-use Rattle.objects.specs.Objects.{isList}
-use Rattle.answers.specs.Named.{membersIn, anyTimes}
-use Rattle.answers.specs.Select.{innerNames, inner, selectTwice}
-use Rattle.answers.proofs.Tables.{or-yes, or-no}
-use Rattle.answers.proofs.Members.{proprietary-list}
+use Rattle.card_data.specs.Named.{direct, anyTimes}
+use Rattle.card_data.proofs.Tables.{or-yes, or-no}
+use Rattle.answers.specs.Select.{selectNames, innerNames, selectTwice}
+use Rattle.answers.proofs.Standing.{select-found, inner-found}
 use Rattle.answers.proofs.select.is_twice.Statement.{statement}
 use Rattle.answers.proofs.select.is_twice.Tie as tie
 
+found : (c : tie.After-any-times) → c .any-times .result ≡ anyTimes 2 selectNames (direct 0x6F (c .before .before .before .before .args .answer .now))
+found c = c .any-times .ensures ∙ ap (anyTimes 2 selectNames) (select-found _ (c .before .before .inside .ensures))
+
 returns : tie.Need-returns
 unfolding selectTwice
-returns c = sym (or-yes (c .before .any-times .ensures) _ (c .if1 .taken) ∙ c .if1 .taken)
+returns c = sym (or-yes (found (c .before)) _ (c .if1 .taken) ∙ c .if1 .taken)
 
 returns-2 : tie.Need-returns-2
-unfolding selectTwice inner
+unfolding selectTwice
 returns-2 c =
     let b = c .before .before .before in
     c .any-times2 .ensures
-    ∙ (ap (λ (s : List ℕ). anyTimes 2 innerNames (membersIn s)) (c .before .before .named .ensures)
-    ∙ sym (or-no (b .before .any-times .ensures) _ (b .if1 .left)))
+    ∙ (ap (anyTimes 2 innerNames) (inner-found _ (c .before .before .proprietary .ensures)) ∙ sym (or-no (found (b .before)) _ (b .if1 .left)))
 
 pub is-twice-spec : {M : Type 1} → statement M
 is-twice-spec =
     tie.close
     (tie.spec
+    (λ c κs. search needs)
     (λ c. search needs)
-    (λ c κs. c .before .before .pre)
+    (λ c κs. search needs)
     returns
-    (λ c κs. c .before .before .before .before .pre)
+    (λ c κs. search needs)
     (λ c. search needs)
-    (λ c κs. ap isList (c .before .named .ensures) ∙ proprietary-list _ (c .before .before .before .before .before .before .pre))
+    (λ c κs. search needs)
     returns-2)

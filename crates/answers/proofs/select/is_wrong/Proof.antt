@@ -1,31 +1,29 @@
--- `answers::select::is_wrong` meets its contract: the members of 6F, those of A5, then the name against the AID.
+-- `answers::select::is_wrong` meets its contract: what stands in 6F, what stands in A5, then the name against the AID.
 -- Assumes nothing.
 use mathlib.Core.Path.{_≡_, sym, ap, _∙_}
-use mathlib.Core.List.{List}
-use Prim.Native.Nat.{ℕ}
 use borrow.Author.Needs.{needs}
-use Rattle.objects.specs.Objects.{isList}
-use Rattle.answers.specs.Named.{membersIn, anyWrong}
-use Rattle.answers.specs.Select.{innerNames, inner, selectWrong}
-use Rattle.answers.proofs.Tables.{or-yes, or-no}
-use Rattle.answers.proofs.Members.{proprietary-list}
+use Rattle.card_data.specs.Named.{direct, anyWrong}
+use Rattle.card_data.proofs.Tables.{or-yes, or-no}
+use Rattle.answers.specs.Select.{selectNames, innerNames, inner, selectWrong}
+use Rattle.answers.proofs.Standing.{select-found, inner-found}
 use Rattle.answers.proofs.select.is_wrong.Statement.{statement}
 use Rattle.answers.proofs.select.is_wrong.Tie as tie
 
--- what was found in A5
-found : (c : tie.After-any-wrong2) → c .any-wrong2 .result ≡ anyWrong innerNames (inner (membersIn (c .before .before .before .before .before .before .before .before .args .s .now)))
-unfolding inner
-found c = c .any-wrong2 .ensures ∙ ap (λ (s : List ℕ). anyWrong innerNames (membersIn s)) (c .before .before .named .ensures)
+found : (c : tie.After-any-wrong) → c .any-wrong .result ≡ anyWrong selectNames (direct 0x6F (c .before .before .before .before .before .args .answer .now))
+found c = c .any-wrong .ensures ∙ ap (anyWrong selectNames) (select-found _ (c .before .before .inside .ensures))
+
+in-a5 : (c : tie.After-any-wrong2) → c .any-wrong2 .result ≡ anyWrong innerNames (inner (c .before .before .before .before .before .before .before .before .before .args .answer .now))
+in-a5 c = c .any-wrong2 .ensures ∙ ap (anyWrong innerNames) (inner-found _ (c .before .before .proprietary .ensures))
 
 returns : tie.Need-returns
 unfolding selectWrong
-returns c = sym (or-yes (c .before .any-wrong .ensures) _ (c .if1 .taken) ∙ c .if1 .taken)
+returns c = sym (or-yes (found (c .before)) _ (c .if1 .taken) ∙ c .if1 .taken)
 
 returns-2 : tie.Need-returns-2
 unfolding selectWrong
 returns-2 c =
     let b = c .before .before .before .before in
-    sym (or-no (b .before .any-wrong .ensures) _ (b .if1 .left) ∙ (or-yes (found (c .before)) _ (c .if2 .taken) ∙ c .if2 .taken))
+    sym (or-no (found (b .before)) _ (b .if1 .left) ∙ (or-yes (in-a5 (c .before)) _ (c .if2 .taken) ∙ c .if2 .taken))
 
 returns-3 : tie.Need-returns-3
 unfolding selectWrong
@@ -33,18 +31,19 @@ returns-3 c =
     let d = c .before in
     let b = d .before .before .before .before in
     c .is-name-wrong .ensures
-    ∙ sym (or-no (b .before .any-wrong .ensures) _ (b .if1 .left) ∙ or-no (found (d .before)) _ (d .if2 .left))
+    ∙ sym (or-no (found (b .before)) _ (b .if1 .left) ∙ or-no (in-a5 (d .before)) _ (d .if2 .left))
 
 pub is-wrong-spec : {M : Type 1} → statement M
 is-wrong-spec =
     tie.close
     (tie.spec
+    (λ c κs. search needs)
     (λ c. search needs)
-    (λ c κs. c .before .before .before .pre)
+    (λ c κs. search needs)
     returns
-    (λ c κs. c .before .before .before .before .before .pre)
+    (λ c κs. search needs)
     (λ c. search needs)
-    (λ c κs. ap isList (c .before .named .ensures) ∙ proprietary-list _ (c .before .before .before .before .before .before .before .pre))
+    (λ c κs. search needs)
     returns-2
-    (λ c κs. c .before .before .before .before .before .before .before .before .before .pre)
+    (λ c κs. search needs)
     returns-3)

@@ -1,19 +1,18 @@
--- `answers::select::pdol` meets its contract: the list in 6F's value.
+-- `answers::select::pdol` meets its contract: 9F38 in A5's value.
 -- Assumes nothing.
 use mathlib.Core.Path.{ap, _∙_}
-use mathlib.Core.List.{List}
 use Prim.Native.Nat.{ℕ}
 use borrow.Author.Needs.{needs}
-use Rattle.objects.specs.Objects.{isList}
-use Rattle.answers.specs.Named.{membersIn, direct}
-use Rattle.answers.specs.Select.{pdolIn, pdolOf}
-use Rattle.answers.proofs.Members.{select-list}
+use Rattle.objects.specs.Lookup.{Lookup}
+use Rattle.card_data.specs.Named.{valueOf}
+use Rattle.answers.specs.Select.{pdolOf}
+use Rattle.answers.proofs.Standing.{inner-found}
 use Rattle.answers.proofs.select.pdol.Statement.{statement}
 use Rattle.answers.proofs.select.pdol.Tie as tie
 
 returns : tie.Need-returns
-unfolding pdolOf direct
-returns c = c .pdol-in .ensures ∙ ap (λ (s : List ℕ). pdolIn (membersIn s)) (c .before .inside .ensures)
+unfolding pdolOf
+returns c = c .value-of .ensures ∙ ap (λ (look : ℕ → Lookup). valueOf (look 0x9F38)) (inner-found _ (c .before .proprietary .ensures))
 
 pub pdol-spec : {M : Type 1} → statement M
-pdol-spec = tie.close (tie.spec (λ c κs. search needs) (λ c κs. ap isList (c .inside .ensures) ∙ select-list _) returns)
+pdol-spec = tie.close (tie.spec (λ c κs. search needs) (λ c κs. search needs) returns)

@@ -1,0 +1,100 @@
+-- What is known of an answer where no reason was found: each line's test failed. An answer that passes the first three lines
+-- has a right size, status 9000 and one expected object; a name that is neither missing nor there twice stands there once.
+-- Assumes nothing.
+use mathlib.Core.Path.{_≡_, refl, sym, ap, _∙_}
+use mathlib.Core.Bool.{Bool, true, false, not, _||_, false≢true}
+use mathlib.Core.List.{List, [], _∷_, _++_, map}
+use Prim.Native.Nat.{ℕ, zero, suc, _-_, _≤_, _<_}
+use native.Mathlib.Omega.{arith}
+use lib.Dec.{ltb, eqb}
+use lib.ListN.{length, getD}
+use borrow.Author.Tests.{eqb-true, eqb-false, eq-eqb, not-false, le-ltb}
+use Rattle.lists.specs.Choice.{pick, firstOf}
+use Rattle.lists.proofs.Choice.{pick-yes, pick-no, either}
+use Rattle.objects.specs.Lookup.{Lookup, absent, once, twice}
+use Rattle.card_data.specs.Tables.{anyOf}
+use Rattle.card_data.specs.Content.{rightValue}
+use Rattle.card_data.specs.Answer.{sizeBad, statusBad, isOne, outerBad, frame}
+use Rattle.card_data.specs.Named.{times, wrongValue, anyTimes, anyWrong}
+use Rattle.card_data.proofs.Tables.{or-yes, or-no}
+use Rattle.card_data.proofs.Lines.{Numbered, line-no, last-no, line-clear}
+use Rattle.card_data.proofs.Outer.{size-right}
+
+-- neither of two tests holds
+pub or-clear : (s t : Bool) → (s || t) ≡ false → (s ≡ false) × (t ≡ false)
+or-clear true t e = absurd (false≢true (sym e))
+or-clear false t e = (refl, e)
+
+-- none of several
+pub any-clear : (p : ℕ → Bool) (names : List ℕ) → anyOf (map p names) ≡ false → (k : ℕ) → k < length names → p (getD names k 0) ≡ false
+unfolding anyOf
+any-clear p [] e k h = absurd (omega arith)
+any-clear p (n ∷ ns) e zero h = either (p n) (λ y. absurd (false≢true (sym e ∙ pick-yes _ _ _ y))) (λ f. f)
+any-clear p (n ∷ ns) e (suc k) h =
+    either (p n)
+    (λ y. absurd (false≢true (sym e ∙ pick-yes _ _ _ y)))
+    (λ f. any-clear p ns (sym (pick-no _ _ _ f) ∙ e) k (omega arith))
+
+-- where no line applies there is no reason, and where there is none no line applies
+abbrev pub AllClear : List (Bool × ℕ) → Type 0
+AllClear [] = Unit {0}
+AllClear (line ∷ lines) = (line .0 ≡ false) × AllClear lines
+
+pub no-reason : (lines : List (Bool × ℕ)) → AllClear lines → firstOf lines ≡ 0
+unfolding firstOf
+no-reason [] c = refl
+no-reason (line ∷ lines) c = pick-no _ _ _ (c .0) ∙ no-reason lines (c .1)
+
+pub none-applies : (lines : List (Bool × ℕ)) → Numbered lines → firstOf lines ≡ 0 → AllClear lines
+none-applies [] n e = tt
+none-applies (line ∷ lines) n e = let clear = line-clear (line .0) (line .1) lines (n .0) e in (clear .0, none-applies lines (n .1) (clear .1))
+
+-- an answer that passes the lines for every answer
+pub record Framed (expected a : List ℕ) : Type 0 where
+  pub fewest : 2 ≤ length a
+  pub most : length a ≤ 258
+  pub first : getD a (length a - 2) 0 ≡ 0x90
+  pub second : getD a (length a - 1) 0 ≡ 0x00
+  pub one : anyOf (map (λ tag. isOne tag a) expected) ≡ true
+
+module _ (expected a : List ℕ) where
+  pub frame-accepted : AllClear (frame expected a) → Framed expected a
+  unfolding frame statusBad outerBad
+  frame-accepted c =
+      let size = size-right a (c .0) in
+      let status = or-clear _ _ (c .1 .0) in
+      record {
+        fewest = size .0;
+        most = size .1;
+        first = eqb-true _ _ (not-false _ (status .0));
+        second = eqb-true _ _ (not-false _ (status .1));
+        one = not-false _ (c .1 .1 .0);
+      }
+
+  pub frame-right : Framed expected a → AllClear (frame expected a)
+  unfolding frame sizeBad statusBad outerBad
+  frame-right f = (
+    or-no refl _ (le-ltb (length a) 2 (f .fewest)) ∙ le-ltb 258 (length a) (f .most),
+    (or-no refl _ (ap not (eq-eqb _ 0x90 (f .first))) ∙ ap not (eq-eqb _ 0x00 (f .second)), (ap not (f .one), tt)),
+  )
+
+-- a name that is neither missing nor there twice
+once-found : (l : Lookup) → (times l ≡ 2 → ⊥) → (times l ≡ 0 → ⊥) → (v : List ℕ) × (l ≡ once v)
+unfolding times
+once-found absent t m = absurd (m refl)
+once-found (once v) t m = (v, refl)
+once-found twice t m = absurd (t refl)
+
+module _ (names : List ℕ) (look : ℕ → Lookup) (k : ℕ) (h : k < length names) where
+  pub named-times : (n : ℕ) → anyTimes n names look ≡ false → times (look (getD names k 0)) ≡ n → ⊥
+  unfolding anyTimes
+  named-times n e = eqb-false _ n (any-clear (λ name. eqb (times (look name)) n) names e k h)
+
+  pub named-once : anyTimes 2 names look ≡ false → anyTimes 0 names look ≡ false → (v : List ℕ) × (look (getD names k 0) ≡ once v)
+  named-once t m = once-found (look (getD names k 0)) (named-times 2 t) (named-times 0 m)
+
+  pub named-right : anyWrong names look ≡ false → (v : List ℕ) → look (getD names k 0) ≡ once v → rightValue (getD names k 0) v ≡ true
+  unfolding anyWrong wrongValue
+  named-right e v f =
+      let w = any-clear (λ name. wrongValue name (look name)) names e k h in
+      not-false _ (sym (ap (wrongValue (getD names k 0)) f) ∙ w)

@@ -1,0 +1,67 @@
+// Named objects among those that the reader finds in some bytes.
+use crate::content::is_right;
+use objects::Found;
+use objects::lookup::find;
+use objects::place::value;
+ghost use mathlib.Core.Path.{_≡_};
+ghost use Rattle.card_data.specs.Named.{standing, times as timesOf, valueOf, wrongValue, anyTimes, anyWrong};
+
+// How often a name stands there; 2 for twice and more.
+pub fn times(s: &[u8], name: usize) -> usize
+    ensures { λ r. ⌜ r ≡ timesOf (standing (now (s .entry)) name) ⌝ }
+{
+    match find(s, name) {
+        Found::Absent => 0,
+        Found::Once { start: _, end: _ } => 1,
+        Found::Twice => 2,
+    }
+}
+
+// The value under a name that stands there once; else nothing.
+pub fn value_of(s: &[u8], name: usize) -> &[u8]
+    ensures { λ r. ⌜ now r ≡ valueOf (standing (now (s .entry)) name) ⌝ }
+{
+    match find(s, name) {
+        Found::Absent => &s[0..0],
+        Found::Once { start, end } => value(s, start, end),
+        Found::Twice => &s[0..0],
+    }
+}
+
+fn is_wrong(s: &[u8], name: usize) -> bool
+    ensures { λ r. ⌜ r ≡ wrongValue name (standing (now (s .entry)) name) ⌝ }
+{
+    match find(s, name) {
+        Found::Absent => false,
+        Found::Once { start, end } => !is_right(name, value(s, start, end)),
+        Found::Twice => false,
+    }
+}
+
+// Whether one of the names stands there n times.
+pub fn any_times(s: &[u8], n: usize, names: &[usize]) -> bool
+    ensures { λ r. ⌜ r ≡ anyTimes n (now (names .entry)) (standing (now (s .entry))) ⌝ }
+{
+    let mut i = 0;
+    while i < names.len() {
+        if times(s, names[i]) == n {
+            return true;
+        }
+        i += 1;
+    }
+    false
+}
+
+// Whether one of them has a wrong value.
+pub fn any_wrong(s: &[u8], names: &[usize]) -> bool
+    ensures { λ r. ⌜ r ≡ anyWrong (now (names .entry)) (standing (now (s .entry))) ⌝ }
+{
+    let mut i = 0;
+    while i < names.len() {
+        if is_wrong(s, names[i]) {
+            return true;
+        }
+        i += 1;
+    }
+    false
+}

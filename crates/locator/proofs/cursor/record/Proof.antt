@@ -1,0 +1,33 @@
+-- `locator::cursor::record` meets its contract: the entry's first record and those that are done.
+-- Assumes nothing.
+use mathlib.Core.Path.{_≡_, refl, sym, ap, _∙_}
+use mathlib.Core.List.{List}
+use Prim.Native.Nat.{ℕ, _+_}
+use native.Mathlib.Omega.{arith}
+use lib.ListN.{getD}
+use borrow.Author.Needs.{needs}
+use Rattle.lists.proofs.Choice.{pick-yes, pick-no}
+use Rattle.locator.specs.Entries.{firstEntry}
+use Rattle.locator.specs.Cursor.{entryAt, recordAt}
+use Rattle.locator.proofs.cursor.record.Statement.{statement}
+use Rattle.locator.proofs.cursor.record.Tie as tie
+
+add-result : tie.Need-add-result
+add-result c =
+    let b = c .before .before .before in
+    omega (arith, b .before .is-left .ensures .1 (b .if1 .taken))
+
+returns : tie.Need-returns
+unfolding recordAt entryAt firstEntry
+returns c =
+    let b = c .before .before .before in
+    let left = sym (b .before .is-left .ensures .0) ∙ b .if1 .taken in
+    let first = c .before .byte .ensures .0 ∙ ap (λ (s : List ℕ). getD s 1 0) (c .before .before .from-entry .ensures) in
+    ap (λ (n : ℕ). n + b .before .before .before .args .c .done) first ∙ sym (ap (λ (p : ℕ × ℕ). p .0) (pick-yes _ _ _ left))
+
+returns-2 : tie.Need-returns-2
+unfolding recordAt
+returns-2 c = sym (ap (λ (p : ℕ × ℕ). p .0) (pick-no _ _ _ (sym (c .before .is-left .ensures .0) ∙ c .if1 .left)))
+
+pub record-spec : {M : Type 1} → statement M
+record-spec = tie.close (tie.spec (λ c κs. search needs) (λ c κs. search needs) (λ c κs. search needs) add-result returns returns-2)
