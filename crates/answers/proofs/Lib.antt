@@ -1,3 +1,10 @@
 pub mod Standing
+pub mod Absent
+pub mod AcceptedAnswers
+pub mod AlikeAnswers
+pub mod BothForms
 pub mod Opened
 mod SelectWorked
+mod OptionsWorked
+mod RecordsWorked
+mod CryptogramWorked

@@ -18,7 +18,7 @@ abbrev pub mandatoryNames : List ℕ
 mandatoryNames = 0x9F27 ∷ 0x9F36 ∷ 0x9F26 ∷ []
 
 abbrev pub cryptogramNames : List ℕ
-cryptogramNames = 0x9F27 ∷ 0x9F36 ∷ 0x9F26 ∷ 0x9F10 ∷ []
+cryptogramNames = mandatoryNames ++ (0x9F10 ∷ [])
 
 -- the bytes that begin with 9F27's one byte: its own value, or all of the joined ones
 unfoldable pub informationOf : List ℕ → List ℕ

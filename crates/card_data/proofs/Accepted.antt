@@ -3,21 +3,21 @@
 -- Assumes nothing.
 use mathlib.Core.Path.{_≡_, refl, sym, ap, _∙_}
 use mathlib.Core.Bool.{Bool, true, false, not, _||_, false≢true}
-use mathlib.Core.List.{List, [], _∷_, _++_, map}
-use Prim.Native.Nat.{ℕ, zero, suc, _-_, _≤_, _<_}
-use native.Mathlib.Omega.{arith}
-use lib.Dec.{ltb, eqb}
+use mathlib.Core.List.{List, [], _∷_, map}
+use Prim.Native.Nat.{ℕ, _-_, _≤_}
+use lib.Dec.{eqb}
 use lib.ListN.{length, getD}
-use borrow.Author.Tests.{eqb-true, eqb-false, eq-eqb, not-false, le-ltb}
+use borrow.Author.Tests.{eqb-true, eqb-false, eq-eqb, ne-eqb, not-false, le-ltb}
 use Rattle.lists.specs.Choice.{pick, firstOf}
 use Rattle.lists.proofs.Choice.{pick-yes, pick-no, either}
 use Rattle.objects.specs.Lookup.{Lookup, absent, once, twice}
 use Rattle.card_data.specs.Tables.{anyOf}
 use Rattle.card_data.specs.Content.{rightValue}
 use Rattle.card_data.specs.Answer.{sizeBad, statusBad, isOne, outerBad, frame}
-use Rattle.card_data.specs.Named.{times, wrongValue, anyTimes, anyWrong}
-use Rattle.card_data.proofs.Tables.{or-yes, or-no}
-use Rattle.card_data.proofs.Lines.{Numbered, line-no, last-no, line-clear}
+use Rattle.card_data.specs.Named.{listed, times, wrongValue, anyTimes, anyWrong}
+use Rattle.card_data.proofs.Tables.{or-no}
+use Rattle.card_data.proofs.Alike.{listed-first, listed-also}
+use Rattle.card_data.proofs.Lines.{Numbered, line-clear}
 use Rattle.card_data.proofs.Outer.{size-right}
 
 -- neither of two tests holds
@@ -26,14 +26,21 @@ or-clear true t e = absurd (false≢true (sym e))
 or-clear false t e = (refl, e)
 
 -- none of several
-pub any-clear : (p : ℕ → Bool) (names : List ℕ) → anyOf (map p names) ≡ false → (k : ℕ) → k < length names → p (getD names k 0) ≡ false
-unfolding anyOf
-any-clear p [] e k h = absurd (omega arith)
-any-clear p (n ∷ ns) e zero h = either (p n) (λ y. absurd (false≢true (sym e ∙ pick-yes _ _ _ y))) (λ f. f)
-any-clear p (n ∷ ns) e (suc k) h =
+pub any-clear : (p : ℕ → Bool) (names : List ℕ) → anyOf (map p names) ≡ false → (name : ℕ) → listed name names ≡ true → p name ≡ false
+unfolding anyOf listed
+any-clear p [] e name l = absurd (false≢true l)
+any-clear p (n ∷ ns) e name l =
     either (p n)
     (λ y. absurd (false≢true (sym e ∙ pick-yes _ _ _ y)))
-    (λ f. any-clear p ns (sym (pick-no _ _ _ f) ∙ e) k (omega arith))
+    (λ f.
+    either (eqb name n)
+    (λ y. ap p (eqb-true name n y) ∙ f)
+    (λ k. any-clear p ns (sym (pick-no _ _ _ f) ∙ e) name (sym (pick-no _ _ _ k) ∙ l)))
+
+pub any-none : (p : ℕ → Bool) (names : List ℕ) → ((name : ℕ) → listed name names ≡ true → p name ≡ false) → anyOf (map p names) ≡ false
+unfolding anyOf listed
+any-none p [] f = refl
+any-none p (n ∷ ns) f = pick-no _ _ _ (f n (listed-first n ns)) ∙ any-none p ns (λ name l. f name (listed-also name n ns l))
 
 -- where no line applies there is no reason, and where there is none no line applies
 abbrev pub AllClear : List (Bool × ℕ) → Type 0
@@ -85,16 +92,29 @@ once-found absent t m = absurd (m refl)
 once-found (once v) t m = (v, refl)
 once-found twice t m = absurd (t refl)
 
-module _ (names : List ℕ) (look : ℕ → Lookup) (k : ℕ) (h : k < length names) where
-  pub named-times : (n : ℕ) → anyTimes n names look ≡ false → times (look (getD names k 0)) ≡ n → ⊥
+module _ (names : List ℕ) (look : ℕ → Lookup) where
+  pub named-times : (n : ℕ) → anyTimes n names look ≡ false → (name : ℕ) → listed name names ≡ true → times (look name) ≡ n → ⊥
   unfolding anyTimes
-  named-times n e = eqb-false _ n (any-clear (λ name. eqb (times (look name)) n) names e k h)
+  named-times n e name l = eqb-false _ n (any-clear (λ name. eqb (times (look name)) n) names e name l)
 
-  pub named-once : anyTimes 2 names look ≡ false → anyTimes 0 names look ≡ false → (v : List ℕ) × (look (getD names k 0) ≡ once v)
-  named-once t m = once-found (look (getD names k 0)) (named-times 2 t) (named-times 0 m)
+  pub times-none : (n : ℕ) → ((name : ℕ) → listed name names ≡ true → times (look name) ≡ n → ⊥) → anyTimes n names look ≡ false
+  unfolding anyTimes
+  times-none n f = any-none (λ name. eqb (times (look name)) n) names (λ name l. ne-eqb _ n (f name l))
 
-  pub named-right : anyWrong names look ≡ false → (v : List ℕ) → look (getD names k 0) ≡ once v → rightValue (getD names k 0) v ≡ true
+  pub named-once : anyTimes 2 names look ≡ false → anyTimes 0 names look ≡ false → (name : ℕ) → listed name names ≡ true → (v : List ℕ) × (look name ≡ once v)
+  named-once t m name l = once-found (look name) (named-times 2 t name l) (named-times 0 m name l)
+
+  pub named-right : anyWrong names look ≡ false → (name : ℕ) (v : List ℕ) → listed name names ≡ true → look name ≡ once v → rightValue name v ≡ true
   unfolding anyWrong wrongValue
-  named-right e v f =
-      let w = any-clear (λ name. wrongValue name (look name)) names e k h in
-      not-false _ (sym (ap (wrongValue (getD names k 0)) f) ∙ w)
+  named-right e name v l f =
+      not-false _ (sym (ap (wrongValue name) f) ∙ any-clear (λ name. wrongValue name (look name)) names e name l)
+
+  right-none : (name : ℕ) (l : Lookup) → ((v : List ℕ) → l ≡ once v → rightValue name v ≡ true) → wrongValue name l ≡ false
+  unfolding wrongValue
+  right-none name absent f = refl
+  right-none name (once v) f = ap not (f v refl)
+  right-none name twice f = refl
+
+  pub wrong-none : ((name : ℕ) (v : List ℕ) → listed name names ≡ true → look name ≡ once v → rightValue name v ≡ true) → anyWrong names look ≡ false
+  unfolding anyWrong
+  wrong-none f = any-none (λ name. wrongValue name (look name)) names (λ name l. right-none name (look name) (λ v. f name v l))

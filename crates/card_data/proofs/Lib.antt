@@ -4,6 +4,7 @@ pub mod Limits
 pub mod Lines
 pub mod Outer
 pub mod Members
-pub mod Accepted
+pub mod Sizes
 pub mod Alike
+pub mod Accepted
 mod Pinned

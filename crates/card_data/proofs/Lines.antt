@@ -1,7 +1,7 @@
 -- A list of reasons, read from the top: a line whose test holds is the answer, one whose test fails leaves it to the lines
 -- below. In two lists, one after the other, the first decides unless none of its lines applies.
 -- Assumes nothing.
-use mathlib.Core.Path.{_≡_, refl, sym, ap, _∙_}
+use mathlib.Core.Path.{_≡_, refl, sym, ap, ap₂, _∙_}
 use mathlib.Core.Bool.{Bool, true, false}
 use mathlib.Core.List.{List, [], _∷_, _++_}
 use Prim.Native.Nat.{ℕ}
@@ -24,6 +24,11 @@ module _ {r t : Bool} (e : r ≡ t) (n : ℕ) (lines : List (Bool × ℕ)) where
 pub last-no : {r t : Bool} (e : r ≡ t) (n : ℕ) → r ≡ false → firstOf ((t, n) ∷ []) ≡ 0
 unfolding firstOf
 last-no e n h = line-no e n [] h
+
+-- two lists of lines that agree from a line on
+pub one-more : {t t′ : Bool} (n : ℕ) (x y : List (Bool × ℕ)) → t ≡ t′ → firstOf x ≡ firstOf y → firstOf ((t, n) ∷ x) ≡ firstOf ((t′, n) ∷ y)
+unfolding firstOf
+one-more n x y e f = ap₂ (λ (t : Bool) (r : ℕ). pick t n r) e f
 
 -- every line has a number
 abbrev pub Numbered : List (Bool × ℕ) → Type 0

@@ -1,14 +1,14 @@
 -- Members by look-up. In a list the look-up by place finds what stands among the members; and wherever 01 names a constructed
--- object, its value, or nothing in its stead, is a list again.
+-- object, its value, or nothing in its stead, is a list again. Values have room for no more than the answer has bytes.
 -- Assumes nothing.
 use mathlib.Core.Path.{_≡_, refl, sym, ap, subst, fun-ext, _∙_}
 use mathlib.Core.Bool.{Bool, true, false, false≢true}
 use mathlib.Core.List.{List, [], _∷_}
 use mathlib.Core.Option.{Option, none, some, Option·getD}
-use Prim.Native.Nat.{ℕ, _<_}
+use Prim.Native.Nat.{ℕ, _+_, _-_, _≤_, _<_}
 use native.Mathlib.Omega.{arith}
 use lib.Dec.{eqb}
-use lib.ListN.{length, drop, length-drop}
+use lib.ListN.{length, drop, length-take, length-drop}
 use borrow.Author.Tests.{eqb-true}
 use Rattle.lists.specs.Choice.{pick}
 use Rattle.lists.proofs.Choice.{pick-yes, pick-no, picked}
@@ -25,6 +25,7 @@ use Rattle.objects.proofs.Reading.{following, objects-next, next-ahead}
 use Rattle.objects.proofs.Walking.{find-lookup}
 use Rattle.card_data.specs.Answer.{sizeBad, only, outer, valueUnder, inside}
 use Rattle.card_data.specs.Named.{membersIn, among, direct, standing, told, valueOf}
+use Rattle.card_data.proofs.Outer.{size-right, data-length}
 
 -- the members of a list
 pub members-of : (s : List ℕ) → isList s ≡ true → objects s ≡ some (membersIn s)
@@ -44,39 +45,48 @@ pub empty-list : isList [] ≡ true
 unfolding isList isSome
 empty-list = ap isSome objects-empty
 
--- every constructed one of some objects has a list in it
-pub data ListsInside : List Object → Type 0 where
-  none-left : ListsInside []
-  and-then : {m : Object} {ms : List Object} → (constructed (m .tag) ≡ true → isList (m .value) ≡ true) → ListsInside ms → ListsInside (m ∷ ms)
+-- objects as they stand in a list of n bytes: every constructed one has a list in it, and each value is shorter than the
+-- list by the two bytes, at least, of its tag and its length
+pub data Held (n : ℕ) : List Object → Type 0 where
+  none-left : Held n []
+  and-then : {m : Object} {ms : List Object} → (constructed (m .tag) ≡ true → isList (m .value) ≡ true) → length (m .value) + 2 ≤ n → Held n ms → Held n (m ∷ ms)
+
+wider : {ms : List Object} (n k : ℕ) → n ≤ k → Held n ms → Held k ms
+wider n k h none-left = none-left
+wider n k h (and-then l s rest) = and-then l (omega arith) (wider n k h rest)
 
 right-inside : (m : Object) → rightInside objects m ≡ true → constructed (m .tag) ≡ true → isList (m .value) ≡ true
 unfolding rightInside isList
 right-inside m r c = sym (pick-yes _ _ _ c) ∙ r
 
 abbrev Goes : List ℕ → Type 0
-Goes s = (ms : List Object) → objects s ≡ some ms → ListsInside ms
+Goes s = (ms : List Object) → objects s ≡ some ms → Held (length s) ms
 
-with-rest : (m : Object) (o : Option (List Object)) (ms : List Object) → (constructed (m .tag) ≡ true → isList (m .value) ≡ true)
-    → before m o ≡ some ms → ((rest : List Object) → o ≡ some rest → ListsInside rest) → ListsInside ms
+with-rest : (n : ℕ) (m : Object) (o : Option (List Object)) (ms : List Object) → (constructed (m .tag) ≡ true → isList (m .value) ≡ true) → length (m .value) + 2 ≤ n
+    → before m o ≡ some ms → ((rest : List Object) → o ≡ some rest → Held n rest) → Held n ms
 unfolding before
-with-rest m none ms r e h = absurd (let z : _≡_ {A = ℕ} 0 1 = cc in omega arith)
-with-rest m (some rest) ms r e h =
+with-rest n m none ms r k e h = absurd (let z : _≡_ {A = ℕ} 0 1 = cc in omega arith)
+with-rest n m (some rest) ms r k e h =
     let same : m ∷ rest ≡ ms = cc in
-    subst ListsInside same (and-then r (h rest refl))
+    subst (Held n) same (and-then r k (h rest refl))
 
-step : (s : List ℕ) (ms : List Object) → ((t : List ℕ) → length t < length s → Goes t) → (x : Next) → nextAt s 0 ≡ x → following s x ≡ some ms → ListsInside ms
-unfolding following
+step : (s : List ℕ) (ms : List Object) → ((t : List ℕ) → length t < length s → Goes t) → (x : Next) → nextAt s 0 ≡ x → following s x ≡ some ms → Held (length s) ms
+unfolding following between
 step s ms shorter (Member tag start end) f =
     let m : Object = record { tag = tag; value = between s start end } in
     let ahead = next-ahead s 0 tag start end f in
-    picked (λ o. o ≡ some ms → ListsInside ms) (rightInside objects m) (before m (objects (drop end s))) none
-    (λ r e. with-rest m (objects (drop end s)) ms (right-inside m r) e (λ rest. shorter (drop end s) (rw length-drop (omega arith)) rest))
+    let size = length-take (end - start) (drop start s) in
+    let left = length-drop end s in
+    picked (λ o. o ≡ some ms → Held (length s) ms) (rightInside objects m) (before m (objects (drop end s))) none
+    (λ r e.
+    with-rest (length s) m (objects (drop end s)) ms (right-inside m r) (omega arith) e
+    (λ rest g. wider (length (drop end s)) (length s) (omega arith) (shorter (drop end s) (omega arith) rest g)))
     (λ r e. absurd (let z : _≡_ {A = ℕ} 0 1 = cc in omega arith))
-step s ms shorter End f = λ e. let none′ : [] ≡ ms = cc in subst ListsInside none′ none-left
+step s ms shorter End f = λ e. let none′ : [] ≡ ms = cc in subst (Held (length s)) none′ none-left
 step s ms shorter Broken f = λ e. absurd (let z : _≡_ {A = ℕ} 0 1 = cc in omega arith)
 
-pub lists-inside : (s : List ℕ) → Goes s
-lists-inside = by-length Goes (λ s shorter ms e. step s ms shorter (nextAt s 0) refl (sym (objects-next s 0) ∙ e))
+pub held : (s : List ℕ) → Goes s
+held = by-length Goes (λ s shorter ms e. step s ms shorter (nextAt s 0) refl (sym (objects-next s 0) ∙ e))
 
 met-list : (v : List ℕ) (l : Lookup) → isList v ≡ true → isList (valueOf (met v l)) ≡ true
 unfolding met valueOf told
@@ -84,39 +94,79 @@ met-list v absent e = e
 met-list v (once w) e = empty-list
 met-list v twice e = empty-list
 
+met-size : (n : ℕ) (v : List ℕ) (l : Lookup) → length v ≤ n → length (valueOf (met v l)) ≤ n
+unfolding met valueOf told
+met-size n v absent h = h
+met-size n v (once w) h = omega arith
+met-size n v twice h = omega arith
+
 -- a constructed object that is looked up
-pub looked-list : {ms : List Object} (tag : ℕ) → constructed tag ≡ true → ListsInside ms → isList (valueOf (lookup tag ms)) ≡ true
+looked-list : (n : ℕ) {ms : List Object} (tag : ℕ) → constructed tag ≡ true → Held n ms → isList (valueOf (lookup tag ms)) ≡ true
 unfolding lookup valueOf told
-looked-list tag c none-left = empty-list
-looked-list tag c (and-then {m} {ms} h rest) =
+looked-list n tag c none-left = empty-list
+looked-list n tag c (and-then {m} {ms} h k rest) =
     picked (λ l. isList (valueOf l) ≡ true) (eqb (m .tag) tag) (met (m .value) (lookup tag ms)) (lookup tag ms)
     (λ y. met-list (m .value) (lookup tag ms) (h (ap constructed (eqb-true _ _ y) ∙ c)))
-    (λ n. looked-list tag c rest)
+    (λ e. looked-list n tag c rest)
+
+looked-size : (n : ℕ) {ms : List Object} (tag : ℕ) → Held n ms → length (valueOf (lookup tag ms)) ≤ n - 2
+unfolding lookup valueOf told
+looked-size n tag none-left = omega arith
+looked-size n tag (and-then {m} {ms} h k rest) =
+    picked (λ l. length (valueOf l) ≤ n - 2) (eqb (m .tag) tag) (met (m .value) (lookup tag ms)) (lookup tag ms)
+    (λ y. met-size (n - 2) (m .value) (lookup tag ms) (omega arith))
+    (λ e. looked-size n tag rest)
 
 named-list : (s : List ℕ) (tag : ℕ) → isList s ≡ true → constructed tag ≡ true → isList (valueOf (lookup tag (membersIn s))) ≡ true
-named-list s tag e c = looked-list tag c (lists-inside s (membersIn s) (members-of s e))
+named-list s tag e c = looked-list (length s) tag c (held s (membersIn s) (members-of s e))
+
+among-size : (s : List ℕ) (name : ℕ) → length (valueOf (among s name)) ≤ length s - 2
+unfolding among membersIn
+among-size s name = go (objects s) (held s)
+  where
+    go : (o : Option (List Object)) → ((ms : List Object) → o ≡ some ms → Held (length s) ms) → length (valueOf (lookup name (Option·getD o []))) ≤ length s - 2
+    go none h = looked-size (length s) name none-left
+    go (some ms) h = looked-size (length s) name (h ms refl)
 
 -- the one object of an answer
-under-list : (tag : ℕ) → constructed tag ≡ true → (o : Option (List Object)) → ((ms : List Object) → o ≡ some ms → ListsInside ms)
-    → isList (valueUnder tag (only o)) ≡ true
+alone : (n tag : ℕ) {m : Object} → Held n (m ∷ []) → (constructed tag ≡ true → isList (pick (eqb (m .tag) tag) (m .value) []) ≡ true) × (length (pick (eqb (m .tag) tag) (m .value) []) ≤ n - 2)
+alone n tag (and-then {m} in-it k rest) = (
+  λ c. picked (λ v. isList v ≡ true) (eqb (m .tag) tag) (m .value) [] (λ y. in-it (ap constructed (eqb-true _ _ y) ∙ c)) (λ e. empty-list),
+  picked (λ v. length v ≤ n - 2) (eqb (m .tag) tag) (m .value) [] (λ y. omega arith) (λ e. omega arith),
+)
+
+under : (n tag : ℕ) (o : Option (List Object)) → ((ms : List Object) → o ≡ some ms → Held n ms)
+    → (constructed tag ≡ true → isList (valueUnder tag (only o)) ≡ true) × (length (valueUnder tag (only o)) ≤ n - 2)
 unfolding valueUnder only
-under-list tag c none h = empty-list
-under-list tag c (some []) h = empty-list
-under-list tag c (some (m ∷ [])) h = alone (h (m ∷ []) refl)
-  where
-    alone : ListsInside (m ∷ []) → isList (pick (eqb (m .tag) tag) (m .value) []) ≡ true
-    alone (and-then in-it rest) =
-        picked (λ v. isList v ≡ true) (eqb (m .tag) tag) (m .value) []
-        (λ y. in-it (ap constructed (eqb-true _ _ y) ∙ c))
-        (λ n. empty-list)
-under-list tag c (some (m ∷ n ∷ ms)) h = empty-list
+under n tag none h = ((λ c. empty-list), omega arith)
+under n tag (some []) h = ((λ c. empty-list), omega arith)
+under n tag (some (m ∷ [])) h = alone n tag (h (m ∷ []) refl)
+under n tag (some (m ∷ k ∷ ms)) h = ((λ c. empty-list), omega arith)
 
 pub inside-list : (tag : ℕ) (a : List ℕ) → constructed tag ≡ true → isList (inside tag a) ≡ true
 unfolding inside outer valueUnder
 inside-list tag a c =
     picked (λ o. isList (valueUnder tag o) ≡ true) (sizeBad a) none (only (objects (dataField a)))
     (λ y. empty-list)
-    (λ n. under-list tag c (objects (dataField a)) (lists-inside (dataField a)))
+    (λ n. under (length (dataField a)) tag (objects (dataField a)) (held (dataField a)) .0 c)
+
+-- what an answer can hold: 258 bytes, less its status, and two bytes less at each depth
+pub inside-size : (tag : ℕ) (a : List ℕ) → length (inside tag a) ≤ 254
+unfolding inside outer valueUnder
+inside-size tag a =
+    picked (λ o. length (valueUnder tag o) ≤ 254) (sizeBad a) none (only (objects (dataField a)))
+    (λ y. omega arith)
+    (λ n.
+    let size = size-right a n in
+    let data-size = data-length a in
+    omega (arith, under (length (dataField a)) tag (objects (dataField a)) (held (dataField a)) .1))
+
+pub direct-size : (tag : ℕ) (a : List ℕ) (name : ℕ) → length (valueOf (direct tag a name)) ≤ 252
+unfolding direct
+direct-size tag a name = let outside = inside-size tag a in omega (arith, among-size (inside tag a) name)
+
+pub inner-size : (tag name inner : ℕ) (a : List ℕ) → length (valueOf (among (valueOf (direct tag a name)) inner)) ≤ 250
+inner-size tag name inner a = let outside = direct-size tag a name in omega (arith, among-size (valueOf (direct tag a name)) inner)
 
 -- what the search found tells what stands there
 pub by-place : (s : List ℕ) (name : ℕ) {r f : Found} → r ≡ findIn s name → r ≡ f → standing s name ≡ foundValue s f

@@ -110,9 +110,12 @@ module _ (a : List ℕ) where
       let high = ltb-false 258 (length a) (sym (or-no refl _ (le-ltb (length a) 2 low)) ∙ e) in
       (low, high)
 
-  pub data-short : sizeBad a ≡ false → length (dataField a) ≤ 4096
+  pub data-length : length (dataField a) ≤ length a - 2
   unfolding dataField
-  data-short e = let size = size-right e in rw length-take (omega arith)
+  data-length = rw length-take (omega arith)
+
+  pub data-short : sizeBad a ≡ false → length (dataField a) ≤ 4096
+  data-short e = let size = size-right e in let data-size = data-length in omega arith
 
   -- the place of what was found tells the object
   pub by-place : {r n : Next} → theOne (dataField a) r ≡ outer a → r ≡ n → outer a ≡ theOne (dataField a) n

@@ -17,10 +17,13 @@ use Rattle.card_data.specs.Content.{rightValue}
 unfoldable pub membersIn : List ℕ → List Object
 membersIn s = Option·getD (objects s) []
 
+unfoldable pub listed : ℕ → List ℕ → Bool
+listed name names = anyOf (map (eqb name) names)
+
 -- those of some objects that are named, in their order
 unfoldable pub named : List ℕ → List Object → List Object
 named names [] = []
-named names (m ∷ ms) = pick (anyOf (map (eqb (m .tag)) names)) (m ∷ named names ms) (named names ms)
+named names (m ∷ ms) = pick (listed (m .tag) names) (m ∷ named names ms) (named names ms)
 
 -- what stands under a name among the direct members of some bytes
 unfoldable pub among : List ℕ → ℕ → Lookup
