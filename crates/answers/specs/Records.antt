@@ -5,13 +5,13 @@ use mathlib.Core.List.{List, [], _∷_, _++_, map}
 use mathlib.Core.Option.{Option, none, some, Option·getD}
 use Prim.Native.Nat.{ℕ}
 use lib.Dec.{eqb}
-use Rattle.lists.specs.Choice.{firstOf}
+use Rattle.lists.specs.Choice.{pick, firstOf}
 use Rattle.objects.specs.Objects.{isSome}
 use Rattle.objects.specs.Lookup.{Lookup}
 use Rattle.object_lists.specs.Wanted.{fillable}
 use Rattle.card_data.specs.Tables.{anyOf, beside}
 use Rattle.card_data.specs.Answer.{frame}
-use Rattle.card_data.specs.Named.{direct, times, told, anyTwice, anyWrong}
+use Rattle.card_data.specs.Named.{listed, direct, times, told, anyTwice, anyWrong}
 use Rattle.answers.specs.declared.records.Seen.{Seen}
 
 abbrev pub recordTag : ℕ
@@ -47,6 +47,10 @@ recordReason before a = firstOf (frame (recordTag ∷ []) a ++ recordLines befor
 -- what a record tells of a name
 unfoldable pub valueIn : ℕ → List ℕ → Option (List ℕ)
 valueIn name a = told (direct recordTag a name)
+
+-- the same of a name that counts; objects not named for a record are ignored there
+unfoldable pub namedIn : ℕ → List ℕ → Option (List ℕ)
+namedIn name a = pick (listed name recordNames) (valueIn name a) none
 
 unfoldable pub incomplete : (ℕ → Bool) → Bool
 incomplete there = anyOf (map (λ name. not (there name)) mandatory)

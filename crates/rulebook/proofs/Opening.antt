@@ -33,9 +33,9 @@ use Rattle.card_data.specs.Content.{meets as a·meets, rules as a·rules, ruleF
 use Rattle.answers.specs.Cryptogram.{informationOf as a·informationOf, cryptogramOf as a·cryptogramOf, cryptogramWrong as a·cryptogramWrong, cryptogramLines as a·cryptogramLines, cryptogramReason as a·cryptogramReason, allows as a·allows}
 use Rattle.answers.specs.Forms.{lacks as a·lacks}
 use Rattle.locator.specs.Entries.{firstEntry as a·firstEntry, entries as a·entries, wholeEntries as a·wholeEntries, sfi as a·sfi, records as a·records, fileRight as a·fileRight, entryRight as a·entryRight, entriesRight as a·entriesRight, recordsOf as a·recordsOf, recordCount as a·recordCount, tooMany as a·tooMany, run as a·run, readEntry as a·readEntry, readAll as a·readAll, toRead as a·toRead}
-use Rattle.card_data.specs.Named.{membersIn as a·membersIn, named as a·named, among as a·among, direct as a·direct, standing as a·standing, times as a·times, told as a·told, valueOf as a·valueOf, wrongValue as a·wrongValue, anyTimes as a·anyTimes, anyWrong as a·anyWrong}
+use Rattle.card_data.specs.Named.{membersIn as a·membersIn, named as a·named, among as a·among, direct as a·direct, standing as a·standing, times as a·times, told as a·told, valueOf as a·valueOf, wrongValue as a·wrongValue, anyTimes as a·anyTimes, anyWrong as a·anyWrong, listed as a·listed}
 use Rattle.answers.specs.Options.{profileOf as a·profileOf, locatorOf as a·locatorOf, optionsWrong as a·optionsWrong, optionsLines as a·optionsLines, optionsReason as a·optionsReason}
-use Rattle.answers.specs.Records.{again as a·again, anyAgain as a·anyAgain, recordTwice as a·recordTwice, recordLines as a·recordLines, recordReason as a·recordReason, valueIn as a·valueIn, incomplete as a·incomplete, completeReason as a·completeReason, afterRecords as a·afterRecords, toldBy as a·toldBy}
+use Rattle.answers.specs.Records.{again as a·again, anyAgain as a·anyAgain, recordTwice as a·recordTwice, recordLines as a·recordLines, recordReason as a·recordReason, valueIn as a·valueIn, namedIn as a·namedIn, incomplete as a·incomplete, completeReason as a·completeReason, afterRecords as a·afterRecords, toldBy as a·toldBy}
 use Rattle.answers.specs.Select.{inner as a·inner, begins as a·begins, nameWrong as a·nameWrong, selectTwice as a·selectTwice, selectWrong as a·selectWrong, selectLines as a·selectLines, selectReason as a·selectReason, pdolOf as a·pdolOf}
 use Rattle.card_data.specs.Tables.{anyOf as a·anyOf, beside as a·beside}
 use Rattle.rulebook.specs.Situation.{begun as r·begun, perhaps as r·perhaps, profileKnown as r·profileKnown, knownIn as r·knownIn, cardFacts as r·cardFacts, issuerCodes as r·issuerCodes, listIn as r·listIn}
@@ -47,5 +47,5 @@ use Rattle.rulebook.proofs.Running.{State, at, alike as m·alike, due a
 
 -- the state that a session's entries lead to
 unfoldable pub reached : List Entry → Option State
-unfolding l·pick l·firstOf l·counted l·shorter l·put l·laid l·zeros o·firstByte o·constructed o·twoBytes o·tagSize o·tagOf o·tagRight o·lengthByte o·lengthForm o·lengthSize o·lengthOf o·valueStart o·valueEnd o·whole o·met o·lookup o·between o·firstObject o·isSome o·before o·rightInside o·listed o·objects o·isList o·readRefusal o·dataField o·isTag o·tagBytes o·lengthBytes o·written o·writtenAll o·fitsTag o·writeRefusal o·refusalOf o·sizeOf o·sizeWritten o·bufferAfter t·dateKey t·monthAndDay t·validStartDate t·validCardDate t·decimalFrom t·decimal t·decimalByte t·digitsOnly t·zerosOnly t·readingOf t·validKind t·validDigits t·validRandom t·validPercentages t·validThreshold t·validAid t·validStart t·terminalOf t·every t·between d·joined d·meet d·same d·flag d·codeIn d·saidBy d·replyOf d·responseCode d·issuerCode d·codeMatch d·byType d·firstRequest d·whenUnable d·secondRequest d·givenBy d·differentVersions d·expired d·notYetEffective d·riskManaged d·atFloorLimit d·drawn d·restrictions d·risks d·tvrAfterRecords d·tsiAfterRecords d·tsiAfterFirstAnswer d·biased d·chosen d·selected q·entryBytes q·firstBytes q·filled q·filledBy q·filledList q·filling q·held q·nothing q·kept q·beside q·ofTerminal q·ofSession q·orElse q·valueFor q·withFormat q·supplied q·shaped q·numeric q·formatOf q·andThen q·sizeAt q·firstWanted q·asks q·wantedStep q·entriesOf q·total q·totalBy q·totalOf q·fits q·fillable q·tally c·selectCommand c·optionsCommand c·recordCommand c·withLength c·cryptogramCommand c·sizeIn c·dataSize a·sizeBad a·statusBad a·only a·outer a·theOne a·tagged a·valueUnder a·isOne a·inside a·outerBad a·frame a·halves a·digits a·onlyF a·cardNumber a·wholeEntries a·meets a·rules a·ruleFor a·rightValue a·informationOf a·cryptogramOf a·cryptogramWrong a·cryptogramLines a·cryptogramReason a·allows a·lacks a·firstEntry a·entries a·sfi a·records a·fileRight a·entryRight a·entriesRight a·recordsOf a·recordCount a·tooMany a·run a·readEntry a·readAll a·toRead a·membersIn a·direct a·times a·told a·valueOf a·wrongValue a·anyTimes a·anyWrong a·again a·anyAgain a·profileOf a·locatorOf a·optionsWrong a·optionsLines a·optionsReason a·recordTwice a·recordLines a·recordReason a·valueIn a·incomplete a·completeReason a·afterRecords a·toldBy a·inner a·begins a·nameWrong a·selectTwice a·selectWrong a·named a·among a·standing a·selectLines a·selectReason a·pdolOf a·anyOf a·beside r·begun r·perhaps r·profileKnown r·knownIn r·cardFacts r·issuerCodes r·listIn r·situationOf r·commandOf r·decisionOf r·decided r·ended r·goesOn r·opened r·selected r·managed r·requested r·allRead r·readOn r·withProfile r·optioned r·withRecord r·recorded r·answered r·replied r·online r·byFirst r·firstAllows r·secondAllows r·firstAnswered r·secondAnswered r·turn r·heard r·isPayload m·alike m·due m·ofTerminal m·ofReply m·next m·andOn run
+unfolding l·pick l·firstOf l·counted l·shorter l·put l·laid l·zeros o·firstByte o·constructed o·twoBytes o·tagSize o·tagOf o·tagRight o·lengthByte o·lengthForm o·lengthSize o·lengthOf o·valueStart o·valueEnd o·whole o·met o·lookup o·between o·firstObject o·isSome o·before o·rightInside o·listed o·objects o·isList o·readRefusal o·dataField o·isTag o·tagBytes o·lengthBytes o·written o·writtenAll o·fitsTag o·writeRefusal o·refusalOf o·sizeOf o·sizeWritten o·bufferAfter t·dateKey t·monthAndDay t·validStartDate t·validCardDate t·decimalFrom t·decimal t·decimalByte t·digitsOnly t·zerosOnly t·readingOf t·validKind t·validDigits t·validRandom t·validPercentages t·validThreshold t·validAid t·validStart t·terminalOf t·every t·between d·joined d·meet d·same d·flag d·codeIn d·saidBy d·replyOf d·responseCode d·issuerCode d·codeMatch d·byType d·firstRequest d·whenUnable d·secondRequest d·givenBy d·differentVersions d·expired d·notYetEffective d·riskManaged d·atFloorLimit d·drawn d·restrictions d·risks d·tvrAfterRecords d·tsiAfterRecords d·tsiAfterFirstAnswer d·biased d·chosen d·selected q·entryBytes q·firstBytes q·filled q·filledBy q·filledList q·filling q·held q·nothing q·kept q·beside q·ofTerminal q·ofSession q·orElse q·valueFor q·withFormat q·supplied q·shaped q·numeric q·formatOf q·andThen q·sizeAt q·firstWanted q·asks q·wantedStep q·entriesOf q·total q·totalBy q·totalOf q·fits q·fillable q·tally c·selectCommand c·optionsCommand c·recordCommand c·withLength c·cryptogramCommand c·sizeIn c·dataSize a·sizeBad a·statusBad a·only a·outer a·theOne a·tagged a·valueUnder a·isOne a·inside a·outerBad a·frame a·halves a·digits a·onlyF a·cardNumber a·wholeEntries a·meets a·rules a·ruleFor a·rightValue a·informationOf a·cryptogramOf a·cryptogramWrong a·cryptogramLines a·cryptogramReason a·allows a·lacks a·firstEntry a·entries a·sfi a·records a·fileRight a·entryRight a·entriesRight a·recordsOf a·recordCount a·tooMany a·run a·readEntry a·readAll a·toRead a·membersIn a·direct a·times a·told a·valueOf a·wrongValue a·anyTimes a·anyWrong a·again a·anyAgain a·profileOf a·locatorOf a·optionsWrong a·optionsLines a·optionsReason a·recordTwice a·recordLines a·recordReason a·valueIn a·namedIn a·listed a·incomplete a·completeReason a·afterRecords a·toldBy a·inner a·begins a·nameWrong a·selectTwice a·selectWrong a·named a·among a·standing a·selectLines a·selectReason a·pdolOf a·anyOf a·beside r·begun r·perhaps r·profileKnown r·knownIn r·cardFacts r·issuerCodes r·listIn r·situationOf r·commandOf r·decisionOf r·decided r·ended r·goesOn r·opened r·selected r·managed r·requested r·allRead r·readOn r·withProfile r·optioned r·withRecord r·recorded r·answered r·replied r·online r·byFirst r·firstAllows r·secondAllows r·firstAnswered r·secondAnswered r·turn r·heard r·isPayload m·alike m·due m·ofTerminal m·ofReply m·next m·andOn run
 reached es = run es (at opens)

@@ -14,7 +14,7 @@ use Rattle.object_lists.specs.Wanted.{fillable}
 use Rattle.answers.specs.Select.{selectReason, pdolOf}
 use Rattle.answers.specs.Options.{optionsReason, profileOf, locatorOf}
 use Rattle.locator.specs.Entries.{toRead}
-use Rattle.answers.specs.Records.{recordReason, valueIn, afterRecords}
+use Rattle.answers.specs.Records.{recordReason, namedIn, afterRecords}
 use Rattle.answers.specs.Cryptogram.{cryptogramReason, cryptogramOf}
 use Rattle.decide.specs.Results.{tvrAfterRecords, tsiAfterRecords, tsiAfterFirstAnswer}
 use Rattle.decide.specs.Requests.{firstRequest, secondRequest, givenBy, firstAllowed, secondAllowed}
@@ -68,13 +68,13 @@ withProfile s profile = record { terminal = s .terminal; profile = profile; fact
 unfoldable pub optioned : Situation → List ℕ → Phase
 optioned s a = goesOn (optionsReason a) s (readOn (withProfile s (profileOf a)) (toRead (locatorOf a)))
 
--- what a record tells is added to what was told before
+-- what a record tells of the names that count is added to what was told before
 unfoldable pub withRecord : Situation → List ℕ → Situation
 withRecord s a =
     record {
       terminal = s .terminal;
       profile = s .profile;
-      facts = λ tag. orElse (s .facts tag) (valueIn tag a);
+      facts = λ tag. orElse (s .facts tag) (namedIn tag a);
       tvr = s .tvr;
       tsi = s .tsi;
     }
