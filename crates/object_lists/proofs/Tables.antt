@@ -7,8 +7,8 @@ use mathlib.Core.Option.{Option, none, some}
 use Prim.Native.Nat.{ℕ, _+_, _≤_, _<_, min}
 use native.Mathlib.Omega.{arith}
 use lib.Dec.{eqb}
-use lib.ListN.{length, take, length-take}
-use lib.Seq.{take-at, take-all}
+use lib.ListN.{length, take, drop, length-take, take-append-drop}
+use lib.Seq.{take-at, take-all, take-append-seam}
 use borrow.Author.Tests.{ne-eqb}
 use Rattle.lists.specs.Choice.{pick}
 use Rattle.lists.specs.Writing.{put, zeros}
@@ -17,6 +17,7 @@ use Rattle.lists.proofs.Writing.{put-start, zeros-length}
 use Rattle.object_lists.specs.Known.{held, longest, nothing, kept, beside}
 use Rattle.object_lists.specs.Shape.{numeric, formatOf}
 use Rattle.object_lists.specs.declared.Format.{Format}
+use Rattle.object_lists.specs.declared.Value.{Value}
 use Rattle.object_lists.specs.declared.Format.the-variants.{Numeric, CardNumber, Other}
 
 -- the tag is none of the table's
@@ -39,6 +40,12 @@ held-kept s h =
     let all : take longest s ≡ s = take-all longest s h in
     pick-yes _ _ _ refl
     ∙ ap some (ap (take (length (take longest s))) (put-start (take longest s) (zeros longest)) ∙ (take-at (take longest s) _ (length (take longest s)) refl ∙ all))
+
+-- as many bytes as count are those that count
+pub counting : (v : Value) (m : ℕ) (b : List ℕ) → b ≡ v .bytes → m ≡ length (take (v .len) (v .bytes)) → take m b ≡ take (v .len) (v .bytes)
+counting v m b e h =
+    ap₂ take h e
+    ∙ (ap (take (length (take (v .len) (v .bytes)))) (sym (take-append-drop (v .len) (v .bytes))) ∙ take-append-seam (take (v .len) (v .bytes)) (drop (v .len) (v .bytes)))
 
 -- a tag that is neither numeric nor the card number's
 pub other-format : (tag : ℕ) → (tag ≡ 0x9F02 → ⊥) → (tag ≡ 0x9F03 → ⊥) → (tag ≡ 0x9F1A → ⊥) → (tag ≡ 0x5F2A → ⊥) → (tag ≡ 0x9A → ⊥) → (tag ≡ 0x9C → ⊥) → (tag ≡ 0x5F24 → ⊥) → (tag ≡ 0x5F25 → ⊥) → (tag ≡ 0x5A → ⊥)

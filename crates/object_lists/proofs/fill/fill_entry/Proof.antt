@@ -1,12 +1,11 @@
 -- `fill::fill_entry` meets its contract: a value that is there is shaped, and where none is the room is all zeros.
 -- Assumes nothing.
-use mathlib.Core.Path.{_≡_, refl, sym, ap, ap₂, _∙_}
+use mathlib.Core.Path.{_≡_, refl, sym, ap, _∙_}
 use mathlib.Core.Bool.{Bool, true, false}
 use mathlib.Core.Option.{Option, none, some}
 use mathlib.Core.List.{List}
 use Prim.Native.Nat.{ℕ}
-use lib.ListN.{length, take, drop, take-append-drop}
-use lib.Seq.{take-append-seam}
+use lib.ListN.{length, take}
 use Rattle.lists.proofs.Choice.{pick-yes, pick-no}
 use Rattle.lists.specs.Writing.{zeros}
 use Rattle.object_lists.specs.Shape.{shaped}
@@ -14,6 +13,7 @@ use Rattle.object_lists.specs.Known.{held, withFormat}
 use Rattle.object_lists.specs.Filled.{entryBytes}
 use Rattle.object_lists.specs.declared.Format.{Format}
 use Rattle.object_lists.specs.declared.Value.{Value}
+use Rattle.object_lists.proofs.Tables.{counting}
 use borrow.Author.Needs.{needs}
 use Rattle.object_lists.proofs.fill.fill_entry.Statement.{statement}
 use Rattle.object_lists.proofs.fill.fill_entry.Tie as tie
@@ -26,12 +26,6 @@ module _ (n : ℕ) (f : Format) (v : Value) where
   not-there : v .there ≡ false → zeros n ≡ entryBytes n (withFormat f (held v))
   unfolding entryBytes withFormat held
   not-there e = sym (ap (λ (o : Option (List ℕ)). entryBytes n (withFormat f o)) (pick-no _ _ _ e))
-
--- as many bytes as count are those that count
-counting : (v : Value) (m : ℕ) (b : List ℕ) → b ≡ v .bytes → m ≡ length (take (v .len) (v .bytes)) → take m b ≡ take (v .len) (v .bytes)
-counting v m b e h =
-    ap₂ take h e
-    ∙ (ap (take (length (take (v .len) (v .bytes)))) (sym (take-append-drop (v .len) (v .bytes))) ∙ take-append-seam (take (v .len) (v .bytes)) (drop (v .len) (v .bytes)))
 
 slice-aggregate-shape : tie.Need-slice-aggregate-shape
 slice-aggregate-shape c =

@@ -1,0 +1,32 @@
+-- What the code reads off a state for its own calls, field by field. The rulebook's readings of the same state are equal to these
+-- (proofs/Agreeing).
+-- Assumes nothing.
+use mathlib.Core.List.{List}
+use Prim.Native.Nat.{ℕ}
+use Rattle.object_lists.specs.Known.{kept, held}
+use Rattle.object_lists.specs.declared.Value.{Value}
+use Rattle.object_lists.specs.declared.Known.{Known}
+use Rattle.decide.specs.Card.{given}
+use Rattle.decide.specs.declared.results.Facts.{Facts}
+use Rattle.rulebook.specs.Situation.{perhaps}
+use Rattle.state.specs.declared.State.{State}
+
+unfoldable pub decisionFacts : State → Facts
+decisionFacts s =
+    record { aip = s .profile; version = s .told .version; expiry = s .told .expiry .bytes; effective = s .told .effective }
+
+unfoldable pub knownWith : Value → Value → State → Known
+knownWith profile response s =
+    record {
+      tvr = kept (s .tvr);
+      tsi = kept (s .tsi);
+      response = response;
+      profile = profile;
+      number = perhaps (held (s .told .number));
+      expiry = perhaps (given (s .told .expiry .present) (s .told .expiry .bytes));
+      effective = perhaps (given (s .told .effective .present) (s .told .effective .bytes));
+      version = perhaps (given (s .told .version .present) (s .told .version .bytes));
+      default = perhaps (given (s .told .default .present) (s .told .default .bytes));
+      denial = perhaps (given (s .told .denial .present) (s .told .denial .bytes));
+      online = perhaps (given (s .told .online .present) (s .told .online .bytes));
+    }

@@ -1,0 +1,61 @@
+// What the decision rests on, and which names were told.
+use crate::State;
+use crate::Told;
+use answers::records::Seen;
+use decide::requests::Codes;
+use decide::results::Facts;
+ghost use mathlib.Core.Path.{_≡_};
+ghost use Rattle.objects.specs.Objects.{isSome};
+ghost use Rattle.answers.specs.Records.{toldBy};
+ghost use Rattle.decide.specs.Card.{codesOf};
+ghost use Rattle.rulebook.specs.Situation.{issuerCodes};
+ghost use Rattle.state.specs.Reading.{factsIn, late};
+ghost use Rattle.state.specs.Readings.{decisionFacts};
+
+
+pub fn seen(told: Told) -> Seen
+    ensures { λ r. ⌜ toldBy r ≡ (λ name. isSome (factsIn told name)) ⌝ }
+{
+    Seen {
+        number: told.number.there,
+        expiry: told.expiry.present,
+        effective: told.effective.present,
+        version: told.version.present,
+        first_list: told.first_list.there,
+        second_list: told.second_list.there,
+        default: told.default.present,
+        denial: told.denial.present,
+        online: told.online.present,
+    }
+}
+
+pub fn facts(s: State) -> Facts
+    ensures { λ r. ⌜ r ≡ decisionFacts s ⌝ }
+{
+    let told = s.told;
+    let aip = s.profile;
+    let version = told.version;
+    let date = told.expiry;
+    let expiry = date.bytes;
+    let effective = told.effective;
+    Facts {
+        aip,
+        version,
+        expiry,
+        effective,
+    }
+}
+
+pub fn codes(s: State) -> Codes
+    ensures { λ r. ⌜ codesOf r ≡ issuerCodes (late s) ⌝ }
+{
+    let told = s.told;
+    let denial = told.denial;
+    let online = told.online;
+    let default = told.default;
+    Codes {
+        denial,
+        online,
+        default,
+    }
+}
