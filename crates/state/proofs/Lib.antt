@@ -1,2 +1,4 @@
 pub mod Overlay
 pub mod Agreeing
+pub mod Telling
+pub mod Starting

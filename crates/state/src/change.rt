@@ -2,8 +2,8 @@
 use crate::Phase;
 use crate::State;
 use crate::Told;
-use crate::runs;
 use crate::records;
+use crate::runs;
 use answers::options;
 use lists::lay;
 use locator::cursor;

@@ -12,7 +12,6 @@ ghost use Rattle.rulebook.specs.Situation.{issuerCodes};
 ghost use Rattle.state.specs.Reading.{factsIn, late};
 ghost use Rattle.state.specs.Readings.{decisionFacts};
 
-
 pub fn seen(told: Told) -> Seen
     ensures { λ r. ⌜ toldBy r ≡ (λ name. isSome (factsIn told name)) ⌝ }
 {

@@ -2,8 +2,8 @@
 pub mod change;
 pub mod facts;
 pub mod known;
-pub mod runs;
 pub mod records;
+pub mod runs;
 
 use decide::requests::Code;
 use decide::requests::Cryptogram;

@@ -1,0 +1,59 @@
+-- A state that took START, or the answer to GPO, is read as the rulebook's situation after it.
+-- Assumes nothing.
+use mathlib.Core.Path.{_≡_, refl, sym, ap, _∙_}
+use mathlib.Core.Bool.{Bool, true, false}
+use mathlib.Core.List.{List, [], _∷_, map}
+use mathlib.Core.Option.{Option, none, some, Option·getD}
+use Prim.Native.Nat.{ℕ, _≤_}
+use native.Mathlib.Omega.{arith}
+use lib.Dec.{eqb}
+use lib.ListN.{length}
+use Rattle.lists.specs.Choice.{pick}
+use Rattle.lists.specs.Writing.{zeros}
+use Rattle.lists.proofs.Choice.{pick-same}
+use Rattle.terminal.specs.Reading.{readingOf}
+use Rattle.object_lists.specs.Known.{held, nothing, beside}
+use Rattle.locator.specs.Entries.{toRead}
+use Rattle.locator.specs.Cursor.{start, remaining}
+use Rattle.locator.proofs.Walking.{all-remain}
+use Rattle.answers.specs.Options.{optionsReason, profileOf, locatorOf}
+use Rattle.answers.proofs.AcceptedAnswers.{options-profile, locator-size}
+use Rattle.rulebook.specs.Situation.{begun as situationBegun}
+use Rattle.rulebook.specs.Turn.{withProfile}
+use Rattle.state.specs.Reading.{noRun, runHeld, inRun, toldLines, factsIn, situationWith, early, late, recordsLeft}
+use Rattle.state.specs.Keeping.{fixed, withOptions, toldNothing, stateAt, begun}
+use Rattle.state.specs.declared.State.{State}
+use Rattle.state.proofs.Telling.{fixed-all, run-kept}
+
+-- a table in which nothing stands beside any name
+empty-beside : (tag : ℕ) (names : List ℕ) → beside tag (map (λ n. (n, none)) names) ≡ none
+unfolding beside
+empty-beside tag [] = refl
+empty-beside tag (n ∷ names) = ap (pick (eqb tag n) none) (empty-beside tag names) ∙ pick-same (eqb tag n) none
+
+nothing-told : factsIn toldNothing ≡ (λ tag. none)
+unfolding factsIn toldLines toldNothing held nothing runHeld noRun pick
+nothing-told = λ i tag. empty-beside tag (0x5A ∷ 0x5F24 ∷ 0x5F25 ∷ 0x9F08 ∷ 0x8C ∷ 0x8D ∷ 0x9F0D ∷ 0x9F0E ∷ 0x9F0F ∷ []) i
+
+pub early-begun : (b : List ℕ) → length b ≡ 74 → early (begun b) ≡ situationBegun (readingOf b)
+unfolding early situationWith begun stateAt situationBegun
+early-begun b e =
+    λ i. record { terminal = readingOf (fixed-all 74 b e i); profile = []; facts = nothing-told i; tvr = zeros 5; tsi = zeros 2 }
+
+module _ (s : State) (a : List ℕ) (good : optionsReason a ≡ 0) where
+  pub late-options : late (withOptions a s) ≡ withProfile (early s) (profileOf a)
+  unfolding late early situationWith withOptions withProfile
+  late-options =
+      λ i. record {
+        terminal = readingOf (s .start);
+        profile = fixed-all 2 (profileOf a) (options-profile a good) i;
+        facts = factsIn (s .told);
+        tvr = s .tvr;
+        tsi = s .tsi;
+      }
+
+  pub left-options : recordsLeft (withOptions a s) ≡ toRead (locatorOf a)
+  unfolding recordsLeft withOptions inRun
+  left-options =
+      ap (λ (v : List ℕ). remaining v start) (ap (λ (o : Option (List ℕ)). Option·getD o []) (run-kept (locatorOf a) (locator-size a)))
+      ∙ all-remain (locatorOf a)
