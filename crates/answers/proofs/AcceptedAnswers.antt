@@ -16,7 +16,7 @@ use Rattle.objects.specs.Lookup.{Lookup, absent, once, twice}
 use Rattle.terminal.specs.Reading.{Terminal}
 use Rattle.terminal.proofs.Tests.{first-held}
 use Rattle.object_lists.specs.Wanted.{fillable}
-use Rattle.locator.specs.Entries.{wholeEntries, entriesRight, recordCount, tooMany}
+use Rattle.locator.specs.Entries.{mostRecords, wholeEntries, entriesRight, recordCount, tooMany}
 use Rattle.card_data.specs.Tables.{anyOf, beside}
 use Rattle.card_data.specs.Content.{rules, ruleFor, rightValue, meets}
 use Rattle.card_data.specs.Answer.{isOne, inside, frame}
@@ -85,11 +85,11 @@ module _ (a : List ℕ) (e : optionsReason a ≡ 0) where
   pub options-framed : Framed bothForms a
   options-framed = frame-accepted bothForms a (options-clear .0)
 
-  pub options-entries : (entriesRight (locatorOf a) ≡ true) × (recordCount (locatorOf a) ≤ 58)
+  pub options-entries : (entriesRight (locatorOf a) ≡ true) × (recordCount (locatorOf a) ≤ mostRecords)
   unfolding optionsLines tooMany
   options-entries =
       let lines = options-clear .1 in
-      (not-false _ (lines .1 .1 .0), ltb-false 58 _ (lines .1 .1 .1 .0))
+      (not-false _ (lines .1 .1 .0), ltb-false mostRecords _ (lines .1 .1 .1 .0))
 
   -- only a template can lack something, and then it is the one object
   is-template : isOne joined a ≡ false → isOne template a ≡ true

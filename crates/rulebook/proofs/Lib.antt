@@ -1,11 +1,14 @@
 pub mod Single
 pub mod Growing
+pub mod Bound
 pub mod Finishing
 pub mod Running
 pub mod Reading
 pub mod Sorting
 pub mod Trichotomy
 pub mod Ends
-pub mod Theorem
 pub mod Opening
+pub mod Made
 pub mod Sessions
+pub mod Longest
+pub mod Theorem

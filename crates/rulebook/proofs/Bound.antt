@@ -1,0 +1,115 @@
+-- No session has more entries than 01 says, "The tape": START, two for SELECT, two for GPO, two for each record, two for each
+-- GENERATE AC, HOST and DECISION. From each phase on there is a most that can still come, and every exchange takes its two entries
+-- off it; the records are at most as many as reason 7 lets pass.
+-- Assumes nothing.
+use mathlib.Core.Path.{_≡_, refl, sym, ap, _∙_}
+use mathlib.Core.Bool.{Bool, true, false}
+use mathlib.Core.List.{List, [], _∷_}
+use Prim.Native.Nat.{ℕ, _+_, _*_, _≤_}
+use native.Mathlib.Omega.{arith}
+use lib.Dec.{eqb}
+use lib.ListN.{length}
+use borrow.Author.Tests.{eqb-true}
+use Rattle.lists.proofs.Choice.{picked}
+use Rattle.tape.specs.Entries.{Entry}
+use Rattle.object_lists.specs.Wanted.{fillable}
+use Rattle.locator.specs.Entries.{mostRecords, recordCount, toRead}
+use Rattle.locator.proofs.Counting.{read-length}
+use Rattle.answers.specs.Select.{selectReason}
+use Rattle.answers.specs.Options.{optionsReason, profileOf, locatorOf}
+use Rattle.answers.specs.Records.{recordReason, afterRecords}
+use Rattle.answers.specs.Cryptogram.{cryptogramReason, cryptogramOf}
+use Rattle.answers.proofs.AcceptedAnswers.{options-entries}
+use Rattle.decide.specs.Replies.{codeIn}
+use Rattle.decide.specs.declared.reply.Reply.{Reply}
+use Rattle.decide.specs.declared.reply.Reply.the-variants.{Unable}
+use Rattle.rulebook.specs.Situation.{Situation, listIn}
+use Rattle.rulebook.specs.Phase.{Asked, selecting, optioning, reading, first, second, Phase, opens, asks, hears, decides, decided as settled, ended}
+use Rattle.rulebook.specs.Turn.{goesOn, opened, selected, managed, requested, allRead, readOn, withProfile, optioned, withRecord, recorded, answered, replied, online, byFirst, firstAnswered, secondAnswered, turn, heard}
+use Rattle.rulebook.specs.Session.{Plays, started, exchanged, told, decided, Session}
+
+-- the most entries that a session can have
+abbrev pub longest : ℕ
+longest = 11 + 2 * mostRecords
+
+-- the most that can still come: from a question on, and from a phase on
+unfoldable pub afterAsking : Asked → ℕ
+afterAsking (selecting s) = 10 + 2 * mostRecords
+afterAsking (optioning s list) = 8 + 2 * mostRecords
+afterAsking (reading s number file rest) = 8 + 2 * length rest
+afterAsking (first s request) = 6
+afterAsking (second s request code) = 3
+
+unfoldable pub toCome : Phase → ℕ
+toCome opens = longest
+toCome (asks w) = afterAsking w
+toCome (hears s) = 4
+toCome (decides outcome reason s) = 1
+
+module _ (s : Situation) where
+  -- a bad answer leaves the decision alone
+  goes-few : (n reason : ℕ) (next : Phase) → 1 ≤ n → (reason ≡ 0 → toCome next ≤ n) → toCome (goesOn reason s next) ≤ n
+  unfolding goesOn ended toCome
+  goes-few n reason next one h = picked (λ (p : Phase). toCome p ≤ n) (eqb reason 0) _ _ (λ e. h (eqb-true reason 0 e)) (λ e. one)
+
+  -- the same after an exchange
+  goes-fewer : (n reason : ℕ) (next : Phase) → 3 ≤ n → (reason ≡ 0 → 2 + toCome next ≤ n) → 2 + toCome (goesOn reason s next) ≤ n
+  unfolding goesOn ended toCome
+  goes-fewer n reason next three h = picked (λ (p : Phase). 2 + toCome p ≤ n) (eqb reason 0) _ _ (λ e. h (eqb-true reason 0 e)) (λ e. three)
+
+  requested-few : (reason : ℕ) → toCome (requested reason s) ≤ 6
+  unfolding requested toCome afterAsking
+  requested-few reason = goes-few 6 reason _ (omega arith) (λ e. omega arith)
+
+  replied-few : (reply : Reply) (code : List ℕ) → toCome (replied s reply code) ≤ 3
+  unfolding replied ended toCome afterAsking
+  replied-few reply code = picked (λ (p : Phase). toCome p ≤ 3) (fillable (listIn s 0x8D)) _ _ (λ e. omega arith) (λ e. omega arith)
+
+  online-few : toCome (online s) ≤ 4
+  unfolding online toCome
+  online-few =
+      picked (λ (p : Phase). toCome p ≤ 4) (eqb (s .terminal .kind) 0) _ _ (λ e. let h = replied-few Unable [] in omega arith) (λ e. omega arith)
+
+  by-first-few : (type : ℕ) → toCome (byFirst type s) ≤ 4
+  unfolding byFirst settled toCome
+  by-first-few type =
+      picked (λ (p : Phase). toCome p ≤ 4) (eqb type 1) _ _ (λ e. omega arith) (λ e.
+      picked (λ (p : Phase). toCome p ≤ 4) (eqb type 0) _ _ (λ f. omega arith) (λ f. online-few))
+
+all-read-few : (s : Situation) → toCome (allRead s) ≤ 6
+unfolding allRead ended toCome
+all-read-few s =
+    picked (λ (p : Phase). toCome p ≤ 6) (eqb (afterRecords (s .facts)) 8) _ _ (λ e. omega arith) (λ e. requested-few (managed s) (afterRecords (s .facts)))
+
+-- two for each record that is left, and six after the last
+read-few : (s : Situation) (rest : List (ℕ × ℕ)) → toCome (readOn s rest) ≤ 6 + 2 * length rest
+unfolding readOn toCome afterAsking
+read-few s [] = all-read-few s
+read-few s (r ∷ rest) = omega arith
+
+-- an exchange takes its two entries off what can come
+turn-fewer : (w : Asked) (a : List ℕ) → 2 + toCome (turn w a) ≤ toCome (asks w)
+unfolding turn toCome afterAsking selected optioned recorded firstAnswered secondAnswered settled
+turn-fewer (selecting s) a = goes-fewer s _ _ _ (omega arith) (λ e. omega arith)
+turn-fewer (optioning s list) a =
+    goes-fewer s _ _ _ (omega arith) (λ e.
+    let few = read-few (withProfile s (profileOf a)) (toRead (locatorOf a)) in
+    let counted = read-length (locatorOf a) in
+    let limit = options-entries a e .1 in
+    omega arith)
+turn-fewer (reading s number file rest) a = goes-fewer s _ _ _ (omega arith) (λ e. let few = read-few (withRecord s a) rest in omega arith)
+turn-fewer (first s request) a = goes-fewer s _ _ _ (omega arith) (λ e. let few = by-first-few (answered s) (cryptogramOf a) in omega arith)
+turn-fewer (second s request code) a = goes-fewer s _ _ _ (omega arith) (λ e. omega arith)
+
+-- no more entries than can come
+plays-few : {p : Phase} {es : List Entry} → Plays p es → length es ≤ toCome p
+unfolding toCome afterAsking opened heard
+plays-few (started {t} f ok play) = let h = plays-few play in omega arith
+plays-few (exchanged {w} {a} f ok play) = let h = plays-few play in let fewer = turn-fewer w a in omega arith
+plays-few (told {s} {p} {r} f ok play) = let h = plays-few play in let few = replied-few s r (codeIn p) in omega arith
+plays-few (decided f) = omega arith
+
+-- the bound
+pub session-bound : (es : List Entry) → Session es → length es ≤ 11 + 2 * mostRecords
+unfolding Session toCome
+session-bound es play = plays-few play

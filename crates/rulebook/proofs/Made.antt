@@ -1,0 +1,86 @@
+-- What the named sessions are made of: the bytes of each entry, and how a session is read to its end by computation. Nothing is
+-- claimed here but that.
+-- Assumes nothing.
+use mathlib.Core.Path.{_≡_}
+use mathlib.Core.List.{List, [], _∷_, _++_}
+use mathlib.Core.Option.{Option, some}
+use Prim.Native.Nat.{ℕ}
+use Rattle.tape.specs.Entries.{Entry, entry, start, command, answer, decision}
+use Rattle.rulebook.specs.Session.{Session}
+use Rattle.rulebook.proofs.Running.{State, done, run-session}
+use Rattle.rulebook.proofs.Opening.{reached}
+
+-- a terminal of a type: amount 7500, floor limit 10000, date 250630, all action codes zero, AID A000000003
+abbrev pub startOf : ℕ → List ℕ
+startOf kind =
+    kind
+    ∷ 0 ∷ 0 ∷ 0 ∷ 0 ∷ 0x75 ∷ 0 ∷ 0 ∷ 0 ∷ 0 ∷ 0 ∷ 0 ∷ 0 ∷ 0x08 ∷ 0x26 ∷ 0x08 ∷ 0x26 ∷ 0x25 ∷ 0x06 ∷ 0x30 ∷ 0 ∷ 0x11 ∷ 0x22 ∷ 0x33 ∷ 0x44
+    ∷ 0 ∷ 0 ∷ 0 ∷ 1 ∷ 0 ∷ 0 ∷ 40 ∷ 10 ∷ 0 ∷ 0 ∷ 0 ∷ 0 ∷ 0x50 ∷ 0 ∷ 70 ∷ 0 ∷ 2
+    ∷ 0 ∷ 0 ∷ 0 ∷ 0 ∷ 0 ∷ 0 ∷ 0 ∷ 0 ∷ 0 ∷ 0 ∷ 0 ∷ 0 ∷ 0 ∷ 0 ∷ 0
+    ∷ 5 ∷ 0xA0 ∷ 0 ∷ 0 ∷ 0 ∷ 3 ∷ 0 ∷ 0 ∷ 0 ∷ 0 ∷ 0 ∷ 0 ∷ 0 ∷ 0 ∷ 0 ∷ 0 ∷ 0
+    ∷ []
+
+-- SELECT, and an answer with the application's name and an empty A5
+abbrev pub select : List ℕ
+select = 0x00 ∷ 0xA4 ∷ 0x04 ∷ 0x00 ∷ 0x05 ∷ 0xA0 ∷ 0 ∷ 0 ∷ 0 ∷ 3 ∷ 0x00 ∷ []
+
+abbrev pub selected : List ℕ
+selected = 0x6F ∷ 0x09 ∷ 0x84 ∷ 0x05 ∷ 0xA0 ∷ 0 ∷ 0 ∷ 0 ∷ 3 ∷ 0xA5 ∷ 0x00 ∷ 0x90 ∷ 0x00 ∷ []
+
+-- GPO with no data, and an answer with an AFL of one entry
+abbrev pub options : List ℕ
+options = 0x80 ∷ 0xA8 ∷ 0x00 ∷ 0x00 ∷ 0x02 ∷ 0x83 ∷ 0x00 ∷ 0x00 ∷ []
+
+abbrev pub optioned : ℕ → ℕ → List ℕ
+optioned first last = 0x77 ∷ 0x0A ∷ 0x82 ∷ 0x02 ∷ 0x00 ∷ 0x00 ∷ 0x94 ∷ 0x04 ∷ 0x08 ∷ first ∷ last ∷ 0x00 ∷ 0x90 ∷ 0x00 ∷ []
+
+-- READ RECORD, and a record with all that is mandatory, no list for the second request, and action codes of zeros; its 8C is three
+-- bytes
+abbrev pub readOne : List ℕ
+readOne = 0x00 ∷ 0xB2 ∷ 0x01 ∷ 0x0C ∷ 0x00 ∷ []
+
+abbrev pub recorded : List ℕ → List ℕ
+recorded list =
+    0x70 ∷ 0x21 ∷ 0x5A ∷ 0x02 ∷ 0x12 ∷ 0x34 ∷ 0x5F ∷ 0x24 ∷ 0x03 ∷ 0x30 ∷ 0x12 ∷ 0x31 ∷ 0x8C ∷ 0x03
+    ∷ (list ++ (0x8D ∷ 0x00 ∷ 0x9F ∷ 0x0D ∷ 0x05 ∷ 0 ∷ 0 ∷ 0 ∷ 0 ∷ 0 ∷ 0x9F ∷ 0x0F ∷ 0x05 ∷ 0 ∷ 0 ∷ 0 ∷ 0 ∷ 0 ∷ 0x90 ∷ 0x00 ∷ []))
+
+-- the unpredictable number is asked for
+abbrev pub number : List ℕ
+number = 0x9F ∷ 0x37 ∷ 0x04 ∷ []
+
+-- GENERATE AC, the first with the unpredictable number, the second with no data; and an answer with a cryptogram
+abbrev pub firstAsked : ℕ → List ℕ
+firstAsked request = 0x80 ∷ 0xAE ∷ request ∷ 0x00 ∷ 0x04 ∷ 0x11 ∷ 0x22 ∷ 0x33 ∷ 0x44 ∷ 0x00 ∷ []
+
+abbrev pub secondAsked : ℕ → List ℕ
+secondAsked request = 0x80 ∷ 0xAE ∷ request ∷ 0x00 ∷ 0x00 ∷ []
+
+abbrev pub given : ℕ → List ℕ
+given cid = 0x80 ∷ 0x0B ∷ cid ∷ 0 ∷ 1 ∷ 0 ∷ 0 ∷ 0 ∷ 0 ∷ 0 ∷ 0 ∷ 0 ∷ 0 ∷ 0x90 ∷ 0x00 ∷ []
+
+-- AAC, TC, ARQC
+abbrev pub aac : ℕ
+aac = 0x00
+
+abbrev pub tc : ℕ
+tc = 0x40
+
+abbrev pub arqc : ℕ
+arqc = 0x80
+
+-- the decision: outcome, reason, first byte of the TVR, first byte of the TSI; the other bytes are zeros
+abbrev pub decides : ℕ → ℕ → ℕ → ℕ → List Entry
+decides outcome reason tvr tsi = entry decision (outcome ∷ reason ∷ tvr ∷ 0 ∷ 0 ∷ 0 ∷ 0 ∷ tsi ∷ 0 ∷ []) ∷ []
+
+abbrev pub exchange : List ℕ → List ℕ → List Entry
+exchange c a = entry command c ∷ entry answer a ∷ []
+
+-- up to the first GENERATE AC
+abbrev pub opening : ℕ → List Entry
+opening kind =
+    entry start (startOf kind) ∷ (exchange select selected ++ (exchange options (optioned 1 1) ++ exchange readOne (recorded number)))
+
+-- a list that the machine reads to its end is a session
+pub reads : (es : List Entry) → reached es ≡ some done → Session es
+unfolding reached
+reads es h = run-session es h
