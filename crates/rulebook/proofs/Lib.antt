@@ -7,6 +7,8 @@ pub mod Reading
 pub mod Sorting
 pub mod Trichotomy
 pub mod Ends
+pub mod Breaks
+pub mod States
 pub mod Opening
 pub mod Made
 pub mod Sessions

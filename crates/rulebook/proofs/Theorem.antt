@@ -1,20 +1,22 @@
 -- What holds of the rulebook, in one place: no session is the beginning of a longer one, and a beginning has one reading, of
--- sessions that there are; each list is exactly one of session, open and neither; every phase can be finished; no bit of the TVR
--- or the TSI is cleared along the way; and 01's most entries are reached and never passed.
+-- sessions that there are; each list is exactly one of session, open and neither, and a list that is neither has one place where
+-- the rules are first broken; every phase can be finished; no bit of the TVR or the TSI is cleared along the way; and 01's most
+-- entries are reached and never passed.
 -- Assumes nothing.
 use mathlib.Core.Path.{_≡_}
 use mathlib.Core.List.{List, [], _++_}
-use Prim.Native.Nat.{_+_, _*_, _≤_}
+use Prim.Native.Nat.{ℕ, _+_, _*_, _≤_}
 use lib.ListN.{length}
 use Rattle.tape.specs.Entries.{Entry}
 use Rattle.locator.specs.Entries.{mostRecords}
 use Rattle.rulebook.specs.Phase.{Phase, opens}
-use Rattle.rulebook.specs.Session.{Session, Open, Reads}
+use Rattle.rulebook.specs.Session.{Session, Open, Lawful, BreaksAt, Reads}
 use Rattle.rulebook.proofs.Single.{prefix-free, reads-once}
 use Rattle.rulebook.proofs.Finishing.{Finished}
 use Rattle.rulebook.proofs.Growing.{Growing, reading-grows}
 use Rattle.rulebook.proofs.Trichotomy.{Sort, sorted, one-sort}
 use Rattle.rulebook.proofs.Ends.{finishes}
+use Rattle.rulebook.proofs.Breaks.{one-break, break-unlawful, break-found}
 use Rattle.rulebook.proofs.Bound.{session-bound}
 use Rattle.rulebook.proofs.Longest.{fullest, bound-reached}
 
@@ -25,6 +27,9 @@ pub record Rulebook : Type 0 where
   pub finished : (p : Phase) → Finished p
   pub sort : (es : List Entry) → Sort es
   pub apart : (es : List Entry) → Session es → Open es → ⊥
+  pub place : (es : List Entry) → (Lawful es → ⊥) → (k : ℕ) × BreaksAt es k
+  pub one-place : (es : List Entry) (k m : ℕ) → BreaksAt es k → BreaksAt es m → k ≡ m
+  pub no-place : (es : List Entry) (k : ℕ) → BreaksAt es k → Lawful es → ⊥
   pub growing : (es : List Entry) (ps : List Phase) → Reads es ps → Growing ps
   pub bounded : (es : List Entry) → Session es → length es ≤ 11 + 2 * mostRecords
   pub bound-met : (es : List Entry) × (Session es × (length es ≡ 11 + 2 * mostRecords))
@@ -39,6 +44,9 @@ rulebook =
       finished = finishes;
       sort = sorted finishes;
       apart = one-sort;
+      place = break-found;
+      one-place = one-break;
+      no-place = break-unlawful;
       growing = λ es ps r. reading-grows r;
       bounded = session-bound;
       bound-met = (fullest, bound-reached);

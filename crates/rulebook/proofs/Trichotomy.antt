@@ -19,7 +19,7 @@ use Rattle.rulebook.proofs.Reading.{beginning-run, awaits-run, closed-r
 use Rattle.rulebook.proofs.Sorting.{run-beginning, run-awaits}
 
 -- two lists with one entry after each
-snoc-same : (a b : List Entry) (x y : Entry) → a ++ (x ∷ []) ≡ b ++ (y ∷ []) → (a ≡ b) × (x ≡ y)
+pub snoc-same : (a b : List Entry) (x y : Entry) → a ++ (x ∷ []) ≡ b ++ (y ∷ []) → (a ≡ b) × (x ≡ y)
 snoc-same [] [] x y h = (refl, cc)
 snoc-same [] (c ∷ b) x y h = too-short b h
   where
@@ -37,7 +37,7 @@ snoc-same (c ∷ a) (d ∷ b) x y h =
     (cc (rest .0), rest .1)
 
 -- the entry that a list ends with
-data Last (es : List Entry) : Type 0 where
+pub data Last (es : List Entry) : Type 0 where
   no-entry : es ≡ [] → Last es
   last : (before : List Entry) (e : Entry) → es ≡ before ++ (e ∷ []) → Last es
 
@@ -45,7 +45,7 @@ one-more : (x : Entry) (es : List Entry) → Last es → Last (x ∷ es)
 one-more x es (no-entry e) = last [] x (ap (λ (l : List Entry). x ∷ l) e)
 one-more x es (last before y e) = last (x ∷ before) y (ap (λ (l : List Entry). x ∷ l) e)
 
-last-of : (es : List Entry) → Last es
+pub last-of : (es : List Entry) → Last es
 last-of [] = no-entry refl
 last-of (x ∷ es) = one-more x es (last-of es)
 

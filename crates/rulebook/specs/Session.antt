@@ -6,9 +6,9 @@ use mathlib.Core.Bool.{Bool, true, _&&_}
 use mathlib.Core.List.{List, [], _∷_, _++_}
 use mathlib.Core.Option.{Option, some}
 use mathlib.Core.Logic.{_⊎_}
-use Prim.Native.Nat.{ℕ, _<_}
+use Prim.Native.Nat.{ℕ, _+_, _≤_}
 use lib.Dec.{leb}
-use lib.ListN.{length}
+use lib.ListN.{length, take}
 use lib.Pow.{areBytes}
 use Rattle.terminal.specs.Reading.{Terminal}
 use Rattle.terminal.specs.Start.{terminalOf}
@@ -54,6 +54,16 @@ Closed es = (before : List Entry) × (AwaitsCard before × (es ≡ before ++ (en
 -- what a session can be while it is not finished
 unfoldable pub Open : List Entry → Type 0
 Open es = Beginning es ⊎ Closed es
+
+-- no rule is broken: finished, or open
+unfoldable pub Lawful : List Entry → Type 0
+Lawful es = Session es ⊎ Open es
+
+-- the entry, counted from 0, at which the rules are first broken: the last one of the shortest beginning that is neither finished
+-- nor open (demand 3)
+pub record BreaksAt (es : List Entry) (k : ℕ) : Type 0 where
+  pub before : (n : ℕ) → n ≤ k → Lawful (take n es)
+  pub broken : Lawful (take (k + 1) es) → ⊥
 
 -- the phases that are passed while the entries of a beginning are read, from a phase on
 pub data ReadsFrom : Phase → List Entry → List Phase → Type 0 where

@@ -1,0 +1,60 @@
+-- What the state of the machine says of the list that it has read, for a reader that goes entry by entry: while there is a state the
+-- list is lawful; where an entry is refused the list is broken, unless that entry is a closing silence.
+-- Assumes nothing.
+use mathlib.Core.Path.{_≡_, refl, sym, ap, _∙_, subst}
+use mathlib.Core.List.{List, [], _∷_, _++_}
+use mathlib.Core.Logic.{_⊎_, inl, inr, ⊎-elim}
+use mathlib.Core.Option.{Option, none, some}
+use Prim.Native.Nat.{ℕ}
+use native.Mathlib.Omega.{arith}
+use Rattle.tape.specs.Entries.{Entry, entry, silence}
+use Rattle.rulebook.specs.Phase.{Asked, opens}
+use Rattle.rulebook.specs.Session.{Session, Beginning, Closed, Open, Lawful}
+use Rattle.rulebook.proofs.Running.{State, at, owes, done, next, andOn, run, no-state, session-run, run-session}
+use Rattle.rulebook.proofs.Reading.{run-append, beginning-run, awaits-run}
+use Rattle.rulebook.proofs.Sorting.{run-beginning, run-awaits}
+use Rattle.rulebook.proofs.Trichotomy.{snoc-same}
+use Rattle.rulebook.proofs.Ends.{finishes}
+
+module _ (es : List Entry) where
+  pub state-lawful : (σ : State) → run es (at opens) ≡ some σ → Lawful es
+  unfolding Lawful Open
+  state-lawful done h = inl (run-session es h)
+  state-lawful (at p) h = inr (inl (run-beginning finishes es (at p) h (λ e. let z : _≡_ {A = ℕ} 0 1 = cc in omega arith)))
+  state-lawful (owes w) h = inr (inl (run-beginning finishes es (owes w) h (λ e. let z : _≡_ {A = ℕ} 0 1 = cc in omega arith)))
+
+  pub silence-closes : (w : Asked) → run es (at opens) ≡ some (owes w) → Closed (es ++ (entry silence [] ∷ []))
+  unfolding Closed
+  silence-closes w h = (es, (run-awaits finishes es w h, refl))
+
+  module _ (σ : State) (e : Entry) (h : run es (at opens) ≡ some σ) where
+    abbrev longer : List Entry
+    longer = es ++ (e ∷ [])
+
+    pub state-next : (τ : State) → next σ e ≡ some τ → run longer (at opens) ≡ some τ
+    unfolding run andOn
+    state-next τ n = run-append es (e ∷ []) (at opens) ∙ (ap (andOn (run (e ∷ []))) h ∙ ap (andOn (run [])) n)
+
+    state-none : next σ e ≡ none → run longer (at opens) ≡ none
+    unfolding run andOn
+    state-none n = run-append es (e ∷ []) (at opens) ∙ (ap (andOn (run (e ∷ []))) h ∙ ap (andOn (run [])) n)
+
+    -- a closing silence, after a command that is owed an answer
+    closing : Closed longer → (w : Asked) × ((σ ≡ owes w) × (e ≡ entry silence []))
+    unfolding Closed
+    closing c =
+        let same = snoc-same (c .0) es (entry silence []) e (sym (c .1 .1)) in
+        let w = awaits-run (c .0) (c .1 .0) in
+        let there : some σ ≡ some (owes (w .0)) = sym h ∙ (ap (λ (l : List Entry). run l (at opens)) (sym (same .0)) ∙ w .1) in
+        (w .0, (cc, sym (same .1)))
+
+    pub refused-breaks : next σ e ≡ none → ((w : Asked) → σ ≡ owes w → e ≡ entry silence [] → ⊥) → Lawful longer → ⊥
+    unfolding Lawful Open
+    refused-breaks n other l =
+        let stopped = state-none n in
+        ⊎-elim (λ s. no-state done (sym stopped ∙ session-run longer s))
+        (λ o.
+        ⊎-elim (λ b. let r = beginning-run longer b in no-state (r .0) (sym stopped ∙ r .1 .0))
+        (λ c. let w = closing c in other (w .0) (w .1 .0) (w .1 .1))
+        o)
+        l
