@@ -2,8 +2,7 @@
 -- GENERATE AC, HOST and DECISION. From each phase on there is a most that can still come, and every exchange takes its two entries
 -- off it; the records are at most as many as reason 7 lets pass.
 -- Assumes nothing.
-use mathlib.Core.Path.{_≡_, refl, sym, ap, _∙_}
-use mathlib.Core.Bool.{Bool, true, false}
+use mathlib.Core.Path.{_≡_}
 use mathlib.Core.List.{List, [], _∷_}
 use Prim.Native.Nat.{ℕ, _+_, _*_, _≤_}
 use native.Mathlib.Omega.{arith}
@@ -13,12 +12,11 @@ use borrow.Author.Tests.{eqb-true}
 use Rattle.lists.proofs.Choice.{picked}
 use Rattle.tape.specs.Entries.{Entry}
 use Rattle.object_lists.specs.Wanted.{fillable}
-use Rattle.locator.specs.Entries.{mostRecords, recordCount, toRead}
+use Rattle.locator.specs.Entries.{mostRecords, toRead}
 use Rattle.locator.proofs.Counting.{read-length}
-use Rattle.answers.specs.Select.{selectReason}
-use Rattle.answers.specs.Options.{optionsReason, profileOf, locatorOf}
-use Rattle.answers.specs.Records.{recordReason, afterRecords}
-use Rattle.answers.specs.Cryptogram.{cryptogramReason, cryptogramOf}
+use Rattle.answers.specs.Options.{profileOf, locatorOf}
+use Rattle.answers.specs.Records.{afterRecords}
+use Rattle.answers.specs.Cryptogram.{cryptogramOf}
 use Rattle.answers.proofs.AcceptedAnswers.{options-entries}
 use Rattle.decide.specs.Replies.{codeIn}
 use Rattle.decide.specs.declared.reply.Reply.{Reply}

@@ -2,20 +2,19 @@
 -- stays broken however the list goes on, and the shortest broken beginning is found by trying each in turn.
 -- Assumes nothing.
 use mathlib.Core.Path.{_≡_, refl, sym, ap, _∙_, subst}
-use mathlib.Core.Bool.{Bool, true, false}
 use mathlib.Core.List.{List, [], _∷_, _++_, append-nil, append-assoc}
 use mathlib.Core.Logic.{_⊎_, inl, inr, ⊎-elim}
 use Prim.Native.Nat.{ℕ, zero, suc, _+_, _≤_, _<_}
 use native.Mathlib.Omega.{arith}
 use lib.Dec.{ltb}
-use lib.ListN.{length, take, drop, getD}
+use lib.ListN.{length, take}
 use lib.Seq.{split-at, take-all, take-length, take-append-le, take-append-add}
 use borrow.Author.Tests.{ltb-true, ltb-false}
 use Rattle.lists.proofs.Choice.{either}
 use Rattle.tape.specs.Entries.{Entry, entry, answer, silence}
 use Rattle.rulebook.specs.Phase.{opens}
 use Rattle.rulebook.specs.Session.{Session, Beginning, AwaitsCard, Closed, Open, Lawful, BreaksAt}
-use Rattle.rulebook.proofs.Running.{State, at, done, run}
+use Rattle.rulebook.proofs.Running.{at, run}
 use Rattle.rulebook.proofs.Reading.{not-both, not-begun}
 use Rattle.rulebook.proofs.Sorting.{run-beginning}
 use Rattle.rulebook.proofs.Trichotomy.{snoc-same, Last, no-entry, last, last-of, Sort, finished, unfinished, neither, sorted}

@@ -1,9 +1,9 @@
 -- Every phase can be finished, said of the rules as they are: no bytes are too few for any answer, and there is a valid START.
 -- Assumes nothing.
-use mathlib.Core.Path.{_≡_, refl, _∙_}
-use mathlib.Core.Bool.{Bool, true, _||_}
+use mathlib.Core.Path.{_≡_, refl}
+use mathlib.Core.Bool.{Bool, true}
 use mathlib.Core.List.{List, [], _∷_}
-use mathlib.Core.Option.{Option, some}
+use mathlib.Core.Option.{some}
 use Prim.Native.Nat.{ℕ}
 use Rattle.lists.specs.Choice.{pick, firstOf}
 use Rattle.lists.proofs.Choice.{pick-yes}

@@ -9,8 +9,11 @@ pub mod Trichotomy
 pub mod Ends
 pub mod Breaks
 pub mod States
+pub mod Roles
 pub mod Opening
 pub mod Made
 pub mod Sessions
 pub mod Longest
+pub mod ShutOut
+pub mod SeenErrors
 pub mod Theorem

@@ -1,24 +1,42 @@
 -- What the named sessions are made of: the bytes of each entry, and how a session is read to its end by computation. Nothing is
 -- claimed here but that.
 -- Assumes nothing.
-use mathlib.Core.Path.{_≡_}
+use mathlib.Core.Path.{_≡_, refl, ap}
+use mathlib.Core.Bool.{true, false, false≢true}
 use mathlib.Core.List.{List, [], _∷_, _++_}
-use mathlib.Core.Option.{Option, some}
+use mathlib.Core.Option.{Option, none, some}
 use Prim.Native.Nat.{ℕ}
-use Rattle.tape.specs.Entries.{Entry, entry, start, command, answer, decision}
-use Rattle.rulebook.specs.Session.{Session}
-use Rattle.rulebook.proofs.Running.{State, done, run-session}
+use lib.Dec.{eqb}
+use lib.ListN.{length}
+use borrow.Author.Tests.{eqb-false}
+use Rattle.objects.specs.Objects.{isSome}
+use Rattle.tape.specs.Entries.{Entry, entry, start, command, answer, silence, decision}
+use Rattle.rulebook.specs.Phase.{opens}
+use Rattle.rulebook.specs.Session.{Session, BreaksAt}
+use Rattle.rulebook.proofs.Running.{State, at, done, run, run-session}
+use Rattle.rulebook.proofs.Breaks.{break-here}
+use Rattle.rulebook.proofs.States.{state-lawful, stopped-breaks}
 use Rattle.rulebook.proofs.Opening.{reached}
 
--- a terminal of a type: amount 7500, floor limit 10000, date 250630, all action codes zero, AID A000000003
-abbrev pub startOf : ℕ → List ℕ
-startOf kind =
+-- a terminal of a type with an amount, and with the first byte of its denial code: floor limit 10000, random number 40, target 10,
+-- threshold 5000, maximum 70, date 250630, all other action codes zero, AID A000000003
+abbrev pub startWith : ℕ → List ℕ → ℕ → List ℕ
+startWith kind amount denial =
     kind
-    ∷ 0 ∷ 0 ∷ 0 ∷ 0 ∷ 0x75 ∷ 0 ∷ 0 ∷ 0 ∷ 0 ∷ 0 ∷ 0 ∷ 0 ∷ 0x08 ∷ 0x26 ∷ 0x08 ∷ 0x26 ∷ 0x25 ∷ 0x06 ∷ 0x30 ∷ 0 ∷ 0x11 ∷ 0x22 ∷ 0x33 ∷ 0x44
+    ∷ (amount
+    ++ (0 ∷ 0 ∷ 0 ∷ 0 ∷ 0 ∷ 0 ∷ 0x08 ∷ 0x26 ∷ 0x08 ∷ 0x26 ∷ 0x25 ∷ 0x06 ∷ 0x30 ∷ 0 ∷ 0x11 ∷ 0x22 ∷ 0x33 ∷ 0x44
     ∷ 0 ∷ 0 ∷ 0 ∷ 1 ∷ 0 ∷ 0 ∷ 40 ∷ 10 ∷ 0 ∷ 0 ∷ 0 ∷ 0 ∷ 0x50 ∷ 0 ∷ 70 ∷ 0 ∷ 2
-    ∷ 0 ∷ 0 ∷ 0 ∷ 0 ∷ 0 ∷ 0 ∷ 0 ∷ 0 ∷ 0 ∷ 0 ∷ 0 ∷ 0 ∷ 0 ∷ 0 ∷ 0
+    ∷ denial ∷ 0 ∷ 0 ∷ 0 ∷ 0 ∷ 0 ∷ 0 ∷ 0 ∷ 0 ∷ 0 ∷ 0 ∷ 0 ∷ 0 ∷ 0 ∷ 0
     ∷ 5 ∷ 0xA0 ∷ 0 ∷ 0 ∷ 0 ∷ 3 ∷ 0 ∷ 0 ∷ 0 ∷ 0 ∷ 0 ∷ 0 ∷ 0 ∷ 0 ∷ 0 ∷ 0 ∷ 0
-    ∷ []
+    ∷ []))
+
+-- an amount below 10000, by its last two bytes
+abbrev pub amountOf : ℕ → ℕ → List ℕ
+amountOf high low = 0 ∷ 0 ∷ 0 ∷ 0 ∷ high ∷ low ∷ []
+
+-- amount 7500, no denial code
+abbrev pub startOf : ℕ → List ℕ
+startOf kind = startWith kind (amountOf 0x75 0x00) 0
 
 -- SELECT, and an answer with the application's name and an empty A5
 abbrev pub select : List ℕ
@@ -27,12 +45,15 @@ select = 0x00 ∷ 0xA4 ∷ 0x04 ∷ 0x00 ∷ 0x05 ∷ 0xA0 ∷ 0 ∷ 0 ∷ 0 ∷
 abbrev pub selected : List ℕ
 selected = 0x6F ∷ 0x09 ∷ 0x84 ∷ 0x05 ∷ 0xA0 ∷ 0 ∷ 0 ∷ 0 ∷ 3 ∷ 0xA5 ∷ 0x00 ∷ 0x90 ∷ 0x00 ∷ []
 
--- GPO with no data, and an answer with an AFL of one entry
+-- GPO with no data, and an answer with an AIP and an AFL of one entry
 abbrev pub options : List ℕ
 options = 0x80 ∷ 0xA8 ∷ 0x00 ∷ 0x00 ∷ 0x02 ∷ 0x83 ∷ 0x00 ∷ 0x00 ∷ []
 
+abbrev pub profiled : ℕ → ℕ → ℕ → List ℕ
+profiled profile first last = 0x77 ∷ 0x0A ∷ 0x82 ∷ 0x02 ∷ profile ∷ 0x00 ∷ 0x94 ∷ 0x04 ∷ 0x08 ∷ first ∷ last ∷ 0x00 ∷ 0x90 ∷ 0x00 ∷ []
+
 abbrev pub optioned : ℕ → ℕ → List ℕ
-optioned first last = 0x77 ∷ 0x0A ∷ 0x82 ∷ 0x02 ∷ 0x00 ∷ 0x00 ∷ 0x94 ∷ 0x04 ∷ 0x08 ∷ first ∷ last ∷ 0x00 ∷ 0x90 ∷ 0x00 ∷ []
+optioned first last = profiled 0x00 first last
 
 -- READ RECORD, and a record with all that is mandatory, no list for the second request, and action codes of zeros; its 8C is three
 -- bytes
@@ -84,3 +105,17 @@ opening kind =
 pub reads : (es : List Entry) → reached es ≡ some done → Session es
 unfolding reached
 reads es h = run-session es h
+
+some-state : (o : Option State) → isSome o ≡ true → (σ : State) × (o ≡ some σ)
+unfolding isSome
+some-state none h = absurd (false≢true h)
+some-state (some σ) h = (σ, refl)
+
+-- one that it reads, but not with one more entry that is no silence, breaks at that entry
+pub breaks : (es : List Entry) (e : Entry) (more : List Entry) → isSome (reached es) ≡ true → reached (es ++ (e ∷ [])) ≡ none
+    → eqb (e .kind) silence ≡ false → BreaksAt (es ++ (e ∷ more)) (length es)
+unfolding reached
+breaks es e more read stopped other =
+    let there = some-state (run es (at opens)) read in
+    break-here es e more (state-lawful es (there .0) (there .1))
+    (stopped-breaks es e stopped (λ same. eqb-false (e .kind) silence other (ap (λ (x : Entry). x .kind) same)))

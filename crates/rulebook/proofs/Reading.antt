@@ -2,19 +2,17 @@
 -- finds an entry that cannot be; and then only one closing silence, where the card owes an answer, leaves it open.
 -- Assumes nothing.
 use mathlib.Core.Path.{_≡_, refl, sym, ap, _∙_, subst}
-use mathlib.Core.Bool.{Bool, true, false, _&&_, false≢true}
+use mathlib.Core.Bool.{Bool, false, _&&_, false≢true}
 use mathlib.Core.List.{List, [], _∷_, _++_}
 use mathlib.Core.Option.{Option, none, some}
 use Prim.Native.Nat.{ℕ}
 use native.Mathlib.Omega.{arith}
 use lib.Dec.{eqb}
 use Rattle.lists.specs.Choice.{pick}
-use Rattle.lists.proofs.Choice.{pick-no}
 use Rattle.tape.specs.Entries.{Entry, entry, start, command, answer, silence, host, decision}
-use Rattle.rulebook.specs.Situation.{Situation}
-use Rattle.rulebook.specs.Phase.{Asked, Phase, opens, asks, hears, decides, commandOf, decisionOf}
-use Rattle.rulebook.specs.Session.{isPayload, Session, Beginning, AwaitsCard, Closed}
-use Rattle.rulebook.proofs.Running.{State, at, owes, done, due, alike, next, Follows, andOn, run, taken, chosen, at-end, session-run, run-session, ends-follow, follows-ends}
+use Rattle.rulebook.specs.Phase.{Asked, opens, asks, hears, decides}
+use Rattle.rulebook.specs.Session.{Session, Beginning, AwaitsCard, Closed}
+use Rattle.rulebook.proofs.Running.{State, at, owes, done, due, next, andOn, run, taken, chosen, session-run}
 
 then-twice : (f g h : State → Option State) (o : Option State) → ((σ : State) → f σ ≡ andOn g (h σ)) → andOn f o ≡ andOn g (andOn h o)
 unfolding andOn

@@ -3,7 +3,7 @@
 -- Assumes nothing.
 use mathlib.Core.Path.{_≡_, refl, sym, ap, _∙_, subst}
 use mathlib.Core.Bool.{Bool, true, false, _&&_}
-use mathlib.Core.List.{List, [], _∷_, _++_}
+use mathlib.Core.List.{List, [], _∷_}
 use mathlib.Core.Option.{Option, none, some}
 use Prim.Native.Nat.{ℕ}
 use native.Mathlib.Omega.{arith}
@@ -88,7 +88,7 @@ pub due-entry : (k : ℕ) (test : Bool) (e : Entry) → due k test e ≡ true �
 unfolding due
 due-entry k test e h = ap (λ (n : ℕ). entry n (e .payload)) (eqb-true (e .kind) k (and-left (eqb (e .kind) k) test h))
 
-due-test : (k : ℕ) (test : Bool) (e : Entry) → due k test e ≡ true → test ≡ true
+pub due-test : (k : ℕ) (test : Bool) (e : Entry) → due k test e ≡ true → test ≡ true
 unfolding due
 due-test k test e h = and-right (eqb (e .kind) k) test h
 

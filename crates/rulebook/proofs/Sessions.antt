@@ -1,13 +1,13 @@
 -- Named sessions: one for each outcome, by the terminal types that can have it, and one for each reason. Each is read to its end by
 -- computation.
 -- Assumes nothing.
-use mathlib.Core.Path.{_≡_, refl}
+use mathlib.Core.Path.{refl}
 use mathlib.Core.List.{List, [], _∷_, _++_}
 use Prim.Native.Nat.{ℕ}
 use Rattle.tape.specs.Entries.{Entry, entry, start, host}
 use Rattle.rulebook.specs.Session.{Session}
 use Rattle.rulebook.proofs.Opening.{reached}
-use Rattle.rulebook.proofs.Made.{startOf, select, selected, options, optioned, readOne, recorded, number, firstAsked, secondAsked, given, aac, tc, arqc, decides, exchange, opening, reads}
+use Rattle.rulebook.proofs.Made.{startOf, select, selected, options, optioned, readOne, recorded, firstAsked, secondAsked, given, aac, tc, arqc, decides, exchange, opening, reads}
 
 -- ---- decided sessions
 

@@ -1,10 +1,9 @@
 -- No finished session is the beginning of a longer one, and a beginning has one reading: at each phase the kind of the entry due
 -- and its payload settle how the session goes on.
 -- Assumes nothing.
-use mathlib.Core.Path.{_≡_, refl, sym, ap, _∙_, subst}
-use mathlib.Core.Bool.{Bool, true}
+use mathlib.Core.Path.{_≡_, refl, sym, ap, subst}
 use mathlib.Core.List.{List, [], _∷_, _++_}
-use mathlib.Core.Option.{Option, some}
+use mathlib.Core.Option.{some}
 use Prim.Native.Nat.{ℕ}
 use native.Mathlib.Omega.{arith}
 use Rattle.terminal.specs.Reading.{Terminal}
@@ -12,10 +11,8 @@ use Rattle.terminal.specs.Start.{terminalOf}
 use Rattle.tape.specs.Entries.{Entry, entry, start, command, answer, host, decision}
 use Rattle.decide.specs.Replies.{replyOf}
 use Rattle.decide.specs.declared.reply.Reply.{Reply}
-use Rattle.decide.specs.declared.reply.Heard.{Heard}
 use Rattle.decide.specs.declared.reply.Heard.the-variants.{Said}
-use Rattle.rulebook.specs.Situation.{Situation}
-use Rattle.rulebook.specs.Phase.{Asked, Phase, opens, asks, hears, decides, commandOf}
+use Rattle.rulebook.specs.Phase.{Phase, opens, asks, hears}
 use Rattle.rulebook.specs.Turn.{opened, turn, heard}
 use Rattle.rulebook.specs.Session.{Plays, started, exchanged, told, decided, Session, ReadsFrom, here, began, asked, went, listened, closed, Reads}
 

@@ -1,23 +1,18 @@
 -- The other way round: since every phase can be finished, whatever the machine reads without ending is an unfinished beginning, and
 -- a command that is owed an answer waits for the card. So each list is exactly one of session, open and neither.
 -- Assumes nothing.
-use mathlib.Core.Path.{_≡_, refl, sym, ap, _∙_, subst}
-use mathlib.Core.Bool.{Bool, true, false}
+use mathlib.Core.Path.{_≡_, refl, ap, _∙_, subst}
 use mathlib.Core.List.{List, [], _∷_, _++_}
-use mathlib.Core.Logic.{_⊎_, inl, inr, ⊎-elim}
-use mathlib.Core.Option.{Option, none, some}
+use mathlib.Core.Option.{some}
 use Prim.Native.Nat.{ℕ}
 use native.Mathlib.Omega.{arith}
-use lib.Dec.{eqb}
-use Rattle.lists.specs.Choice.{pick}
-use Rattle.lists.proofs.Choice.{either}
-use Rattle.tape.specs.Entries.{Entry, entry, command, answer, silence}
+use Rattle.tape.specs.Entries.{Entry, entry, command, answer}
 use Rattle.rulebook.specs.Phase.{Asked, Phase, opens, asks, commandOf}
 use Rattle.rulebook.specs.Turn.{turn}
-use Rattle.rulebook.specs.Session.{isPayload, Session, Beginning, AwaitsCard, Closed, Open}
+use Rattle.rulebook.specs.Session.{isPayload, Session, Beginning, AwaitsCard}
 use Rattle.rulebook.proofs.Finishing.{Finished}
-use Rattle.rulebook.proofs.Running.{State, at, owes, done, due, alike, next, Follows, Led, andOn, run, chosen, at-end, due-entry, no-play, no-state, follows-from, step-back, session-run, run-session, follows-ends}
-use Rattle.rulebook.proofs.Reading.{run-append, beginning-run, awaits-run, closed-run, not-both, not-closed, not-begun}
+use Rattle.rulebook.proofs.Running.{State, at, owes, done, due, alike, next, Follows, Led, andOn, run, chosen, at-end, due-entry, no-play, follows-from, step-back, run-session, follows-ends}
+use Rattle.rulebook.proofs.Reading.{run-append}
 
 -- after its command the card owes an answer
 owed : (w : Asked) (e : Entry) (es : List Entry) → Led (at (asks w)) e es → Follows (owes w) es

@@ -1,15 +1,15 @@
 -- What the state of the machine says of the list that it has read, for a reader that goes entry by entry: while there is a state the
 -- list is lawful; where an entry is refused the list is broken, unless that entry is a closing silence.
 -- Assumes nothing.
-use mathlib.Core.Path.{_≡_, refl, sym, ap, _∙_, subst}
+use mathlib.Core.Path.{_≡_, refl, sym, ap, _∙_}
 use mathlib.Core.List.{List, [], _∷_, _++_}
-use mathlib.Core.Logic.{_⊎_, inl, inr, ⊎-elim}
-use mathlib.Core.Option.{Option, none, some}
+use mathlib.Core.Logic.{inl, inr, ⊎-elim}
+use mathlib.Core.Option.{none, some}
 use Prim.Native.Nat.{ℕ}
 use native.Mathlib.Omega.{arith}
 use Rattle.tape.specs.Entries.{Entry, entry, silence}
 use Rattle.rulebook.specs.Phase.{Asked, opens}
-use Rattle.rulebook.specs.Session.{Session, Beginning, Closed, Open, Lawful}
+use Rattle.rulebook.specs.Session.{Closed, Open, Lawful}
 use Rattle.rulebook.proofs.Running.{State, at, owes, done, next, andOn, run, no-state, session-run, run-session}
 use Rattle.rulebook.proofs.Reading.{run-append, beginning-run, awaits-run}
 use Rattle.rulebook.proofs.Sorting.{run-beginning, run-awaits}
@@ -26,6 +26,17 @@ module _ (es : List Entry) where
   pub silence-closes : (w : Asked) → run es (at opens) ≡ some (owes w) → Closed (es ++ (entry silence [] ∷ []))
   unfolding Closed
   silence-closes w h = (es, (run-awaits finishes es w h, refl))
+
+  -- the machine stops at an entry that is no silence
+  pub stopped-breaks : (e : Entry) → run (es ++ (e ∷ [])) (at opens) ≡ none → (e ≡ entry silence [] → ⊥) → Lawful (es ++ (e ∷ [])) → ⊥
+  unfolding Lawful Open Closed
+  stopped-breaks e stopped other l =
+      ⊎-elim (λ s. no-state done (sym stopped ∙ session-run _ s))
+      (λ o.
+      ⊎-elim (λ b. let r = beginning-run _ b in no-state (r .0) (sym stopped ∙ r .1 .0))
+      (λ c. other (sym (snoc-same (c .0) es (entry silence []) e (sym (c .1 .1)) .1)))
+      o)
+      l
 
   module _ (σ : State) (e : Entry) (h : run es (at opens) ≡ some σ) where
     abbrev longer : List Entry

@@ -1,9 +1,8 @@
 -- Each list of entries is exactly one of: a session, open, neither.
 -- Assumes nothing.
-use mathlib.Core.Path.{_≡_, refl, sym, ap, _∙_, subst}
-use mathlib.Core.Bool.{Bool, true, false}
+use mathlib.Core.Path.{_≡_, refl, sym, ap, _∙_}
 use mathlib.Core.List.{List, [], _∷_, _++_}
-use mathlib.Core.Logic.{_⊎_, inl, inr, ⊎-elim}
+use mathlib.Core.Logic.{inl, inr, ⊎-elim}
 use mathlib.Core.Option.{Option, none, some}
 use Prim.Native.Nat.{ℕ}
 use native.Mathlib.Omega.{arith}
@@ -12,10 +11,10 @@ use borrow.Author.Tests.{eqb-true, eqb-false}
 use Rattle.lists.proofs.Choice.{either}
 use Rattle.tape.specs.Entries.{Entry, entry, silence}
 use Rattle.rulebook.specs.Phase.{Asked, Phase, opens}
-use Rattle.rulebook.specs.Session.{Session, Beginning, AwaitsCard, Closed, Open}
+use Rattle.rulebook.specs.Session.{Session, Beginning, Closed, Open}
 use Rattle.rulebook.proofs.Finishing.{Finished}
 use Rattle.rulebook.proofs.Running.{State, at, owes, done, run, no-state, session-run, run-session}
-use Rattle.rulebook.proofs.Reading.{beginning-run, awaits-run, closed-run, not-both, not-closed}
+use Rattle.rulebook.proofs.Reading.{beginning-run, awaits-run, not-both, not-closed}
 use Rattle.rulebook.proofs.Sorting.{run-beginning, run-awaits}
 
 -- two lists with one entry after each

@@ -1,0 +1,138 @@
+-- What the rulebook asks of a kernel and of a judge, each taken as any function of the entries so far, and that such functions
+-- exist: what comes before settles the command or the decision that is due, and each list is a session, or open, or breaks somewhere.
+-- Assumes nothing.
+use mathlib.Core.Path.{_≡_, refl, sym, ap, _∙_}
+use mathlib.Core.Bool.{Bool, true, false, _||_, false≢true}
+use mathlib.Core.List.{List, [], _∷_, _++_}
+use mathlib.Core.Logic.{inl, inr, ⊎-elim}
+use mathlib.Core.Option.{Option, none, some}
+use Prim.Native.Nat.{ℕ}
+use lib.Dec.{eqb}
+use Rattle.tape.specs.Entries.{Entry, entry, start, command, answer, host, decision}
+use Rattle.rulebook.specs.Phase.{opens, asks, hears, decides, commandOf, decisionOf}
+use Rattle.rulebook.specs.Session.{Session, Open, Lawful, BreaksAt}
+use Rattle.rulebook.proofs.Running.{State, at, owes, done, due, alike, alike-same, due-entry, due-test, next, run, chosen, taken, no-state, session-run}
+use Rattle.rulebook.proofs.Reading.{run-append}
+use Rattle.rulebook.proofs.Trichotomy.{Sort, finished, unfinished, neither, sorted, one-sort}
+use Rattle.rulebook.proofs.Ends.{finishes}
+use Rattle.rulebook.proofs.Breaks.{one-break, break-unlawful, break-found}
+
+-- ---- kernels
+
+-- what a kernel gives: commands and the decision
+unfoldable pub given : Entry → Bool
+given e = eqb (e .kind) command || eqb (e .kind) decision
+
+abbrev pub Kernel : Type 0
+Kernel = List Entry → Entry
+
+-- in every session, wherever a command or the decision stands, the kernel gives just that after the entries before it
+unfoldable pub RightKernel : Kernel → Type 0
+RightKernel k = (es : List Entry) (e : Entry) (rest : List Entry) → Session (es ++ (e ∷ rest)) → given e ≡ true → k es ≡ e
+
+-- the command or decision that is due in a state; elsewhere any entry
+unfoldable dueIn : State → Entry
+dueIn (at opens) = entry start []
+dueIn (at (asks w)) = entry command (commandOf w)
+dueIn (at (hears s)) = entry host []
+dueIn (at (decides outcome reason s)) = entry decision (decisionOf outcome reason s)
+dueIn (owes w) = entry answer []
+dueIn done = entry start []
+
+unfoldable after : Option State → Entry
+after none = entry start []
+after (some σ) = dueIn σ
+
+not-given : {A : Type 0} (k : ℕ) (test : Bool) (e : Entry) → given (entry k (e .payload)) ≡ false → due k test e ≡ true → given e ≡ true → A
+not-given k test e other d g = absurd (false≢true (sym other ∙ (sym (ap given (due-entry k test e d)) ∙ g)))
+
+-- whatever is given is what is due
+given-due : (σ τ : State) (e : Entry) → next σ e ≡ some τ → given e ≡ true → dueIn σ ≡ e
+unfolding next dueIn given
+given-due (at opens) τ e h g = not-given start _ e refl (chosen (due start _ e) _ τ h .0) g
+given-due (at (asks w)) τ e h g =
+    let d = chosen (due command (alike (e .payload) (commandOf w)) e) _ τ h .0 in
+    let same = alike-same (e .payload) (commandOf w) (due-test command _ e d) in
+    sym (due-entry command _ e d ∙ ap (entry command) same)
+given-due (at (hears s)) τ e h g = not-given host _ e refl (chosen (due host _ e) _ τ h .0) g
+given-due (at (decides outcome reason s)) τ e h g =
+    let d = chosen (due decision (alike (e .payload) (decisionOf outcome reason s)) e) _ τ h .0 in
+    let same = alike-same (e .payload) (decisionOf outcome reason s) (due-test decision _ e d) in
+    sym (due-entry decision _ e d ∙ ap (entry decision) same)
+given-due (owes w) τ e h g = not-given answer _ e refl (chosen (due answer _ e) _ τ h .0) g
+given-due done τ e h g = no-state τ h
+
+-- there is a right kernel
+pub rightKernel : Kernel
+rightKernel es = after (run es (at opens))
+
+pub right-kernel : RightKernel rightKernel
+unfolding RightKernel rightKernel after run
+right-kernel es e rest play g =
+    let whole = sym (run-append es (e ∷ rest) (at opens)) ∙ session-run (es ++ (e ∷ rest)) play in
+    let t = taken (run (e ∷ rest)) (run es (at opens)) done whole in
+    let n = taken (run rest) (next (t .0) e) done (t .1 .1) in
+    ap after (t .1 .0) ∙ given-due (t .0) (n .0) e (n .1 .0) g
+
+-- the entries before it settle what is given
+pub one-given : (es : List Entry) (d e : Entry) (rest more : List Entry) → Session (es ++ (d ∷ rest)) → Session (es ++ (e ∷ more))
+    → given d ≡ true → given e ≡ true → d ≡ e
+unfolding RightKernel
+one-given es d e rest more a b g h = sym (right-kernel es d rest a g) ∙ right-kernel es e more b h
+
+-- ---- judges
+
+-- the answers for a readable tape
+pub data Verdict : Type 0 where
+  pass : Verdict
+  inconclusive : Verdict
+  fail : ℕ → Verdict
+
+abbrev pub Judge : Type 0
+Judge = List Entry → Verdict
+
+-- demand 3
+pub record RightJudge (j : Judge) : Type 0 where
+  pub finished : (es : List Entry) → Session es → j es ≡ pass
+  pub unfinished : (es : List Entry) → Open es → j es ≡ inconclusive
+  pub broken : (es : List Entry) (k : ℕ) → BreaksAt es k → j es ≡ fail k
+
+unlawful : (es : List Entry) → (Session es → ⊥) → (Open es → ⊥) → Lawful es → ⊥
+unfolding Lawful
+unlawful es s o l = ⊎-elim s o l
+
+verdictOf : (es : List Entry) → Sort es → Verdict
+verdictOf es (finished s) = pass
+verdictOf es (unfinished o) = inconclusive
+verdictOf es (neither s o) = fail (break-found es (unlawful es s o) .0)
+
+-- there is a right judge
+pub rightJudge : Judge
+rightJudge es = verdictOf es (sorted finishes es)
+
+of-session : (es : List Entry) (s : Session es) (t : Sort es) → verdictOf es t ≡ pass
+unfolding verdictOf
+of-session es s (finished t) = refl
+of-session es s (unfinished o) = absurd (one-sort es s o)
+of-session es s (neither t o) = absurd (t s)
+
+of-open : (es : List Entry) (o : Open es) (t : Sort es) → verdictOf es t ≡ inconclusive
+unfolding verdictOf
+of-open es o (finished s) = absurd (one-sort es s o)
+of-open es o (unfinished p) = refl
+of-open es o (neither s p) = absurd (p o)
+
+of-broken : (es : List Entry) (k : ℕ) (b : BreaksAt es k) (t : Sort es) → verdictOf es t ≡ fail k
+unfolding verdictOf Lawful
+of-broken es k b (finished s) = absurd (break-unlawful es k b (inl s))
+of-broken es k b (unfinished o) = absurd (break-unlawful es k b (inr o))
+of-broken es k b (neither s o) = let f = break-found es (unlawful es s o) in ap fail (one-break es (f .0) k (f .1) b)
+
+pub right-judge : RightJudge rightJudge
+unfolding rightJudge
+right-judge =
+    record {
+      finished = λ es s. of-session es s (sorted finishes es);
+      unfinished = λ es o. of-open es o (sorted finishes es);
+      broken = λ es k b. of-broken es k b (sorted finishes es);
+    }

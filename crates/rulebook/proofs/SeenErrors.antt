@@ -1,0 +1,104 @@
+-- The errors that 01 has seen in approved products. The first four give a session that is one, and beside it what such a product puts
+-- on the tape, which breaks the rules at the entry named; the fifth is that a session ends in its decision and in nothing else.
+-- Assumes nothing.
+use mathlib.Core.Path.{_≡_, refl, ap}
+use mathlib.Core.List.{List, [], _∷_, _++_}
+use mathlib.Core.Logic.{⊎-elim}
+use Prim.Native.Nat.{ℕ}
+use native.Mathlib.Omega.{arith}
+use Rattle.objects.specs.Objects.{isSome}
+use Rattle.tape.specs.Entries.{Entry, entry, start, command, answer, silence, host, decision}
+use Rattle.rulebook.specs.Phase.{Phase}
+use Rattle.rulebook.specs.Session.{Plays, started, exchanged, told, decided, Session, Open, Lawful, BreaksAt}
+use Rattle.rulebook.proofs.Trichotomy.{snoc-same}
+use Rattle.rulebook.proofs.Opening.{reached}
+use Rattle.rulebook.proofs.Made.{startWith, startOf, amountOf, select, selected, options, profiled, readOne, recorded, number, firstAsked, given, aac, tc, arqc, decides, exchange, reads, breaks}
+
+-- ---- floor limit and selection
+
+-- up to the decision, for a card that wants the amount looked at: type 2, no code matches
+abbrev looked : List ℕ → List Entry
+looked amount =
+    entry start (startWith 2 amount 0)
+    ∷ (exchange select selected
+    ++ (exchange options (profiled 0x08 1 1) ++ (exchange readOne (recorded number) ++ exchange (firstAsked tc) (given tc))))
+
+-- approved, with the fourth byte of the TVR
+abbrev risk : ℕ → Entry
+risk byte = entry decision (1 ∷ 0 ∷ 0x80 ∷ 0 ∷ 0 ∷ byte ∷ 0 ∷ 0x28 ∷ 0 ∷ [])
+
+-- the floor limit itself, 10000, is not below the floor limit
+pub floor-limit : Session (looked (0 ∷ 0 ∷ 0 ∷ 1 ∷ 0 ∷ 0 ∷ []) ++ (risk 0x80 ∷ [])) × BreaksAt (looked (0 ∷ 0 ∷ 0 ∷ 1 ∷ 0 ∷ 0 ∷ []) ++ (risk 0x00 ∷ [])) 9
+unfolding reached isSome
+floor-limit = (reads _ refl, breaks (looked (0 ∷ 0 ∷ 0 ∷ 1 ∷ 0 ∷ 0 ∷ [])) (risk 0x00) [] refl refl refl)
+
+-- nothing is rounded: random number 40 selects at 7500 and not at 7499 (cases J and K)
+pub not-rounded : Session (looked (amountOf 0x75 0x00) ++ (risk 0x10 ∷ [])) × Session (looked (amountOf 0x74 0x99) ++ (risk 0x00 ∷ []))
+    × BreaksAt (looked (amountOf 0x74 0x99) ++ (risk 0x10 ∷ [])) 9
+unfolding reached isSome
+not-rounded = (reads _ refl, reads _ refl, breaks (looked (amountOf 0x74 0x99)) (risk 0x10) [] refl refl refl)
+
+-- ---- requests
+
+-- a record with all that is mandatory and no action codes
+abbrev uncoded : List ℕ
+uncoded =
+    0x70 ∷ 0x11 ∷ 0x5A ∷ 0x02 ∷ 0x12 ∷ 0x34 ∷ 0x5F ∷ 0x24 ∷ 0x03 ∷ 0x30 ∷ 0x12 ∷ 0x31 ∷ 0x8C ∷ 0x03 ∷ 0x9F ∷ 0x37 ∷ 0x04 ∷ 0x8D ∷ 0x00
+    ∷ 0x90 ∷ 0x00
+    ∷ []
+
+abbrev withoutCodes : List Entry
+withoutCodes =
+    entry start (startOf 0)
+    ∷ (exchange select selected ++ (exchange options (profiled 0x00 1 1) ++ exchange readOne uncoded))
+
+abbrev denied : List Entry
+denied =
+    entry start (startWith 1 (amountOf 0x75 0x00) 0x80)
+    ∷ (exchange select selected ++ (exchange options (profiled 0x00 1 1) ++ exchange readOne (recorded number)))
+
+abbrev declining : List Entry
+declining = exchange (firstAsked aac) (given aac) ++ decides 2 0 0x80 0x20
+
+-- an absent default code is all ones: type 0 asks AAC, and no TC
+pub absent-default : Session (withoutCodes ++ declining)
+    × BreaksAt (withoutCodes ++ (exchange (firstAsked tc) (given tc) ++ decides 1 0 0x80 0x20)) 7
+unfolding reached isSome
+absent-default =
+    (reads _ refl, breaks withoutCodes (entry command (firstAsked tc)) (entry answer (given tc) ∷ decides 1 0 0x80 0x20) refl refl refl)
+
+-- a denial match goes before the terminal's type: type 1 asks AAC, and not ARQC
+pub denial-first : Session (denied ++ declining) × BreaksAt (denied ++ exchange (firstAsked arqc) (given arqc)) 7
+unfolding reached isSome
+denial-first = (reads _ refl, breaks denied (entry command (firstAsked arqc)) (entry answer (given arqc) ∷ []) refl refl refl)
+
+-- ---- where a tape ends
+
+abbrev EndsDecided : List Entry → Type 0
+EndsDecided es = (before : List Entry) × ((d : List ℕ) × (es ≡ before ++ (entry decision d ∷ [])))
+
+one-more : (x : Entry) (es : List Entry) → EndsDecided es → EndsDecided (x ∷ es)
+one-more x es d = (x ∷ d .0, (d .1 .0, ap (λ (l : List Entry). x ∷ l) (d .1 .1)))
+
+ends-decided : {p : Phase} {es : List Entry} → Plays p es → EndsDecided es
+ends-decided (started {b} {es} f ok play) = one-more (entry start b) es (ends-decided play)
+ends-decided (exchanged {c} {a} {es} f ok play) =
+    one-more (entry command c) (entry answer a ∷ es) (one-more (entry answer a) es (ends-decided play))
+ends-decided (told {p} {es} f ok play) = one-more (entry host p) es (ends-decided play)
+ends-decided (decided {d} f) = ([], (d, refl))
+
+-- the last entry of a session is its decision
+pub last-is-decision : (es : List Entry) (e : Entry) → Session (es ++ (e ∷ [])) → e .kind ≡ decision
+unfolding Session
+last-is-decision es e play =
+    let d = ends-decided play in
+    ap (λ (x : Entry). x .kind) (snoc-same es (d .0) e (entry decision (d .1 .0)) (d .1 .1) .1)
+
+-- so a tape that ends after a command is open at best, and a silence never finishes one
+pub command-is-open : (es : List Entry) (c : List ℕ) → Lawful (es ++ (entry command c ∷ [])) → Open (es ++ (entry command c ∷ []))
+unfolding Lawful
+command-is-open es c l = ⊎-elim (λ s. absurd (let h = last-is-decision es (entry command c) s in omega arith)) (λ o. o) l
+
+pub silence-is-open : (es : List Entry) (p : List ℕ) → Lawful (es ++ (entry silence p ∷ [])) → Open (es ++ (entry silence p ∷ []))
+unfolding Lawful
+silence-is-open es p l = ⊎-elim (λ s. absurd (let h = last-is-decision es (entry silence p) s in omega arith)) (λ o. o) l
