@@ -23,7 +23,7 @@ use Rattle.decide.specs.declared.reply.Reply.{Reply}
 use Rattle.decide.specs.declared.reply.Reply.the-variants.{Unable}
 use Rattle.rulebook.specs.Situation.{Situation, listIn}
 use Rattle.rulebook.specs.Phase.{Asked, selecting, optioning, reading, first, second, Phase, opens, asks, hears, decides, decided as settled, ended}
-use Rattle.rulebook.specs.Turn.{goesOn, opened, selected, managed, requested, allRead, readOn, withProfile, optioned, withRecord, recorded, answered, replied, online, byFirst, firstAnswered, secondAnswered, turn, heard}
+use Rattle.rulebook.specs.Turn.{goesOn, opened, selected, requested, allRead, readOn, withProfile, optioned, withRecord, recorded, answered, replied, online, byFirst, firstAnswered, secondAnswered, turn, heard}
 use Rattle.rulebook.specs.Session.{Plays, started, exchanged, told, decided, Session}
 
 -- the most entries that a session can have
@@ -66,7 +66,7 @@ module _ (s : Situation) where
   online-few : toCome (online s) ≤ 4
   unfolding online toCome
   online-few =
-      picked (λ (p : Phase). toCome p ≤ 4) (eqb (s .terminal .kind) 0) _ _ (λ e. let h = replied-few Unable [] in omega arith) (λ e. omega arith)
+      picked (λ (p : Phase). toCome p ≤ 4) _ _ _ (λ e. let h = replied-few Unable [] in omega arith) (λ e. omega arith)
 
   by-first-few : (type : ℕ) → toCome (byFirst type s) ≤ 4
   unfolding byFirst settled toCome
@@ -77,7 +77,7 @@ module _ (s : Situation) where
 all-read-few : (s : Situation) → toCome (allRead s) ≤ 6
 unfolding allRead ended toCome
 all-read-few s =
-    picked (λ (p : Phase). toCome p ≤ 6) (eqb (afterRecords (s .facts)) 8) _ _ (λ e. omega arith) (λ e. requested-few (managed s) (afterRecords (s .facts)))
+    picked (λ (p : Phase). toCome p ≤ 6) (eqb (afterRecords (s .facts)) 8) _ _ (λ e. omega arith) (λ e. requested-few _ (afterRecords (s .facts)))
 
 -- two for each record that is left, and six after the last
 read-few : (s : Situation) (rest : List (ℕ × ℕ)) → toCome (readOn s rest) ≤ 6 + 2 * length rest

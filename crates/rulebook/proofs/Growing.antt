@@ -23,7 +23,7 @@ use Rattle.decide.specs.declared.reply.Reply.the-variants.{Unable}
 use Rattle.decide.proofs.Rows.{joined-self, kept-on}
 use Rattle.decide.proofs.Laws.{tvr-kept, tsi-kept, tsi-kept-on}
 use Rattle.rulebook.specs.Situation.{Situation, begun, cardFacts, issuerCodes, listIn}
-use Rattle.rulebook.specs.Phase.{Asked, selecting, optioning, reading, first, second, Phase, opens, asks, hears, decides, situationOf, decided, ended, approved, declined, terminated, tvrOf, tsiOf}
+use Rattle.rulebook.specs.Phase.{Asked, selecting, optioning, reading, first, second, Phase, opens, asks, hears, decides, situationOf, decided, ended, terminated, tvrOf, tsiOf}
 use Rattle.rulebook.specs.Turn.{goesOn, opened, selected, managed, requested, allRead, readOn, withProfile, optioned, withRecord, recorded, answered, replied, online, byFirst, firstAllows, secondAllows, firstAnswered, secondAnswered, turn, heard}
 use Rattle.rulebook.specs.Session.{ReadsFrom, here, began, asked, went, listened, closed}
 
@@ -66,13 +66,13 @@ module _ (s : Situation) where
 
   online-kept : Reaches s (online s)
   unfolding online
-  online-kept = picked (Reaches s) (eqb (s .terminal .kind) 0) _ _ (λ e. replied-kept Unable []) (λ e. hears-kept)
+  online-kept = picked (Reaches s) _ _ _ (λ e. replied-kept Unable []) (λ e. hears-kept)
 
   by-first-kept : (type : ℕ) → Reaches s (byFirst type s)
   unfolding byFirst decided
   by-first-kept type =
-      picked (Reaches s) (eqb type 1) _ _ (λ e. end-kept approved 0) (λ e.
-      picked (Reaches s) (eqb type 0) _ _ (λ f. end-kept declined 0) (λ f. online-kept))
+      picked (Reaches s) (eqb type 1) _ _ (λ e. end-kept _ 0) (λ e.
+      picked (Reaches s) (eqb type 0) _ _ (λ f. end-kept _ 0) (λ f. online-kept))
 
 -- through a situation that keeps what another has
 through : (s t : Situation) (q : Phase) → joined (s .tvr) (t .tvr) ≡ t .tvr → joined (s .tsi) (t .tsi) ≡ t .tsi → Reaches t q → Reaches s q

@@ -13,6 +13,7 @@ pub mod Roles
 pub mod Opening
 pub mod Made
 pub mod Sessions
+pub mod WrittenOut
 pub mod Longest
 pub mod ShutOut
 pub mod SeenErrors
