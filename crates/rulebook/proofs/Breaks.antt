@@ -11,7 +11,7 @@ use lib.ListN.{length, take}
 use lib.Seq.{split-at, take-all, take-length, take-append-le, take-append-add}
 use borrow.Author.Tests.{ltb-true, ltb-false}
 use Rattle.lists.proofs.Choice.{either}
-use Rattle.tape.specs.Entries.{Entry, entry, answer, silence}
+use Rattle.tape.specs.Entries.{Entry, entry, answer}
 use Rattle.rulebook.specs.Phase.{opens}
 use Rattle.rulebook.specs.Session.{Session, Beginning, AwaitsCard, Closed, Open, Lawful, BreaksAt}
 use Rattle.rulebook.proofs.Running.{at, run}
@@ -46,7 +46,7 @@ closed-shorter es e rest c = by-last (last-of (e ∷ rest))
     by-last (no-entry h) = absurd (let z : _≡_ {A = ℕ} 0 1 = cc in omega arith)
     by-last (last before x h) =
         let joined = append-assoc es before (x ∷ []) ∙ (ap (λ (l : List Entry). es ++ l) (sym h) ∙ c .1 .1) in
-        let same : es ++ before ≡ c .0 = snoc-same (es ++ before) (c .0) x (entry silence []) joined .0 in
+        let same : es ++ before ≡ c .0 = snoc-same (es ++ before) (c .0) x _ joined .0 in
         begins-shorter es before (subst Beginning (sym same) (awaits-begins (c .0) (c .1 .0)))
 
 -- whatever a lawful list begins with is unfinished

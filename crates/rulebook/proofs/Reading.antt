@@ -76,14 +76,17 @@ awaits-run es b =
     let o = answer-owed (t .0) (n .0) (b .0) (n .1 .0) in
     (o .0, t .1 .0 ∙ ap some (o .1))
 
--- a closing silence is where the machine stops
+-- a silence is where the machine stops
+silence-stops : (before : List Entry) (p : List ℕ) (σ : State) → run (before ++ (entry silence p ∷ [])) (at opens) ≡ some σ → ⊥
+unfolding run
+silence-stops before p σ h =
+    let t = taken (run (entry silence p ∷ [])) (run before (at opens)) σ (sym (run-append before (entry silence p ∷ []) (at opens)) ∙ h) in
+    let n = taken (run []) (next (t .0) (entry silence p)) σ (t .1 .1) in
+    silence-refused (t .0) (n .0) p (n .1 .0)
+
 pub closed-run : (es : List Entry) (σ : State) → Closed es → run es (at opens) ≡ some σ → ⊥
-unfolding Closed run
-closed-run es σ c h =
-    let whole = sym (run-append (c .0) (entry silence [] ∷ []) (at opens)) ∙ (ap (λ (l : List Entry). run l (at opens)) (sym (c .1 .1)) ∙ h) in
-    let t = taken (run (entry silence [] ∷ [])) (run (c .0) (at opens)) σ whole in
-    let n = taken (run []) (next (t .0) (entry silence [])) σ (t .1 .1) in
-    silence-refused (t .0) (n .0) [] (n .1 .0)
+unfolding Closed
+closed-run es σ c h = silence-stops (c .0) _ σ (ap (λ (l : List Entry). run l (at opens)) (sym (c .1 .1)) ∙ h)
 
 -- no list is two of these
 pub not-both : (es : List Entry) → Session es → Beginning es → ⊥
