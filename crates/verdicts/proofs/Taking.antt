@@ -1,0 +1,164 @@
+-- What one entry does in each state of the machine, for a judge that goes by the entry's kind and payload: the one entry that is due
+-- leads on, a silence closes where the card owes an answer, and anything else breaks the rules there.
+-- Assumes nothing.
+use mathlib.Core.Path.{_≡_, refl, ap, ap₂, _∙_}
+use mathlib.Core.Bool.{Bool, true, false, _&&_}
+use mathlib.Core.List.{List, [], _∷_}
+use mathlib.Core.Option.{Option, none, some}
+use Prim.Native.Nat.{ℕ, _+_}
+use native.Mathlib.Omega.{arith}
+use lib.Dec.{eqb}
+use borrow.Author.Tests.{eq-eqb, ne-eqb}
+use Rattle.lists.specs.Choice.{pick}
+use Rattle.lists.proofs.Choice.{pick-yes, pick-no, pick-same, either, and-both}
+use Rattle.terminal.specs.Reading.{Terminal}
+use Rattle.terminal.specs.Start.{terminalOf}
+use Rattle.tape.specs.Entries.{Entry, entry, start, command, answer, silence, host, decision}
+use Rattle.decide.specs.Replies.{replyOf}
+use Rattle.decide.specs.declared.reply.Reply.{Reply}
+use Rattle.decide.specs.declared.reply.Heard.the-variants.{Said, Nothing}
+use Rattle.rulebook.specs.Situation.{Situation}
+use Rattle.rulebook.specs.Phase.{Asked, opens, asks, hears, decides, commandOf, decisionOf}
+use Rattle.rulebook.specs.Turn.{opened, turn, heard}
+use Rattle.rulebook.specs.Session.{isPayload}
+use Rattle.rulebook.proofs.Running.{State, at, owes, done, due, alike, alike-same, same-alike, ofTerminal, ofReply, next}
+use Rattle.verdicts.proofs.Progress.{Progress, reached, closed, broken, empty, closes, onward, reads}
+
+-- ---- by what the machine does
+
+module _ (σ : State) (n : ℕ) (e : Entry) where
+  pub reads-taken : (τ : State) → next σ e ≡ some τ → reads (reached σ n) e ≡ reached τ (n + 1)
+  unfolding reads onward
+  reads-taken τ h = ap (onward σ n e) h
+
+  pub reads-refused : next σ e ≡ none → closes σ e ≡ false → reads (reached σ n) e ≡ broken n
+  unfolding reads onward
+  reads-refused h f = ap (onward σ n e) h ∙ pick-no _ _ _ f
+
+-- ---- by the entry
+
+-- an entry of the kind due, and one of another kind
+is-due : (k : ℕ) (test : Bool) (p : List ℕ) → test ≡ true → due k test (entry k p) ≡ true
+unfolding due
+is-due k test p h = and-both (eqb k k) test (eq-eqb k k refl) h
+
+not-due : (k j : ℕ) (test : Bool) (p : List ℕ) → (j ≡ k → ⊥) → due k test (entry j p) ≡ false
+unfolding due
+not-due k j test p h = ap (λ (b : Bool). b && test) (ne-eqb j k h)
+
+-- or of that kind with another payload
+not-passed : (k j : ℕ) (test : Bool) (p : List ℕ) → test ≡ false → due k test (entry j p) ≡ false
+unfolding due
+not-passed k j test p h = either (eqb j k) (λ y. ap₂ _&&_ y h) (λ n. ap (λ (b : Bool). b && test) n)
+
+module _ (n : ℕ) where
+  -- START
+  module _ (p : List ℕ) where
+    pub reads-start : (t : Terminal) → isPayload p ≡ true → terminalOf p ≡ some t → reads (reached (at opens) n) (entry start p) ≡ reached (at (opened t)) (n + 1)
+    unfolding next ofTerminal
+    reads-start t ok h = reads-taken (at opens) n (entry start p) (at (opened t)) (pick-yes _ _ _ (is-due start _ p ok) ∙ ap ofTerminal h)
+
+    pub start-invalid : terminalOf p ≡ none → reads (reached (at opens) n) (entry start p) ≡ broken n
+    unfolding next ofTerminal closes
+    start-invalid h =
+        reads-refused (at opens) n (entry start p)
+        (ap (λ (o : Option State). pick (due start (isPayload p) (entry start p)) o none) (ap ofTerminal h) ∙ pick-same _ _) refl
+
+    pub start-missing : (k : ℕ) → (k ≡ start → ⊥) → reads (reached (at opens) n) (entry k p) ≡ broken n
+    unfolding next closes
+    start-missing k h = reads-refused (at opens) n (entry k p) (pick-no _ _ _ (not-due start k _ p h)) refl
+
+  -- a command
+  module _ (w : Asked) (p : List ℕ) where
+    pub reads-command : p ≡ commandOf w → reads (reached (at (asks w)) n) (entry command p) ≡ reached (owes w) (n + 1)
+    unfolding next
+    reads-command h =
+        reads-taken (at (asks w)) n (entry command p) (owes w)
+        (pick-yes _ _ _ (is-due command _ p (ap (λ (c : List ℕ). alike c (commandOf w)) h ∙ same-alike (commandOf w))))
+
+    pub command-wrong : (k : ℕ) → (p ≡ commandOf w → ⊥) → reads (reached (at (asks w)) n) (entry k p) ≡ broken n
+    unfolding next closes
+    command-wrong k h =
+        reads-refused (at (asks w)) n (entry k p)
+        (pick-no _ _ _ (not-passed command k _ p (either (alike p (commandOf w)) (λ y. absurd (h (alike-same p (commandOf w) y))) (λ f. f)))) refl
+
+    pub command-missing : (k : ℕ) → (k ≡ command → ⊥) → reads (reached (at (asks w)) n) (entry k p) ≡ broken n
+    unfolding next closes
+    command-missing k h = reads-refused (at (asks w)) n (entry k p) (pick-no _ _ _ (not-due command k _ p h)) refl
+
+  -- an answer, or a closing silence
+  module _ (w : Asked) (p : List ℕ) where
+    pub reads-answer : isPayload p ≡ true → reads (reached (owes w) n) (entry answer p) ≡ reached (at (turn w p)) (n + 1)
+    unfolding next
+    reads-answer ok = reads-taken (owes w) n (entry answer p) (at (turn w p)) (pick-yes _ _ _ (is-due answer _ p ok))
+
+    pub reads-silence : p ≡ [] → reads (reached (owes w) n) (entry silence p) ≡ closed (n + 1)
+    unfolding reads onward next closes empty
+    reads-silence h =
+        ap (onward (owes w) n (entry silence p)) (pick-no _ _ _ (not-due answer silence _ p (λ e. omega arith)))
+        ∙ pick-yes _ _ _ (and-both (eqb silence silence) (empty p) refl (ap empty h))
+
+    not-empty : (q : List ℕ) → (q ≡ [] → ⊥) → empty q ≡ false
+    unfolding empty
+    not-empty [] h = absurd (h refl)
+    not-empty (b ∷ q) h = refl
+
+    pub silence-with-payload : (p ≡ [] → ⊥) → reads (reached (owes w) n) (entry silence p) ≡ broken n
+    unfolding next closes
+    silence-with-payload h =
+        reads-refused (owes w) n (entry silence p) (pick-no _ _ _ (not-due answer silence _ p (λ e. omega arith))) (not-empty p h)
+
+    pub answer-missing : (k : ℕ) → (k ≡ answer → ⊥) → (k ≡ silence → ⊥) → reads (reached (owes w) n) (entry k p) ≡ broken n
+    unfolding next closes
+    answer-missing k h s =
+        reads-refused (owes w) n (entry k p) (pick-no _ _ _ (not-due answer k _ p h)) (ap (λ (b : Bool). b && empty p) (ne-eqb k silence s))
+
+  -- HOST
+  module _ (s : Situation) (p : List ℕ) where
+    pub reads-host : (r : Reply) → isPayload p ≡ true → replyOf p ≡ Said r → reads (reached (at (hears s)) n) (entry host p) ≡ reached (at (heard s r p)) (n + 1)
+    unfolding next ofReply
+    reads-host r ok h = reads-taken (at (hears s)) n (entry host p) (at (heard s r p)) (pick-yes _ _ _ (is-due host _ p ok) ∙ ap (ofReply s p) h)
+
+    pub host-invalid : replyOf p ≡ Nothing → reads (reached (at (hears s)) n) (entry host p) ≡ broken n
+    unfolding next ofReply closes
+    host-invalid h =
+        reads-refused (at (hears s)) n (entry host p)
+        (ap (λ (o : Option State). pick (due host (isPayload p) (entry host p)) o none) (ap (ofReply s p) h) ∙ pick-same _ _) refl
+
+    pub host-missing : (k : ℕ) → (k ≡ host → ⊥) → reads (reached (at (hears s)) n) (entry k p) ≡ broken n
+    unfolding next closes
+    host-missing k h = reads-refused (at (hears s)) n (entry k p) (pick-no _ _ _ (not-due host k _ p h)) refl
+
+  -- DECISION
+  module _ (outcome reason : ℕ) (s : Situation) (p : List ℕ) where
+    pub reads-decision : p ≡ decisionOf outcome reason s → reads (reached (at (decides outcome reason s)) n) (entry decision p) ≡ reached done (n + 1)
+    unfolding next
+    reads-decision h =
+        reads-taken (at (decides outcome reason s)) n (entry decision p) done
+        (pick-yes _ _ _
+        (is-due decision _ p (ap (λ (d : List ℕ). alike d (decisionOf outcome reason s)) h ∙ same-alike (decisionOf outcome reason s))))
+
+    pub decision-wrong : (k : ℕ) → (p ≡ decisionOf outcome reason s → ⊥) → reads (reached (at (decides outcome reason s)) n) (entry k p) ≡ broken n
+    unfolding next closes
+    decision-wrong k h =
+        let d = decisionOf outcome reason s in
+        reads-refused (at (decides outcome reason s)) n (entry k p)
+        (pick-no _ _ _ (not-passed decision k _ p (either (alike p d) (λ y. absurd (h (alike-same p d y))) (λ f. f)))) refl
+
+    pub decision-missing : (k : ℕ) → (k ≡ decision → ⊥) → reads (reached (at (decides outcome reason s)) n) (entry k p) ≡ broken n
+    unfolding next closes
+    decision-missing k h = reads-refused (at (decides outcome reason s)) n (entry k p) (pick-no _ _ _ (not-due decision k _ p h)) refl
+
+  -- nothing follows the end, a closing silence or a break
+  module _ (e : Entry) where
+    pub reads-after-end : reads (reached done n) e ≡ broken n
+    unfolding next closes
+    reads-after-end = reads-refused done n e refl refl
+
+    pub reads-after-silence : reads (closed n) e ≡ broken n
+    unfolding reads
+    reads-after-silence = refl
+
+    pub reads-after-break : reads (broken n) e ≡ broken n
+    unfolding reads
+    reads-after-break = refl

@@ -1,0 +1,2 @@
+-- The verdict of a tape, and the line that says it.
+pub mod Judged
