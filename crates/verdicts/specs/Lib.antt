@@ -1,2 +1,3 @@
 -- The verdict of a tape, and the line that says it.
 pub mod Judged
+pub mod Line

@@ -1,4 +1,6 @@
 // What is said of a tape: a verdict, a place and a code.
+pub mod line;
+
 pub enum Verdict {
     Pass,
     Fail,
