@@ -3,6 +3,8 @@ pub mod Progress
 pub mod Meaning
 pub mod Taking
 pub mod Loop
+pub mod Endings
+pub mod Silence
 pub mod Digits
 pub mod Printing
 pub mod Pinned

@@ -42,7 +42,7 @@ is-due : (k : ℕ) (test : Bool) (p : List ℕ) → test ≡ true → due k test
 unfolding due
 is-due k test p h = and-both (eqb k k) test (eq-eqb k k refl) h
 
-not-due : (k j : ℕ) (test : Bool) (p : List ℕ) → (j ≡ k → ⊥) → due k test (entry j p) ≡ false
+pub not-due : (k j : ℕ) (test : Bool) (p : List ℕ) → (j ≡ k → ⊥) → due k test (entry j p) ≡ false
 unfolding due
 not-due k j test p h = ap (λ (b : Bool). b && test) (ne-eqb j k h)
 
