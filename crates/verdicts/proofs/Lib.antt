@@ -5,6 +5,8 @@ pub mod Taking
 pub mod Loop
 pub mod Endings
 pub mod Silence
+pub mod Stored
+pub mod ShutOut
 pub mod Digits
 pub mod Printing
 pub mod Pinned
