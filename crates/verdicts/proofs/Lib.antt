@@ -1,5 +1,4 @@
 pub mod Once
-pub mod Progress
 pub mod Meaning
 pub mod Taking
 pub mod Loop

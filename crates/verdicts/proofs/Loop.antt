@@ -1,7 +1,7 @@
 -- A tape judged one block at a time: what is said in the end is said of the progress so far and of the blocks that are left, and a good
 -- block moves both on.
 -- Assumes nothing.
-use mathlib.Core.Path.{_≡_, refl, sym, ap, _∙_}
+use mathlib.Core.Path.{_≡_, refl, ap, _∙_}
 use mathlib.Core.Bool.{true}
 use mathlib.Core.List.{List, []}
 use Prim.Native.Nat.{ℕ, _+_, _*_, _/_, _%_, _≤_, _<_}
@@ -14,13 +14,13 @@ use Rattle.lists.proofs.Choice.{picked, and-both}
 use Rattle.crc.proofs.Bytes.{bytes-take, bytes-drop}
 use Rattle.tape.specs.Entries.{Entry, entry, blockSize, tapeMost, payloadMost}
 use Rattle.tape.specs.Blocks.{kindIn, lengthIn, payloadAt, lengthBad, payloadIn, codeOf, entryIn}
-use Rattle.tape.specs.Tapes.{Reading, entries, unreadable, preceded, blockAt, readFrom, sessionOf, readTape}
+use Rattle.tape.specs.Tapes.{Reading, entries, unreadable, preceded, blockAt, readFrom, sessionOf}
 use Rattle.tape.proofs.Steps.{read-end, read-bad, read-good, rest-next, tape-long, tape-ragged, tape-blocks}
 use Rattle.rulebook.specs.Session.{isPayload}
 use Rattle.verdicts.specs.Judged.{says}
 use Rattle.verdicts.specs.declared.Verdict.the-variants.{Unreadable}
 use Rattle.verdicts.specs.declared.Answer.{Answer}
-use Rattle.verdicts.proofs.Progress.{Progress, begun, reads, readsAll, concluded, finally, verdictOf}
+use Rattle.verdicts.specs.Progress.{Progress, begun, reads, readsAll, concluded, finally, verdictOf}
 
 -- one entry in front of the rest is one entry further
 pub finally-next : (m : Progress) (e : Entry) (r : Reading) → finally m (preceded e r) ≡ finally (reads m e) r

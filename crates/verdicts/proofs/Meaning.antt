@@ -10,7 +10,6 @@ use native.Mathlib.Omega.{arith}
 use lib.Dec.{eqb}
 use lib.ListN.{length, length-append}
 use borrow.Author.Tests.{eqb-true}
-use Rattle.lists.specs.Choice.{pick}
 use Rattle.lists.proofs.Choice.{picked, and-left, and-right}
 use Rattle.tape.specs.Entries.{Entry, entry, silence}
 use Rattle.tape.specs.Tapes.{Reading, entries, unreadable, readTape}
@@ -23,7 +22,7 @@ use Rattle.rulebook.proofs.Breaks.{after-closed, break-here, break-stays}
 use Rattle.rulebook.proofs.States.{state-lawful, silence-closes, state-next, refused-breaks}
 use Rattle.verdicts.specs.Judged.{says, Judges, passes, stays, fails, Judged, readable, damaged}
 use Rattle.verdicts.specs.declared.Verdict.the-variants.{Pass, Inconclusive}
-use Rattle.verdicts.proofs.Progress.{Progress, reached, closed, broken, begun, empty, closes, onward, reads, readsAll, progressOf, concluded, finally, verdictOf}
+use Rattle.verdicts.specs.Progress.{Progress, reached, closed, broken, begun, empty, closes, onward, reads, readsAll, progressOf, concluded, finally, verdictOf}
 
 -- what is known of the entries that were read
 unfoldable pub Means : Progress → List Entry → Type 0

@@ -8,7 +8,7 @@ use Prim.Native.Nat.{ℕ}
 use lib.ListN.{length}
 use Rattle.tape.specs.Entries.{Entry}
 use Rattle.tape.specs.Tapes.{Reading, entries, unreadable, readTape}
-use Rattle.rulebook.specs.Session.{Session, Open, Lawful}
+use Rattle.rulebook.specs.Session.{Lawful}
 use Rattle.rulebook.proofs.Trichotomy.{Sort, finished, unfinished, neither, sorted}
 use Rattle.rulebook.proofs.Ends.{finishes}
 use Rattle.rulebook.proofs.Breaks.{break-found}

@@ -2,12 +2,10 @@
 -- exists, so that nothing here holds for want of any.
 -- Assumes nothing.
 use mathlib.Core.Path.{_≡_, refl, sym, ap, _∙_}
-use mathlib.Core.Bool.{true}
 use mathlib.Core.List.{List, [], _∷_}
 use mathlib.Core.Logic.{inl}
 use Prim.Native.Nat.{ℕ}
 use native.Mathlib.Omega.{arith}
-use lib.ListN.{length}
 use Rattle.tape.specs.Entries.{Entry, entry, start, command, isKind, storable, allStorable}
 use Rattle.tape.specs.Tapes.{entries, readTape, sessionOf, written}
 use Rattle.tape.proofs.Steps.{read-end, tape-ragged, tape-blocks}
@@ -21,7 +19,7 @@ use Rattle.verdicts.specs.declared.Verdict.{Verdict}
 use Rattle.verdicts.specs.declared.Verdict.the-variants.{Pass, Fail, Inconclusive, Unreadable}
 use Rattle.verdicts.specs.declared.Answer.{Answer}
 use Rattle.verdicts.proofs.Once.{judged-once}
-use Rattle.verdicts.proofs.Progress.{verdictOf}
+use Rattle.verdicts.specs.Progress.{verdictOf}
 use Rattle.verdicts.proofs.Meaning.{verdict-judged}
 use Rattle.verdicts.proofs.Stored.{written-judged, session-judged}
 

@@ -1,7 +1,7 @@
 -- What a silence does to a tape: one without payload, where the card owes an answer, leaves it inconclusive; any other breaks the rules
 -- there, since no state of the machine takes a silence.
 -- Assumes nothing.
-use mathlib.Core.Path.{_≡_, refl, sym, ap, _∙_, subst}
+use mathlib.Core.Path.{_≡_, refl, sym, ap, _∙_}
 use mathlib.Core.List.{List, [], _∷_, _++_}
 use mathlib.Core.Logic.{inl, inr, ⊎-elim}
 use mathlib.Core.Option.{Option, none, some}

@@ -22,7 +22,7 @@ use Rattle.rulebook.specs.Phase.{Asked, opens, asks, hears, decides, commandOf,
 use Rattle.rulebook.specs.Turn.{opened, turn, heard}
 use Rattle.rulebook.specs.Session.{isPayload}
 use Rattle.rulebook.proofs.Running.{State, at, owes, done, due, alike, alike-same, same-alike, ofTerminal, ofReply, next}
-use Rattle.verdicts.proofs.Progress.{Progress, reached, closed, broken, empty, closes, onward, reads}
+use Rattle.verdicts.specs.Progress.{reached, closed, broken, empty, closes, onward, reads}
 
 -- ---- by what the machine does
 

@@ -1,3 +1,4 @@
--- The verdict of a tape, and the line that says it.
+-- The verdict of a tape, how it is found entry by entry, and the line that says it.
 pub mod Judged
+pub mod Progress
 pub mod Line

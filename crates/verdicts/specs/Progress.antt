@@ -1,5 +1,5 @@
--- How far the entries of a tape have been read, entry by entry, by the rulebook's machine. What stands here is no claim: that it
--- finds the verdict of every tape is proved in Meaning, and a loop over blocks goes by it in Loop.
+-- How the verdict is found: the entries of a tape read one by one by the rulebook's machine. What a verdict is stands in Judged, without
+-- it; that this finds the verdict of every tape is proved (Meaning), so nobody need believe it.
 -- Assumes nothing.
 use mathlib.Core.Bool.{Bool, true, false, _&&_}
 use mathlib.Core.List.{List, [], _∷_}
