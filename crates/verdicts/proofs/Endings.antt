@@ -22,7 +22,7 @@ use Rattle.rulebook.specs.Session.{isPayload, Session, Closed, Open, Lawful}
 use Rattle.rulebook.proofs.Running.{State, at, owes, done, due, alike, ofTerminal, ofReply, next, run, chosen, due-entry, taken, no-state, session-run}
 use Rattle.rulebook.proofs.Reading.{run-append}
 use Rattle.rulebook.proofs.Breaks.{after-session, after-closed, break-here}
-use Rattle.verdicts.specs.Judged.{says, Judges, passes, stays, fails, Judged, readable, damaged}
+use Rattle.verdicts.specs.Judged.{says, Judges, passes, undecided, fails, Judged, readable, damaged}
 use Rattle.verdicts.specs.declared.Verdict.the-variants.{Pass, Fail}
 use Rattle.verdicts.specs.declared.Answer.{Answer}
 
@@ -86,7 +86,7 @@ module _ (t : List ℕ) (es : List Entry) (e : Entry) (r : readTape t ≡ entrie
   no-pass a other (readable fs q (passes s v)) p =
       let same : fs ≡ es ++ (e ∷ []) = cc in
       other (session-ends es e (subst Session same s))
-  no-pass a other (readable fs q (stays o v)) p = let z : _≡_ {A = ℕ} 0 1 = cc in omega arith
+  no-pass a other (readable fs q (undecided o v)) p = let z : _≡_ {A = ℕ} 0 1 = cc in omega arith
   no-pass a other (readable fs q (fails k b v)) p = let z : _≡_ {A = ℕ} 0 1 = cc in omega arith
   no-pass a other (damaged place code q v) p = let z : _≡_ {A = ℕ} 0 1 = cc in omega arith
 

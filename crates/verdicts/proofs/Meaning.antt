@@ -20,7 +20,7 @@ use Rattle.rulebook.proofs.Sorting.{run-beginning}
 use Rattle.rulebook.proofs.Ends.{finishes}
 use Rattle.rulebook.proofs.Breaks.{after-closed, break-here, break-stays}
 use Rattle.rulebook.proofs.States.{state-lawful, silence-closes, state-next, refused-breaks}
-use Rattle.verdicts.specs.Judged.{says, Judges, passes, stays, fails, Judged, readable, damaged}
+use Rattle.verdicts.specs.Judged.{says, Judges, passes, undecided, fails, Judged, readable, damaged}
 use Rattle.verdicts.specs.declared.Verdict.the-variants.{Pass, Inconclusive}
 use Rattle.verdicts.specs.Progress.{Progress, reached, closed, broken, begun, empty, closes, onward, reads, readsAll, progressOf, concluded, finally, verdictOf}
 
@@ -113,11 +113,11 @@ progress-means es = means-all es [] begun (refl, refl)
 pub concluded-judges : (es : List Entry) (m : Progress) → Means m es → Judges es (concluded m)
 unfolding Means concluded Open
 concluded-judges es (reached (at p) n) h =
-    stays (inl (run-beginning finishes es (at p) (h .0) (λ e. let z : _≡_ {A = ℕ} 0 1 = cc in omega arith))) (ap (λ (k : ℕ). says Inconclusive k 0) (h .1))
+    undecided (inl (run-beginning finishes es (at p) (h .0) (λ e. let z : _≡_ {A = ℕ} 0 1 = cc in omega arith))) (ap (λ (k : ℕ). says Inconclusive k 0) (h .1))
 concluded-judges es (reached (owes w) n) h =
-    stays (inl (run-beginning finishes es (owes w) (h .0) (λ e. let z : _≡_ {A = ℕ} 0 1 = cc in omega arith))) (ap (λ (k : ℕ). says Inconclusive k 0) (h .1))
+    undecided (inl (run-beginning finishes es (owes w) (h .0) (λ e. let z : _≡_ {A = ℕ} 0 1 = cc in omega arith))) (ap (λ (k : ℕ). says Inconclusive k 0) (h .1))
 concluded-judges es (reached done n) h = passes (run-session es (h .0)) (ap (λ (k : ℕ). says Pass k 0) (h .1))
-concluded-judges es (closed n) h = stays (inr (h .0)) (ap (λ (k : ℕ). says Inconclusive k 0) (h .1))
+concluded-judges es (closed n) h = undecided (inr (h .0)) (ap (λ (k : ℕ). says Inconclusive k 0) (h .1))
 concluded-judges es (broken k) h = fails k h refl
 
 pub progress-judges : (es : List Entry) → Judges es (concluded (progressOf es))

@@ -13,7 +13,7 @@ use Rattle.rulebook.proofs.Trichotomy.{Sort, finished, unfinished, neither, sor
 use Rattle.rulebook.proofs.Ends.{finishes}
 use Rattle.rulebook.proofs.Breaks.{break-found}
 use Rattle.rulebook.proofs.Roles.{Verdict, pass, inconclusive, fail, rightJudge, right-judge}
-use Rattle.verdicts.specs.Judged.{says, Judges, passes, stays, fails, Judged, readable, damaged}
+use Rattle.verdicts.specs.Judged.{says, Judges, passes, undecided, fails, Judged, readable, damaged}
 use Rattle.verdicts.specs.declared.Verdict.the-variants.{Pass, Fail, Inconclusive, Unreadable}
 use Rattle.verdicts.specs.declared.Answer.{Answer}
 
@@ -32,7 +32,7 @@ answerTo (unreadable place code) = says Unreadable place code
 judges-told : (es : List Entry) (a : Answer) → Judges es a → a ≡ told es (rightJudge es)
 unfolding told
 judges-told es a (passes s e) = e ∙ sym (ap (told es) (right-judge .finished es s))
-judges-told es a (stays o e) = e ∙ sym (ap (told es) (right-judge .unfinished es o))
+judges-told es a (undecided o e) = e ∙ sym (ap (told es) (right-judge .unfinished es o))
 judges-told es a (fails k b e) = e ∙ sym (ap (told es) (right-judge .broken es k b))
 
 judged-told : (t : List ℕ) (a : Answer) → Judged t a → a ≡ answerTo (readTape t)
@@ -51,7 +51,7 @@ judged-once {t} {v} {w} j k = judged-told t v j ∙ sym (judged-told t w k)
 of-sort : (es : List Entry) → Sort es → (a : Answer) × Judges es a
 unfolding Lawful
 of-sort es (finished s) = (_, passes s refl)
-of-sort es (unfinished o) = (_, stays o refl)
+of-sort es (unfinished o) = (_, undecided o refl)
 of-sort es (neither s o) = let f = break-found es (⊎-elim s o) in (_, fails (f .0) (f .1) refl)
 
 pub judges-some : (es : List Entry) → (a : Answer) × Judges es a

@@ -14,7 +14,7 @@ use Rattle.rulebook.proofs.Breaks.{begins-empty}
 use Rattle.rulebook.proofs.Made.{startOf, select, tc}
 use Rattle.rulebook.proofs.Sessions.{offline, approved-offline}
 use Rattle.rulebook.proofs.ShutOut.{breaks-at-0, breaks-at-1}
-use Rattle.verdicts.specs.Judged.{says, stays, fails, Judged, readable, damaged}
+use Rattle.verdicts.specs.Judged.{says, undecided, fails, Judged, readable, damaged}
 use Rattle.verdicts.specs.declared.Verdict.{Verdict}
 use Rattle.verdicts.specs.declared.Verdict.the-variants.{Pass, Fail, Inconclusive, Unreadable}
 use Rattle.verdicts.specs.declared.Answer.{Answer}
@@ -28,7 +28,7 @@ use Rattle.verdicts.proofs.Stored.{written-judged, session-judged}
 -- no input: INCONCLUSIVE 0 0
 pub nothing-judged : Judged [] (says Inconclusive 0 0)
 unfolding Open
-nothing-judged = readable [] (tape-blocks [] (omega arith) refl ∙ read-end 0 (sessionOf []) [] (omega arith)) (stays (inl begins-empty) refl)
+nothing-judged = readable [] (tape-blocks [] (omega arith) refl ∙ read-end 0 (sessionOf []) [] (omega arith)) (undecided (inl begins-empty) refl)
 
 -- one byte, whichever: UNREADABLE 0 2
 pub byte-judged : (b : ℕ) → Judged (b ∷ []) (says Unreadable 0 2)

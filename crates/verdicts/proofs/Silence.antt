@@ -20,7 +20,7 @@ use Rattle.rulebook.proofs.Sorting.{run-awaits}
 use Rattle.rulebook.proofs.Ends.{finishes}
 use Rattle.rulebook.proofs.Breaks.{begins-empty, after-session, after-closed}
 use Rattle.rulebook.proofs.States.{refused-breaks}
-use Rattle.verdicts.specs.Judged.{says, Judges, stays}
+use Rattle.verdicts.specs.Judged.{says, Judges, undecided}
 use Rattle.verdicts.specs.declared.Verdict.the-variants.{Fail, Inconclusive}
 use Rattle.verdicts.proofs.Taking.{not-due}
 use Rattle.verdicts.proofs.Endings.{one-too-many}
@@ -28,7 +28,7 @@ use Rattle.verdicts.proofs.Endings.{one-too-many}
 -- one closing silence, where the card's answer is awaited; it is counted
 pub closing-silence : (es : List Entry) → AwaitsCard es → Judges (es ++ (entry silence [] ∷ [])) (says Inconclusive (length es + 1) 0)
 unfolding Open Closed
-closing-silence es a = stays (inr (es, (a, refl))) (ap (λ (n : ℕ). says Inconclusive n 0) (sym (length-append es (entry silence [] ∷ []))))
+closing-silence es a = undecided (inr (es, (a, refl))) (ap (λ (n : ℕ). says Inconclusive n 0) (sym (length-append es (entry silence [] ∷ []))))
 
 -- ---- any other silence
 

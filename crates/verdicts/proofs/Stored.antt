@@ -18,7 +18,7 @@ use Rattle.tape.proofs.Growing.{appends-read}
 use Rattle.rulebook.specs.Session.{Session, AwaitsCard, Open}
 use Rattle.rulebook.proofs.Bound.{session-bound}
 use Rattle.rulebook.proofs.Breaks.{session-part}
-use Rattle.verdicts.specs.Judged.{says, Judges, passes, stays, Judged, readable}
+use Rattle.verdicts.specs.Judged.{says, Judges, passes, undecided, Judged, readable}
 use Rattle.verdicts.specs.declared.Verdict.the-variants.{Pass, Inconclusive}
 use Rattle.verdicts.specs.declared.Answer.{Answer}
 use Rattle.verdicts.proofs.Silence.{closing-silence}
@@ -30,7 +30,7 @@ session-fits es s = omega (arith, session-bound es s)
 -- an unfinished beginning of a session: as many entries as are there
 pub part-judges : (es : List Entry) (k : ℕ) → Session es → k < length es → Judges (take k es) (says Inconclusive k 0)
 unfolding Open
-part-judges es k s h = stays (inl (session-part es k h s)) (ap (λ (n : ℕ). says Inconclusive n 0) (sym (length-take-le k es (omega arith))))
+part-judges es k s h = undecided (inl (session-part es k h s)) (ap (λ (n : ℕ). says Inconclusive n 0) (sym (length-take-le k es (omega arith))))
 
 storable-append : (es fs : List Entry) → allStorable es ≡ true → allStorable fs ≡ true → allStorable (es ++ fs) ≡ true
 unfolding allStorable

@@ -20,7 +20,7 @@ pub data Judges (es : List Entry) (a : Answer) : Type 0 where
   -- a finished session: so many entries
   passes : Session es → a ≡ says Pass (length es) 0 → Judges es a
   -- an unfinished beginning, or one closing silence after one that waits for the card: so many entries
-  stays : Open es → a ≡ says Inconclusive (length es) 0 → Judges es a
+  undecided : Open es → a ≡ says Inconclusive (length es) 0 → Judges es a
   -- neither: the entry, counted from 0, at which the rules are first broken
   fails : (k : ℕ) → BreaksAt es k → a ≡ says Fail k 0 → Judges es a
 
