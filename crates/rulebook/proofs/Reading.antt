@@ -38,7 +38,7 @@ beginning-run es b =
     (t .0, (t .1 .0, λ e. ended (b .0) (b .1 .0) done (subst (λ (σ : State). run (b .0 ∷ b .1 .0) σ ≡ some done) e (t .1 .1))))
 
 -- another kind than the one due
-other-kind : (k j : ℕ) (test : Bool) (p : List ℕ) → eqb j k ≡ false → due k test (entry j p) ≡ false
+pub other-kind : (k j : ℕ) (test : Bool) (p : List ℕ) → eqb j k ≡ false → due k test (entry j p) ≡ false
 unfolding due
 other-kind k j test p e = ap (λ (b : Bool). b && test) e
 

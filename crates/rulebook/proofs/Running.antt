@@ -143,23 +143,23 @@ step-on (owes w) τ e es h rest =
 step-on done τ e es h rest = no-state τ h
 
 -- how the machine takes an entry that is due
-takes-start : (b : List ℕ) (t : Terminal) → terminalOf b ≡ some t → isPayload b ≡ true → next (at opens) (entry start b) ≡ some (at (opened t))
+pub takes-start : (b : List ℕ) (t : Terminal) → terminalOf b ≡ some t → isPayload b ≡ true → next (at opens) (entry start b) ≡ some (at (opened t))
 unfolding next ofTerminal
 takes-start b t f ok = pick-yes _ _ _ (due-yes start _ b ok) ∙ ap ofTerminal f
 
-takes-command : (w : Asked) → next (at (asks w)) (entry command (commandOf w)) ≡ some (owes w)
+pub takes-command : (w : Asked) → next (at (asks w)) (entry command (commandOf w)) ≡ some (owes w)
 unfolding next
 takes-command w = pick-yes _ _ _ (due-yes command _ (commandOf w) (same-alike (commandOf w)))
 
-takes-answer : (w : Asked) (a : List ℕ) → isPayload a ≡ true → next (owes w) (entry answer a) ≡ some (at (turn w a))
+pub takes-answer : (w : Asked) (a : List ℕ) → isPayload a ≡ true → next (owes w) (entry answer a) ≡ some (at (turn w a))
 unfolding next
 takes-answer w a ok = pick-yes _ _ _ (due-yes answer _ a ok)
 
-takes-reply : (s : Situation) (p : List ℕ) (r : Reply) → replyOf p ≡ Said r → isPayload p ≡ true → next (at (hears s)) (entry host p) ≡ some (at (heard s r p))
+pub takes-reply : (s : Situation) (p : List ℕ) (r : Reply) → replyOf p ≡ Said r → isPayload p ≡ true → next (at (hears s)) (entry host p) ≡ some (at (heard s r p))
 unfolding next ofReply
 takes-reply s p r f ok = pick-yes _ _ _ (due-yes host _ p ok) ∙ ap (ofReply s p) f
 
-takes-decision : (outcome reason : ℕ) (s : Situation) → next (at (decides outcome reason s)) (entry decision (decisionOf outcome reason s)) ≡ some done
+pub takes-decision : (outcome reason : ℕ) (s : Situation) → next (at (decides outcome reason s)) (entry decision (decisionOf outcome reason s)) ≡ some done
 unfolding next
 takes-decision outcome reason s = pick-yes _ _ _ (due-yes decision _ (decisionOf outcome reason s) (same-alike (decisionOf outcome reason s)))
 

@@ -8,7 +8,7 @@ use mathlib.Core.Option.{Option, none, some}
 use Prim.Native.Nat.{ℕ, _+_}
 use native.Mathlib.Omega.{arith}
 use lib.Dec.{eqb}
-use borrow.Author.Tests.{eq-eqb, ne-eqb}
+use borrow.Author.Tests.{ne-eqb}
 use Rattle.lists.specs.Choice.{pick}
 use Rattle.lists.proofs.Choice.{pick-yes, pick-no, pick-same, either, and-both}
 use Rattle.terminal.specs.Reading.{Terminal}
@@ -21,7 +21,8 @@ use Rattle.rulebook.specs.Situation.{Situation}
 use Rattle.rulebook.specs.Phase.{Asked, opens, asks, hears, decides, commandOf, decisionOf}
 use Rattle.rulebook.specs.Turn.{opened, turn, heard}
 use Rattle.rulebook.specs.Session.{isPayload}
-use Rattle.rulebook.proofs.Running.{State, at, owes, done, due, alike, alike-same, same-alike, ofTerminal, ofReply, next}
+use Rattle.rulebook.proofs.Running.{State, at, owes, done, due, alike, alike-same, ofTerminal, ofReply, next, takes-start, takes-command, takes-answer, takes-reply, takes-decision}
+use Rattle.rulebook.proofs.Reading.{other-kind}
 use Rattle.verdicts.specs.Progress.{reached, closed, broken, empty, closes, onward, reads}
 
 -- ---- by what the machine does
@@ -37,16 +38,10 @@ module _ (σ : State) (n : ℕ) (e : Entry) where
 
 -- ---- by the entry
 
--- an entry of the kind due, and one of another kind
-is-due : (k : ℕ) (test : Bool) (p : List ℕ) → test ≡ true → due k test (entry k p) ≡ true
-unfolding due
-is-due k test p h = and-both (eqb k k) test (eq-eqb k k refl) h
-
+-- an entry of another kind than the one due, and one of that kind with another payload
 pub not-due : (k j : ℕ) (test : Bool) (p : List ℕ) → (j ≡ k → ⊥) → due k test (entry j p) ≡ false
-unfolding due
-not-due k j test p h = ap (λ (b : Bool). b && test) (ne-eqb j k h)
+not-due k j test p h = other-kind k j test p (ne-eqb j k h)
 
--- or of that kind with another payload
 not-passed : (k j : ℕ) (test : Bool) (p : List ℕ) → test ≡ false → due k test (entry j p) ≡ false
 unfolding due
 not-passed k j test p h = either (eqb j k) (λ y. ap₂ _&&_ y h) (λ n. ap (λ (b : Bool). b && test) n)
@@ -55,8 +50,7 @@ module _ (n : ℕ) where
   -- START
   module _ (p : List ℕ) where
     pub reads-start : (t : Terminal) → isPayload p ≡ true → terminalOf p ≡ some t → reads (reached (at opens) n) (entry start p) ≡ reached (at (opened t)) (n + 1)
-    unfolding next ofTerminal
-    reads-start t ok h = reads-taken (at opens) n (entry start p) (at (opened t)) (pick-yes _ _ _ (is-due start _ p ok) ∙ ap ofTerminal h)
+    reads-start t ok h = reads-taken (at opens) n (entry start p) (at (opened t)) (takes-start p t h ok)
 
     pub start-invalid : terminalOf p ≡ none → reads (reached (at opens) n) (entry start p) ≡ broken n
     unfolding next ofTerminal closes
@@ -71,10 +65,9 @@ module _ (n : ℕ) where
   -- a command
   module _ (w : Asked) (p : List ℕ) where
     pub reads-command : p ≡ commandOf w → reads (reached (at (asks w)) n) (entry command p) ≡ reached (owes w) (n + 1)
-    unfolding next
     reads-command h =
-        reads-taken (at (asks w)) n (entry command p) (owes w)
-        (pick-yes _ _ _ (is-due command _ p (ap (λ (c : List ℕ). alike c (commandOf w)) h ∙ same-alike (commandOf w))))
+        ap (λ (c : List ℕ). reads (reached (at (asks w)) n) (entry command c)) h
+        ∙ reads-taken (at (asks w)) n (entry command (commandOf w)) (owes w) (takes-command w)
 
     pub command-wrong : (k : ℕ) → (p ≡ commandOf w → ⊥) → reads (reached (at (asks w)) n) (entry k p) ≡ broken n
     unfolding next closes
@@ -89,8 +82,7 @@ module _ (n : ℕ) where
   -- an answer, or a closing silence
   module _ (w : Asked) (p : List ℕ) where
     pub reads-answer : isPayload p ≡ true → reads (reached (owes w) n) (entry answer p) ≡ reached (at (turn w p)) (n + 1)
-    unfolding next
-    reads-answer ok = reads-taken (owes w) n (entry answer p) (at (turn w p)) (pick-yes _ _ _ (is-due answer _ p ok))
+    reads-answer ok = reads-taken (owes w) n (entry answer p) (at (turn w p)) (takes-answer w p ok)
 
     pub reads-silence : p ≡ [] → reads (reached (owes w) n) (entry silence p) ≡ closed (n + 1)
     unfolding reads onward next closes empty
@@ -116,8 +108,7 @@ module _ (n : ℕ) where
   -- HOST
   module _ (s : Situation) (p : List ℕ) where
     pub reads-host : (r : Reply) → isPayload p ≡ true → replyOf p ≡ Said r → reads (reached (at (hears s)) n) (entry host p) ≡ reached (at (heard s r p)) (n + 1)
-    unfolding next ofReply
-    reads-host r ok h = reads-taken (at (hears s)) n (entry host p) (at (heard s r p)) (pick-yes _ _ _ (is-due host _ p ok) ∙ ap (ofReply s p) h)
+    reads-host r ok h = reads-taken (at (hears s)) n (entry host p) (at (heard s r p)) (takes-reply s p r h ok)
 
     pub host-invalid : replyOf p ≡ Nothing → reads (reached (at (hears s)) n) (entry host p) ≡ broken n
     unfolding next ofReply closes
@@ -132,11 +123,10 @@ module _ (n : ℕ) where
   -- DECISION
   module _ (outcome reason : ℕ) (s : Situation) (p : List ℕ) where
     pub reads-decision : p ≡ decisionOf outcome reason s → reads (reached (at (decides outcome reason s)) n) (entry decision p) ≡ reached done (n + 1)
-    unfolding next
     reads-decision h =
-        reads-taken (at (decides outcome reason s)) n (entry decision p) done
-        (pick-yes _ _ _
-        (is-due decision _ p (ap (λ (d : List ℕ). alike d (decisionOf outcome reason s)) h ∙ same-alike (decisionOf outcome reason s))))
+        let d = decides outcome reason s in
+        ap (λ (x : List ℕ). reads (reached (at d) n) (entry decision x)) h
+        ∙ reads-taken (at d) n (entry decision (decisionOf outcome reason s)) done (takes-decision outcome reason s)
 
     pub decision-wrong : (k : ℕ) → (p ≡ decisionOf outcome reason s → ⊥) → reads (reached (at (decides outcome reason s)) n) (entry k p) ≡ broken n
     unfolding next closes
