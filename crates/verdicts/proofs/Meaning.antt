@@ -22,6 +22,8 @@ use Rattle.rulebook.proofs.Breaks.{after-closed, break-here, break-stays}
 use Rattle.rulebook.proofs.States.{state-lawful, silence-closes, state-next, refused-breaks}
 use Rattle.verdicts.specs.Judged.{says, Judges, passes, undecided, fails, Judged, readable, damaged}
 use Rattle.verdicts.specs.declared.Verdict.the-variants.{Pass, Inconclusive}
+use Rattle.verdicts.specs.declared.Answer.{Answer}
+use Rattle.verdicts.proofs.Once.{judged-once}
 use Rattle.verdicts.specs.Progress.{Progress, reached, closed, broken, begun, empty, closes, onward, reads, readsAll, progressOf, concluded, finally, verdictOf}
 
 -- what is known of the entries that were read
@@ -132,3 +134,10 @@ of-reading t (unreadable place code) h = damaged place code h refl
 pub verdict-judged : (t : List ℕ) → Judged t (verdictOf t)
 unfolding verdictOf
 verdict-judged t = of-reading t (readTape t) refl
+
+-- so an answer is right exactly where it is the one that the machine finds
+pub verdict-right : (t : List ℕ) (a : Answer) → a ≡ verdictOf t → Judged t a
+verdict-right t a e = subst (Judged t) (sym e) (verdict-judged t)
+
+pub right-verdict : (t : List ℕ) (a : Answer) → Judged t a → a ≡ verdictOf t
+right-verdict t a j = judged-once j (verdict-judged t)

@@ -95,9 +95,9 @@ module _ (n : ℕ) where
     not-empty [] h = absurd (h refl)
     not-empty (b ∷ q) h = refl
 
-    pub silence-with-payload : (p ≡ [] → ⊥) → reads (reached (owes w) n) (entry silence p) ≡ broken n
+    pub silence-wrong : (p ≡ [] → ⊥) → reads (reached (owes w) n) (entry silence p) ≡ broken n
     unfolding next closes
-    silence-with-payload h =
+    silence-wrong h =
         reads-refused (owes w) n (entry silence p) (pick-no _ _ _ (not-due answer silence _ p (λ e. omega arith))) (not-empty p h)
 
     pub answer-missing : (k : ℕ) → (k ≡ answer → ⊥) → (k ≡ silence → ⊥) → reads (reached (owes w) n) (entry k p) ≡ broken n
