@@ -42,6 +42,8 @@ rows =
     ∷ (a5 ∷ [], 8)
     ∷ (name [] ∷ [], 8)
     ∷ ([], 8)
+    -- and 84 in A5 is none of 6F's own
+    ∷ (one 0xA5 (name []) ∷ [], 8)
     -- twice
     ∷ (name [] ∷ name [] ∷ a5 ∷ [], 4)
     ∷ (name [] ∷ a5 ∷ a5 ∷ [], 4)
