@@ -1,17 +1,15 @@
 -- What is known of an answer for which no reason was found, for each kind: each line's test failed.
 -- Assumes nothing.
-use mathlib.Core.Path.{_≡_, refl, sym, ap, subst, _∙_}
-use mathlib.Core.Bool.{Bool, true, false, not, _&&_, _||_, false≢true}
-use mathlib.Core.List.{List, [], _∷_, _++_, map}
-use mathlib.Core.Option.{Option, none, some, Option·getD, Option·some-injective, Option·none-ne-some}
-use Prim.Native.Nat.{ℕ, _≤_, _<_, _+_, _-_}
+use mathlib.Core.Path.{_≡_, refl, sym, ap, _∙_}
+use mathlib.Core.Bool.{Bool, true, false, not, false≢true}
+use mathlib.Core.List.{List, [], _∷_, _++_}
+use mathlib.Core.Option.{some, Option·some-injective, Option·none-ne-some}
+use Prim.Native.Nat.{ℕ, _≤_, _-_}
 use native.Mathlib.Omega.{arith}
-use lib.Dec.{eqb}
-use lib.ListN.{length, take, drop, length-take, length-drop}
+use lib.ListN.{length, drop, length-take, length-drop}
 use borrow.Author.Tests.{not-false, ltb-false, leb-true}
 use Rattle.lists.specs.Choice.{pick, firstOf}
 use Rattle.lists.proofs.Choice.{pick-yes, pick-no, picked, either}
-use Rattle.objects.specs.Objects.{isSome}
 use Rattle.objects.specs.Lookup.{Lookup, absent, once, twice}
 use Rattle.terminal.specs.Reading.{Terminal}
 use Rattle.terminal.proofs.Tests.{first-held}
@@ -23,15 +21,14 @@ use Rattle.card_data.specs.Answer.{isOne, inside, frame}
 use Rattle.card_data.specs.Named.{listed, direct, times, told, valueOf, anyTimes, anyWrong}
 use Rattle.card_data.proofs.Tables.{and-yes}
 use Rattle.card_data.proofs.Lines.{Numbered}
-use Rattle.card_data.proofs.Accepted.{AllClear, none-applies, or-clear, any-clear, Framed, frame-accepted, named-times, named-once, named-right}
-use Rattle.card_data.proofs.Sizes.{sized, number-size, date-size}
+use Rattle.card_data.proofs.Accepted.{AllClear, none-applies, or-clear, any-clear, Framed, frame-accepted, named-once, named-right}
+use Rattle.card_data.proofs.Sizes.{sized}
 use Rattle.card_data.proofs.Members.{inside-size, direct-size, inner-size}
 use Rattle.answers.specs.Forms.{template, joined, bothForms, lacks}
 use Rattle.answers.specs.Select.{selectTag, selectNames, innerNames, inner, pdolOf, begins, nameWrong, selectTwice, selectWrong, selectLines, selectReason}
 use Rattle.answers.specs.Options.{optionNames, profileOf, locatorOf, optionsWrong, optionsLines, optionsReason}
-use Rattle.answers.specs.Records.{recordTag, recordNames, mandatory, again, anyAgain, recordTwice, recordLines, recordReason, valueIn, incomplete, completeReason, afterRecords}
+use Rattle.answers.specs.Records.{recordTag, recordNames, mandatory, again, anyAgain, recordTwice, recordLines, recordReason, valueIn, incomplete, completeReason}
 use Rattle.answers.specs.Cryptogram.{cryptogramOf, cryptogramLines, cryptogramReason}
-use Rattle.answers.proofs.Absent.{not-direct}
 
 -- the first lines pass, and so do the others
 both-clear : (expected a : List ℕ) (lines : List (Bool × ℕ)) → Numbered lines → firstOf (frame expected a ++ lines) ≡ 0
@@ -42,7 +39,7 @@ both-clear expected a lines n e =
     ((clear .0, (clear .1 .0, (clear .1 .1 .0, tt))), clear .1 .1 .1)
 
 module _ (t : Terminal) (a : List ℕ) (e : selectReason t a ≡ 0) where
-  select-clear : AllClear (frame (selectTag ∷ []) a) × AllClear (selectLines (t .aid) a)
+  pub select-clear : AllClear (frame (selectTag ∷ []) a) × AllClear (selectLines (t .aid) a)
   unfolding selectReason selectLines
   select-clear = both-clear (selectTag ∷ []) a (selectLines (t .aid) a) ((λ z. omega arith), ((λ z. omega arith), ((λ z. omega arith), ((λ z. omega arith), tt)))) e
 
@@ -77,6 +74,12 @@ pub list-size : (a : List ℕ) → length (pdolOf a) ≤ 250
 unfolding pdolOf inner
 list-size a = inner-size selectTag 0xA5 0x9F38 a
 
+-- of the two forms, an answer that is not joined is a template
+pub is-template : (a : List ℕ) → Framed bothForms a → isOne joined a ≡ false → isOne template a ≡ true
+unfolding anyOf
+is-template a f n =
+    either (isOne template a) (λ y. y) (λ k. absurd (false≢true (sym (pick-no _ _ _ k ∙ pick-no _ _ _ n) ∙ f .one)))
+
 module _ (a : List ℕ) (e : optionsReason a ≡ 0) where
   options-clear : AllClear (frame bothForms a) × AllClear (optionsLines a)
   unfolding optionsReason optionsLines
@@ -91,26 +94,19 @@ module _ (a : List ℕ) (e : optionsReason a ≡ 0) where
       let lines = options-clear .1 in
       (not-false _ (lines .1 .1 .0), ltb-false mostRecords _ (lines .1 .1 .1 .0))
 
-  -- only a template can lack something, and then it is the one object
-  is-template : isOne joined a ≡ false → isOne template a ≡ true
-  unfolding anyOf
-  is-template n =
-      either (isOne template a) (λ y. y)
-      (λ k. absurd (false≢true (sym (pick-no _ _ _ k ∙ pick-no _ _ _ n) ∙ options-framed .one)))
-
   -- in a template both stand once, with right values
-  in-template : isOne joined a ≡ false → (name : ℕ) → listed name optionNames ≡ true
+  pub in-template : isOne joined a ≡ false → (name : ℕ) → listed name optionNames ≡ true
       → (v : List ℕ) × (direct template a name ≡ once v) × (rightValue name v ≡ true)
   unfolding optionsLines optionsWrong lacks
   in-template n name l =
       let lines = options-clear .1 in
-      let missing = sym (and-yes refl _ (is-template n)) ∙ lines .1 .1 .1 .1 .0 in
+      let missing = sym (and-yes refl _ (is-template a options-framed n)) ∙ lines .1 .1 .1 .1 .0 in
       let found = named-once optionNames (direct template a) (lines .0) missing name l in
       let wrong = or-clear (anyWrong optionNames (direct template a)) _ (lines .1 .0) in
       (found .0, found .1, named-right optionNames (direct template a) (wrong .0) name (found .0) l (found .1))
 
   -- joined values are whole entries after the first two bytes
-  in-joined : isOne joined a ≡ true → wholeEntries (locatorOf a) ≡ true
+  pub in-joined : isOne joined a ≡ true → wholeEntries (locatorOf a) ≡ true
   unfolding optionsLines optionsWrong
   in-joined y =
       let wrong = or-clear (anyWrong optionNames (direct template a)) _ (options-clear .1 .1 .0) in
@@ -158,7 +154,7 @@ not-again true v l f e = absurd (false≢true (sym e ∙ ap (λ (x : Lookup). ag
 not-again false v l f e = refl
 
 module _ (before : ℕ → Bool) (a : List ℕ) (e : recordReason before a ≡ 0) where
-  record-clear : AllClear (frame (recordTag ∷ []) a) × AllClear (recordLines before a)
+  pub record-clear : AllClear (frame (recordTag ∷ []) a) × AllClear (recordLines before a)
   unfolding recordReason recordLines
   record-clear = both-clear (recordTag ∷ []) a (recordLines before a) ((λ z. omega arith), ((λ z. omega arith), tt)) e
 
@@ -188,7 +184,7 @@ module _ (there : ℕ → Bool) (list : List ℕ) (e : completeReason there list
   complete-list = not-false _ (complete-clear .1 .0)
 
 module _ (allowed : ℕ → Bool) (a : List ℕ) (e : cryptogramReason allowed a ≡ 0) where
-  cryptogram-clear : AllClear (frame bothForms a) × AllClear (cryptogramLines allowed a)
+  pub cryptogram-clear : AllClear (frame bothForms a) × AllClear (cryptogramLines allowed a)
   unfolding cryptogramReason cryptogramLines
   cryptogram-clear = both-clear bothForms a (cryptogramLines allowed a) ((λ z. omega arith), ((λ z. omega arith), ((λ z. omega arith), ((λ z. omega arith), tt)))) e
 

@@ -1,6 +1,8 @@
 pub mod Standing
 pub mod Absent
 pub mod AcceptedAnswers
+pub mod RightAnswers
+pub mod RightForms
 pub mod AlikeAnswers
 pub mod BothForms
 pub mod Opened

@@ -7,4 +7,5 @@ pub mod Members
 pub mod Sizes
 pub mod Alike
 pub mod Accepted
+pub mod Present
 mod Pinned

@@ -1,11 +1,16 @@
--- The entries of an AFL from the front on: the first four bytes are one, the others follow; fewer than four are none.
+-- The entries of an AFL from the front on: the first four bytes are one, the others follow; fewer than four are none. Whole
+-- entries are 4n bytes, n from 1.
 -- Assumes nothing.
-use mathlib.Core.Path.{_≡_, refl, sym, ap, _∙_}
-use mathlib.Core.List.{List, [], _∷_, _++_, map}
-use Prim.Native.Nat.{ℕ, zero, suc, _+_, _≤_, _<_}
+use mathlib.Core.Path.{_≡_, refl, ap, _∙_}
+use mathlib.Core.Bool.{true}
+use mathlib.Core.List.{List, [], _∷_, _++_}
+use mathlib.Core.Logic.{_↔_}
+use Prim.Native.Nat.{ℕ, zero, suc, _+_, _*_, _/_, _%_, _≤_, _<_}
 use native.Mathlib.Omega.{arith}
 use lib.ListN.{length, drop, length-append}
-use Rattle.locator.specs.Entries.{Entry, firstEntry, entries, sfi, records, recordsOf, recordCount, run, readEntry, readAll, toRead}
+use borrow.Author.Tests.{leb-true, le-leb, eqb-true, eq-eqb}
+use Rattle.terminal.proofs.Tests.{held, last, first-held}
+use Rattle.locator.specs.Entries.{Entry, firstEntry, entries, wholeEntries, sfi, records, recordsOf, recordCount, run, readEntry, readAll, toRead}
 
 pub entries-more : (s : List ℕ) → 4 ≤ length s → entries s ≡ firstEntry s ∷ entries (drop 4 s)
 unfolding entries firstEntry
@@ -57,3 +62,21 @@ all-length (e ∷ es) =
 pub read-length : (s : List ℕ) → length (toRead s) ≡ recordCount s
 unfolding toRead recordCount
 read-length s = all-length (entries s)
+
+-- so many bytes, and 4n more, n from 1
+abbrev pub AndEntries : ℕ → List ℕ → Type 0
+AndEntries k v = (n : ℕ) × (1 ≤ n) × (length v ≡ k + 4 * n)
+
+pub whole-exactly : (v : List ℕ) → (wholeEntries v ≡ true) ↔ AndEntries 0 v
+unfolding wholeEntries
+whole-exactly v = (
+  λ e.
+      let f = first-held _ _ e in
+      let size = leb-true 4 (length v) (f .0) in
+      let rest = eqb-true (length v % 4) 0 (first-held _ _ (f .1) .0) in
+      (length v / 4, omega arith, omega arith),
+  λ h.
+      let size : 4 ≤ length v = let k = h .1 in let e = h .2 in omega arith in
+      let rest : length v % 4 ≡ 0 = let e = h .2 in omega arith in
+      held refl _ (le-leb 4 (length v) size) ∙ (last refl ∙ eq-eqb (length v % 4) 0 rest),
+)
