@@ -25,7 +25,7 @@ use Rattle.answers.specs.Forms.{template, joined, bothForms, lacks}
 use Rattle.answers.specs.Options.{optionNames, profileOf, locatorOf, optionsWrong, optionsLines, optionsReason}
 use Rattle.answers.proofs.Absent.{not-direct, one-form}
 
-itself : (t : Bool) → pick t true false ≡ t
+pub itself : (t : Bool) → pick t true false ≡ t
 unfolding pick
 itself true = refl
 itself false = refl

@@ -5,6 +5,7 @@ pub mod RightAnswers
 pub mod RightForms
 pub mod AlikeAnswers
 pub mod BothForms
+pub mod BothCryptograms
 pub mod Opened
 mod SelectWorked
 mod OptionsWorked
