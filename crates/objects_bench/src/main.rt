@@ -4,13 +4,12 @@
 //     FIND tag bytes         whether the tag stands among them: absent, once with its value, or twice
 //     DATA answer            the data field of a card's answer
 //     WRITE tag value room   the object written into a buffer of so many bytes, or the refusal
-mod line;
-mod print;
 mod read;
 mod write;
 
 use libc::STDIN_FILENO;
 use lists::byte;
+use text::after_word;
 use text::line_end;
 
 fn main() {
@@ -30,13 +29,13 @@ fn answer_all(s: &[u8]) {
 
 // The first letter tells the question.
 fn answer(question: &[u8]) {
-    let words = line::rest(question);
+    let words = after_word(question);
     match byte(question, 0) as u8 {
         b'L' => read::list(words),
         b'F' => read::find(words),
         b'D' => read::data(words),
         b'W' => write::write(words),
-        _ => print::text(b"?"),
+        _ => printing::text(b"?"),
     }
-    print::text(b"\n");
+    printing::text(b"\n");
 }

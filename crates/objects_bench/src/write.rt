@@ -1,9 +1,8 @@
 // Questions to the writer of data objects.
-use crate::line;
-use crate::print;
 use objects::Wrote;
 use objects::place;
 use objects::writer;
+use text::after_word;
 use text::hex_number;
 use text::number;
 use text::unhex;
@@ -11,9 +10,9 @@ ghost use Prim.Native.Nat.{_≤_};
 
 pub fn write(words: &[u8]) {
     let mut value = [0u8; 5000];
-    let second = line::rest(words);
+    let second = after_word(words);
     let n = unhex(second, &mut value);
-    write_into(hex_number(words), &value[0..n], room(line::rest(second)));
+    write_into(hex_number(words), &value[0..n], room(after_word(second)));
 }
 
 fn room(word: &[u8]) -> usize
@@ -30,7 +29,7 @@ fn write_into(tag: usize, value: &[u8], room: usize)
     let mut buf = [0xA5u8; 5000];
     let written = print_written(tag, value, &mut buf[0..room]);
     if is_touched(&buf, written) {
-        print::text(b" touched");
+        printing::text(b" touched");
     }
 }
 
@@ -38,15 +37,15 @@ fn write_into(tag: usize, value: &[u8], room: usize)
 fn print_written(tag: usize, value: &[u8], buf: &mut [u8]) -> usize {
     match writer::write(tag, value, buf) {
         Wrote::BadObject => {
-            print::text(b"refused 10");
+            printing::text(b"refused 10");
             0
         }
         Wrote::NoRoom => {
-            print::text(b"refused 11");
+            printing::text(b"refused 11");
             0
         }
         Wrote::Bytes(n) => {
-            print::bytes(place::value(buf, 0, n));
+            printing::bytes(place::value(buf, 0, n));
             n
         }
     }

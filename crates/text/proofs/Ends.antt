@@ -1,16 +1,17 @@
--- The bytes before the first of two, counted from a place on, a byte at a time.
+-- The bytes before the first of two, counted from a place on, a byte at a time; and behind a word there is less than with it.
 -- Assumes nothing.
 use mathlib.Core.Path.{_≡_, sym, ap, _∙_}
 use mathlib.Core.Bool.{true, _||_, or-true}
 use mathlib.Core.List.{List}
 use Prim.Native.Nat.{ℕ, _+_, _≤_, _<_}
 use native.Mathlib.Numerals.{add-one}
+use native.Mathlib.Omega.{arith}
 use lib.Dec.{eqb}
-use lib.ListN.{length, getD, drop, drop-of-length-le}
+use lib.ListN.{length, getD, drop, length-drop, drop-of-length-le}
 use lib.Seq.{drop-cons}
 use borrow.Author.Tests.{eq-eqb, ne-eqb}
 use Rattle.lists.proofs.Choice.{pick-yes, pick-no}
-use Rattle.text.specs.Lines.{before}
+use Rattle.text.specs.Lines.{before, wordEnd, afterWord}
 
 module _ (a b : ℕ) (s : List ℕ) (i : ℕ) where
   stop : i < length s → (eqb (getD s i 0) a || eqb (getD s i 0) b) ≡ true → before a b (drop i s) ≡ 0
@@ -33,3 +34,7 @@ module _ (a b : ℕ) (s : List ℕ) (i : ℕ) where
   pub at-end : length s ≤ i → before a b (drop i s) ≡ 0
   unfolding before
   at-end h = ap (before a b) (drop-of-length-le s h)
+
+pub after-shorter : (s r : List ℕ) → r ≡ afterWord s → 0 < length s → length r < length s
+unfolding afterWord
+after-shorter s r e h = let size = ap length e ∙ length-drop (wordEnd s 0 + 1) s in omega arith

@@ -3,7 +3,7 @@
 use mathlib.Core.Path.{_≡_, refl}
 use mathlib.Core.List.{[], _∷_}
 use Rattle.lists.specs.Choice.{pick}
-use Rattle.text.specs.Lines.{before, firstEither, lineEnd, wordEnd}
+use Rattle.text.specs.Lines.{before, firstEither, lineEnd, wordEnd, afterWord}
 use Rattle.text.specs.Digits.{among, digit, digitFor, pair, unhexed, hexed, unhexedFor, hexedFor}
 use Rattle.text.specs.Numbers.{continued, decimalNumber, hexNumber}
 
@@ -42,6 +42,11 @@ ends : (lineEnd (0x41 ∷ 0x20 ∷ 0x42 ∷ 0x0A ∷ 0x43 ∷ []) 0 ≡ 3)
     × (lineEnd (0x41 ∷ 0x20 ∷ 0x42 ∷ 0x0A ∷ 0x43 ∷ []) 9 ≡ 9)
 unfolding firstEither before pick
 ends = (refl, refl, refl, refl, refl)
+
+-- "A B" and "A"
+words : (afterWord (0x41 ∷ 0x20 ∷ 0x42 ∷ []) ≡ 0x42 ∷ []) × (afterWord (0x41 ∷ []) ≡ []) × (afterWord [] ≡ [])
+unfolding afterWord firstEither before pick
+words = (refl, refl, refl)
 
 -- "130 7", "1f", and a number that a further digit would take past the most
 numbers : (decimalNumber (0x31 ∷ 0x33 ∷ 0x30 ∷ 0x20 ∷ 0x37 ∷ []) ≡ 130)

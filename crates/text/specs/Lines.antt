@@ -27,3 +27,7 @@ lineEnd s at = firstEither 0x0A 0x0A s at
 -- a word ends at a space or with its line
 abbrev pub wordEnd : List ℕ → ℕ → ℕ
 wordEnd s at = firstEither 0x20 0x0A s at
+
+-- what stands behind the first word and the byte that ends it
+unfoldable pub afterWord : List ℕ → List ℕ
+afterWord s = drop (wordEnd s 0 + 1) s

@@ -5,6 +5,7 @@ mod numbers;
 
 pub use digits::hex;
 pub use digits::unhex;
+pub use lines::after_word;
 pub use lines::line_end;
 pub use lines::word_end;
 pub use numbers::hex_number;

@@ -1,9 +1,13 @@
-// Printing to standard output.
+// Printing to standard output, for programs that answer a line at a time.
 use libc::STDOUT_FILENO;
 use text::hex;
 
 pub fn text(s: &[u8]) {
     io::write_all(STDOUT_FILENO, s);
+}
+
+pub fn number(n: usize) {
+    io::print_decimal(STDOUT_FILENO, n as u64);
 }
 
 // Bytes in hexadecimal.
