@@ -40,7 +40,7 @@ pub fn judge_tapes(files: &[String]) -> Outcome {
 }
 
 /// Answers every line of standard input with one line, or none for `None`.
-fn each_line(mut answer: impl FnMut(&str) -> Result<Option<String>, String>) -> Outcome {
+pub fn each_line(mut answer: impl FnMut(&str) -> Result<Option<String>, String>) -> Outcome {
     let mut out = io::stdout().lock();
     for (index, line) in io::stdin().lock().lines().enumerate() {
         let line = line.map_err(failed("standard input"))?;
@@ -55,7 +55,7 @@ fn each_line(mut answer: impl FnMut(&str) -> Result<Option<String>, String>) -> 
     Ok(())
 }
 
-fn bytes_of(text: &str) -> Result<Vec<u8>, String> {
+pub fn bytes_of(text: &str) -> Result<Vec<u8>, String> {
     hex::bytes(text).ok_or_else(|| format!("no hexadecimal bytes: {text}"))
 }
 

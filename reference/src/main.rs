@@ -1,5 +1,6 @@
 //! An ordinary kernel, tape and judge, to hold others against.
 
+mod answer_lines;
 mod answers;
 mod calls;
 mod commands;
@@ -25,6 +26,7 @@ const USAGE: &str = "usage:
   reference objects
   reference write
   reference fill
+  reference answers
   reference make DIR COUNT SEED [--list FILE]
   reference make-calls COUNT SEED
   reference calls FILE";
@@ -68,6 +70,7 @@ fn run(mut arguments: Vec<String>) -> Outcome {
         ("objects", []) => commands::read_objects(),
         ("write", []) => commands::write_objects(),
         ("fill", []) => commands::fill_lists(),
+        ("answers", []) => answer_lines::read_answers(),
         ("make", [folder, count, seed]) => {
             let list = list.as_deref().map(Path::new);
             make::make(Path::new(folder), number(count)?, number(seed)?, list)
