@@ -3,8 +3,8 @@ use crate::entries::records;
 use lists::byte;
 ghost use mathlib.Core.Path.{_≡_};
 ghost use mathlib.Core.Bool.{true};
-ghost use Prim.Native.Nat.{_<_};
-ghost use Rattle.locator.specs.Cursor.{fromEntry, start as startOf, isLeft, recordAt, stepped};
+ghost use Prim.Native.Nat.{_+_, _<_};
+ghost use Rattle.locator.specs.Cursor.{fromEntry, entryAt, start as startOf, isLeft, recordAt, stepped};
 
 // A place among the records: which entry, from 0, and how many of its records are done.
 pub struct Cursor {
@@ -30,7 +30,7 @@ fn from_entry(locator: &[u8], k: usize) -> &[u8]
 
 // Whether a record stands at the cursor.
 pub fn is_left(locator: &[u8], c: Cursor) -> bool
-    ensures { λ r. ⌜ (r ≡ isLeft (now (locator .entry)) c) × (r ≡ true → c .done < 256) ⌝ }
+    ensures { λ r. ⌜ (r ≡ isLeft (now (locator .entry)) c) × (r ≡ true → (c .done < 256) × (entryAt (now (locator .entry)) c .first + c .done < 256)) ⌝ }
 {
     let s = from_entry(locator, c.entry);
     4 <= s.len() && c.done < records(s)
@@ -38,7 +38,7 @@ pub fn is_left(locator: &[u8], c: Cursor) -> bool
 
 // Its number; 0 where none stands there.
 pub fn record(locator: &[u8], c: Cursor) -> usize
-    ensures { λ r. ⌜ r ≡ recordAt (now (locator .entry)) c .0 ⌝ }
+    ensures { λ r. ⌜ (r ≡ recordAt (now (locator .entry)) c .0) × (r < 256) ⌝ }
 {
     if is_left(locator, c) {
         byte(from_entry(locator, c.entry), 1) + c.done
@@ -49,7 +49,7 @@ pub fn record(locator: &[u8], c: Cursor) -> usize
 
 // Its file's SFI; 0 where none stands there.
 pub fn file(locator: &[u8], c: Cursor) -> usize
-    ensures { λ r. ⌜ r ≡ recordAt (now (locator .entry)) c .1 ⌝ }
+    ensures { λ r. ⌜ (r ≡ recordAt (now (locator .entry)) c .1) × (r < 256) ⌝ }
 {
     if is_left(locator, c) {
         byte(from_entry(locator, c.entry), 0) / 8

@@ -1,7 +1,7 @@
 // The entries of an AFL: whether they are right, and how many records they name.
 use lists::byte;
 ghost use mathlib.Core.Path.{_≡_};
-ghost use Prim.Native.Nat.{_≤_};
+ghost use Prim.Native.Nat.{_+_, _≤_};
 ghost use Rattle.locator.specs.Entries.{firstEntry, records as recordsOf, wholeEntries, fileRight, entryRight, entriesRight, tooMany};
 
 // The most records in all.
@@ -16,7 +16,7 @@ pub fn are_whole(locator: &[u8]) -> bool
 
 // How many records the entry at the front names.
 pub fn records(s: &[u8]) -> usize
-    ensures { λ r. ⌜ (r ≡ recordsOf (firstEntry (now (s .entry)))) × (r ≤ 256) ⌝ }
+    ensures { λ r. ⌜ (r ≡ recordsOf (firstEntry (now (s .entry)))) × (r ≤ 256) × (firstEntry (now (s .entry)) .first + r ≤ 256) ⌝ }
 {
     let first = byte(s, 1);
     let last = byte(s, 2);

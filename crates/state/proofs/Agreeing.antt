@@ -45,7 +45,7 @@ late-facts s e =
     }
 
 -- which names were told
-some-there : (t : Bool) (v : List ℕ) → t ≡ isSome (pick t (some v) none)
+pub some-there : (t : Bool) (v : List ℕ) → t ≡ isSome (pick t (some v) none)
 unfolding pick isSome
 some-there true v = refl
 some-there false v = refl

@@ -23,7 +23,10 @@ returns c =
     let n = c .before .records .ensures .0 ∙ ap (λ (s : List ℕ). records (firstEntry s)) at in
     let whole = ap (λ (s : List ℕ). leb 4 (length s)) at in (
       sym (held whole _ (le-leb _ _ (c .before .before .if1 .taken)) ∙ last (ap (ltb (b .before .before .args .c .done)) n)),
-      λ e. let fewer = ltb-true (b .before .before .args .c .done) (c .before .records .result) e in omega arith,
+      λ e.
+          let fewer = ltb-true (b .before .before .args .c .done) (c .before .records .result) e in
+          let first = ap (λ (s : List ℕ). firstEntry s .first) at in
+          (omega arith, omega (arith, first, c .before .records .ensures .2)),
     )
 
 returns-2 : tie.Need-returns-2
@@ -31,7 +34,7 @@ unfolding isLeft
 returns-2 c =
     let whole = ap (λ (s : List ℕ). leb 4 (length s)) (c .before .from-entry .ensures) in (
       sym (failed whole _ (lt-leb _ _ (c .if1 .left))),
-      λ e. let whole′ = leb-true 4 (length (c .before .from-entry .result .now)) e in absurd (omega arith),
+      λ e. let whole′ = leb-true 4 (length (c .before .from-entry .result .now)) e in (absurd (omega arith), absurd (omega arith)),
     )
 
 pub is-left-spec : {M : Type 1} → statement M

@@ -1,0 +1,47 @@
+-- `reading::request_first` meets its contract: a reason ends the session, and otherwise the first GENERATE AC is filled from 8C.
+-- Assumes nothing.
+use mathlib.Core.Path.{_≡_, refl, sym, ap, ap₂, _∙_}
+use mathlib.Core.List.{List, [], _∷_}
+use Prim.Native.Nat.{ℕ}
+use mathlib.Core.Option.{none, Option·getD}
+use borrow.Author.Needs.{needs}
+use Rattle.lists.specs.Choice.{pick}
+use Rattle.terminal.specs.Reading.{readingOf}
+use Rattle.object_lists.specs.Known.{beside}
+use Rattle.object_lists.specs.Filled.{filling}
+use Rattle.object_lists.specs.declared.Known.{Known}
+use Rattle.commands.specs.Commands.{cryptogramCommand}
+use Rattle.decide.specs.Card.{IssuerCodes}
+use Rattle.decide.specs.Requests.{p1Of, firstRequest}
+use Rattle.decide.specs.declared.requests.Cryptogram.{Cryptogram}
+use Rattle.rulebook.specs.Situation.{issuerCodes, listIn, knownIn}
+use Rattle.rulebook.specs.Phase.{first, asks, situationOf, commandOf}
+use Rattle.rulebook.specs.Turn.{requested}
+use Rattle.state.specs.Reading.{runHeld, inRun, toldLines, factsIn, situationWith, late}
+use Rattle.dialogue.specs.Moves.{awaiting, cursorAsking, moved}
+use Rattle.dialogue.proofs.Moving.{late-decided, asking-on, reason-ended, reason-next}
+use Rattle.dialogue.proofs.reading.request_first.Statement.{statement}
+use Rattle.dialogue.proofs.reading.request_first.Tie as tie
+
+returns : tie.Need-returns
+unfolding requested late situationWith
+returns c = let why = c .before .before .before .args .why in let s = c .before .before .before .args .s in let buf = c .before .before .before .args .buf .now in late-decided s buf 3 why (c .end .ensures) ∙ sym (reason-ended why why (late s) (asks (first (late s) (firstRequest (readingOf (s .start)) (issuerCodes (late s)) (s .tvr)))) s buf refl (c .before .if1 .taken))
+
+returns-2 : tie.Need-returns-2
+unfolding requested late situationWith commandOf situationOf awaiting cursorAsking listIn factsIn toldLines beside pick inRun
+returns-2 c = let why = c .before .before .before .before .before .before .before .before .before .before .before .before .before .before .before .args .why in let s = c .before .before .before .before .before .before .before .before .before .before .before .before .before .before .before .args .s in let buf = c .before .before .before .before .before .before .before .before .before .before .before .before .before .before .before .args .buf .now in let q = c .before .before .before .before .before .before .first-request .result in let asked = c .before .before .before .before .before .before .first-request .ensures ∙ ap (λ (x : IssuerCodes). firstRequest (readingOf (s .start)) x (s .tvr)) (c .before .before .before .before .before .before .before .codes .ensures) in let same = ap (λ (k : Known). cryptogramCommand (p1Of q) (filling (readingOf (s .start)) k (inRun (s .told .«first_list»)))) (c .before .before .before .before .before .at-first .ensures) in asking-on s buf (first (late s) q) same (c .before .before .before .generate .ensures .0) (c .before .before .before .generate .ensures .1) (c .wait .ensures) refl refl refl ∙ (ap (λ (x : Cryptogram). moved (asks (first (late s) x)) s buf) asked ∙ sym (reason-next why why (late s) (asks (first (late s) (firstRequest (readingOf (s .start)) (issuerCodes (late s)) (s .tvr)))) s buf refl (c .before .before .before .before .before .before .before .before .before .before .before .before .before .if1 .left)))
+
+pub request-first-spec : {M : Type 1} → statement M
+request-first-spec =
+    tie.close
+    (tie.spec
+    (λ c κs. search needs)
+    returns
+    (λ c. search needs)
+    (λ c κs. search needs)
+    (λ c κs. search needs)
+    (λ c κs. search needs)
+    (λ c κs. search needs)
+    (λ c κs. search needs)
+    (λ c. search needs)
+    returns-2)

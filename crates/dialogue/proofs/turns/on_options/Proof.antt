@@ -1,0 +1,46 @@
+-- `turns::on_options` meets its contract: a bad answer ends the session, and what a good one tells is kept.
+-- Assumes nothing.
+use mathlib.Core.Path.{_≡_, refl, sym, ap, _∙_}
+use native.Mathlib.Omega.{arith}
+use mathlib.Core.List.{List, [], _∷_}
+use Prim.Native.Nat.{ℕ}
+use lib.Dec.{eqb}
+use borrow.Author.Tests.{eq-eqb, ne-eqb}
+use borrow.Author.Needs.{needs}
+use Rattle.lists.proofs.Choice.{pick-yes, pick-no}
+use Rattle.answers.specs.Options.{optionsReason, profileOf, locatorOf}
+use Rattle.locator.specs.Entries.{toRead}
+use Rattle.rulebook.specs.Phase.{optioning}
+use Rattle.rulebook.specs.Turn.{withProfile, readOn, optioned, turn}
+use Rattle.state.specs.declared.State.{State}
+use Rattle.state.specs.Reading.{early, late, recordsLeft}
+use Rattle.state.specs.Keeping.{withOptions}
+use Rattle.state.proofs.Starting.{late-options, left-options}
+use Rattle.dialogue.specs.Moves.{keeping, moved}
+use Rattle.dialogue.proofs.Moving.{early-decided, reason-ended, reason-next}
+use Rattle.dialogue.proofs.Reasons.{options-small}
+use Rattle.dialogue.proofs.turns.on_options.Statement.{statement}
+use Rattle.dialogue.proofs.turns.on_options.Tie as tie
+
+end-requires : tie.Need-end-requires
+end-requires c κs = omega (arith, c .before .options-reason .ensures, options-small (c .before .before .before .before .args .a .now))
+
+returns : tie.Need-returns
+unfolding turn optioned keeping
+returns c = let s = c .before .before .before .before .before .args .s in let a = c .before .before .before .before .before .args .a .now in let buf = c .before .before .before .before .before .args .buf .now in let why = c .before .before .options-reason .result in let e = c .before .before .options-reason .ensures in let next = readOn (withProfile (early s) (profileOf a)) (toRead (locatorOf a)) in early-decided s buf 3 why (c .end .ensures) ∙ sym (ap (λ (t : State). moved (optioned (early s) a) t buf) (pick-no _ _ _ (ne-eqb (optionsReason a) 0 (λ z. c .before .if1 .taken (e ∙ z)))) ∙ reason-ended why (optionsReason a) (early s) next s buf e (c .before .if1 .taken))
+
+returns-2 : tie.Need-returns-2
+unfolding turn optioned keeping
+returns-2 c = let s = c .before .before .before .before .before .before .before .before .before .args .s in let a = c .before .before .before .before .before .before .before .before .before .args .a .now in let buf = c .before .before .before .before .before .before .before .before .before .args .buf .now in let why = c .before .before .before .before .before .before .options-reason .result in let e = c .before .before .before .before .before .before .options-reason .ensures in let good = sym e ∙ c .before .before .before .before .before .if1 .left in let next = readOn (withProfile (early s) (profileOf a)) (toRead (locatorOf a)) in let t = withOptions a s in c .before .before .read-on .ensures ∙ (ap (λ (x : State). moved (readOn (late x) (recordsLeft x)) x buf) (c .before .before .before .before .with-options .ensures) ∙ ((λ i. moved (readOn (late-options s a good i) (left-options s a good i)) t buf) ∙ sym (ap (λ (x : State). moved (optioned (early s) a) x buf) (pick-yes _ _ _ (eq-eqb (optionsReason a) 0 good)) ∙ reason-next why (optionsReason a) (early s) next t buf e (c .before .before .before .before .before .if1 .left))))
+
+pub on-options-spec : {M : Type 1} → statement M
+on-options-spec =
+    tie.close
+    (tie.spec
+    (λ c κs. search needs)
+    end-requires
+    returns
+    (λ c κs. search needs)
+    (λ c κs. search needs)
+    (λ c. search needs)
+    returns-2)

@@ -1,0 +1,48 @@
+-- `turns::on_select` meets its contract: a bad answer ends the session, and a good one leads to GPO, filled from 9F38.
+-- Assumes nothing.
+use borrow.Author.Needs.{needs}
+use Rattle.object_lists.specs.declared.Known.{Known}
+use mathlib.Core.Path.{_≡_, refl, sym, ap, ap₂, _∙_}
+use native.Mathlib.Omega.{arith}
+use mathlib.Core.List.{List, [], _∷_}
+use Prim.Native.Nat.{ℕ}
+use mathlib.Core.Option.{none}
+use Rattle.terminal.specs.Reading.{readingOf}
+use Rattle.object_lists.specs.Filled.{filling}
+use Rattle.commands.specs.Commands.{optionsCommand}
+use Rattle.answers.specs.Select.{selectReason, pdolOf}
+use Rattle.rulebook.specs.Phase.{selecting, optioning, asks, situationOf, commandOf}
+use Rattle.rulebook.specs.Turn.{selected, turn}
+use Rattle.state.specs.Reading.{situationWith, early}
+use Rattle.dialogue.specs.Moves.{awaiting, cursorAsking, keeping}
+use Rattle.dialogue.proofs.Moving.{early-decided, asking-on, reason-ended, reason-next}
+use Rattle.dialogue.proofs.Reasons.{select-small}
+use Rattle.dialogue.proofs.turns.on_select.Statement.{statement}
+use Rattle.dialogue.proofs.turns.on_select.Tie as tie
+
+end-requires : tie.Need-end-requires
+end-requires c κs = omega (arith, c .before .select-reason .ensures, select-small (readingOf (c .before .before .before .before .before .before .args .s .start)) (c .before .before .before .before .before .before .args .a .now))
+
+returns : tie.Need-returns
+unfolding turn selected keeping early situationWith
+returns c = let s = c .before .before .before .before .before .before .before .args .s in let a = c .before .before .before .before .before .before .before .args .a .now in let buf = c .before .before .before .before .before .before .before .args .buf .now in let why = c .before .before .select-reason .result in early-decided s buf 3 why (c .end .ensures) ∙ sym (reason-ended why (selectReason (readingOf (s .start)) a) (early s) (asks (optioning (early s) (pdolOf a))) s buf (c .before .before .select-reason .ensures) (c .before .if1 .taken))
+
+returns-2 : tie.Need-returns-2
+unfolding turn selected keeping early situationWith commandOf situationOf awaiting cursorAsking
+returns-2 c = let s = c .before .before .before .before .before .before .before .before .before .before .before .before .before .before .args .s in let a = c .before .before .before .before .before .before .before .before .before .before .before .before .before .before .args .a .now in let buf = c .before .before .before .before .before .before .before .before .before .before .before .before .before .before .args .buf .now in let why = c .before .before .before .before .before .before .before .before .before .select-reason .result in let same = ap₂ (λ (k : Known) (l : List ℕ). optionsCommand (filling (readingOf (s .start)) k l)) (c .before .before .before .before .before .at-options .ensures) (c .before .before .before .before .before .before .before .pdol .ensures) in asking-on s buf (optioning (early s) (pdolOf a)) same (c .before .before .before .options .ensures .0) (c .before .before .before .options .ensures .1) (c .wait .ensures) refl refl refl ∙ sym (reason-next why (selectReason (readingOf (s .start)) a) (early s) (asks (optioning (early s) (pdolOf a))) s buf (c .before .before .before .before .before .before .before .before .before .select-reason .ensures) (c .before .before .before .before .before .before .before .before .if1 .left))
+
+pub on-select-spec : {M : Type 1} → statement M
+on-select-spec =
+    tie.close
+    (tie.spec
+    (λ c. search needs)
+    (λ c κs. search needs)
+    end-requires
+    returns
+    (λ c κs. search needs)
+    (λ c. search needs)
+    (λ c κs. search needs)
+    (λ c κs. search needs)
+    (λ c κs. search needs)
+    (λ c. search needs)
+    returns-2)

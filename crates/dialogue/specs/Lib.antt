@@ -1,0 +1,3 @@
+-- The accepted step of a session.
+pub mod Moves
+pub mod Storing

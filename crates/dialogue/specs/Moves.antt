@@ -1,0 +1,137 @@
+-- An accepted step: the rulebook's turn, read off the state, and the state that waits for what comes next. The rules are the
+-- rulebook's; what is added here is where a state keeps their results.
+-- Assumes nothing.
+use mathlib.Core.Bool.{Bool}
+use mathlib.Core.List.{List, []}
+use mathlib.Core.Option.{Option, none, some}
+use Prim.Native.Nat.{ℕ}
+use lib.Dec.{eqb}
+use lib.ListN.{length}
+use Rattle.lists.specs.Choice.{pick}
+use Rattle.lists.specs.Writing.{laid}
+use Rattle.objects.specs.Objects.{isSome}
+use Rattle.terminal.specs.Reading.{readingOf}
+use Rattle.commands.specs.Commands.{sizeIn}
+use Rattle.locator.specs.Cursor.{stepped}
+use Rattle.locator.specs.declared.cursor.Cursor.{Cursor}
+use Rattle.answers.specs.Options.{optionsReason}
+use Rattle.answers.specs.Records.{recordReason}
+use Rattle.decide.specs.Replies.{replyOf}
+use Rattle.decide.specs.declared.reply.Reply.{Reply}
+use Rattle.decide.specs.declared.reply.Heard.{Heard}
+use Rattle.decide.specs.declared.reply.Heard.the-variants.{Said, Nothing as NoReply}
+use Rattle.rulebook.specs.Phase.{Asked, selecting, optioning, reading, first, second, Phase, opens, asks, hears, decides, commandOf, tvrOf, tsiOf}
+use Rattle.rulebook.specs.Turn.{opened, turn, heard}
+use Rattle.state.specs.Reading.{inRun, late, askedIn}
+use Rattle.state.specs.Keeping.{withRecord, withTold, withOptions, changed, begun}
+use Rattle.state.specs.declared.State.{State}
+use Rattle.state.specs.declared.Phase.{Phase as Kept}
+use Rattle.state.specs.declared.Phase.the-variants.{Start, Select, Options, Record, First, Second, Host, Decided, Closed}
+use Rattle.dialogue.specs.declared.Due.{Due}
+use Rattle.dialogue.specs.declared.Due.the-variants.{Command, Host as HostDue, Decision, Nothing}
+use Rattle.dialogue.specs.declared.Step.{Step}
+
+-- what a step leaves behind: the state, what is due, and the lent buffer
+pub record Moved : Type 0 where
+  pub state : State
+  pub due : Due
+  pub buffer : List ℕ
+
+unfoldable pub played : Step → List ℕ → Moved
+played r out = record { state = r .state; due = r .due; buffer = out }
+
+-- the event that a state waits for
+unfoldable pub awaiting : Asked → Kept
+awaiting (selecting s) = Select
+awaiting (optioning s list) = Options
+awaiting (reading s number file rest) = Record
+awaiting (first s request) = First request
+awaiting (second s request code) = Second request
+
+unfoldable pub keptAs : Phase → Kept
+keptAs opens = Start
+keptAs (asks w) = awaiting w
+keptAs (hears s) = Host
+keptAs (decides outcome reason s) = Decided outcome reason
+
+-- asking for a record takes the place among the records one further
+unfoldable pub cursorAsking : Asked → State → Cursor
+cursorAsking (selecting z) s = s .cursor
+cursorAsking (optioning z list) s = s .cursor
+cursorAsking (reading z number file rest) s = stepped (inRun (s .locator)) (s .cursor)
+cursorAsking (first z request) s = s .cursor
+cursorAsking (second z request code) s = s .cursor
+
+unfoldable pub cursorAfter : Phase → State → Cursor
+cursorAfter opens s = s .cursor
+cursorAfter (asks w) s = cursorAsking w s
+cursorAfter (hears z) s = s .cursor
+cursorAfter (decides outcome reason z) s = s .cursor
+
+-- the state in which a phase is waited for
+unfoldable pub standing : Phase → State → State
+standing p s = changed (keptAs p) (tvrOf p) (tsiOf p) (cursorAfter p s) s
+
+-- a command is written at the start of the buffer, where it fits; nothing else changes the buffer
+unfoldable pub dueIn : ℕ → Phase → Due
+dueIn room opens = Nothing
+dueIn room (asks w) = Command (sizeIn room (commandOf w))
+dueIn room (hears s) = HostDue
+dueIn room (decides outcome reason s) = Decision
+
+unfoldable pub bufferIn : Phase → List ℕ → List ℕ
+bufferIn opens buf = buf
+bufferIn (asks w) buf = laid (commandOf w) 0 buf
+bufferIn (hears s) buf = buf
+bufferIn (decides outcome reason s) buf = buf
+
+unfoldable pub moved : Phase → State → List ℕ → Moved
+moved p s buf = record { state = standing p s; due = dueIn (length buf) p; buffer = bufferIn p buf }
+
+-- an event that is not due changes nothing
+unfoldable pub unmoved : State → List ℕ → Moved
+unmoved s buf = record { state = s; due = Nothing; buffer = buf }
+
+-- what a good answer tells is kept before the session goes on
+unfoldable pub keeping : Asked → List ℕ → State → State
+keeping (selecting z) a s = s
+keeping (optioning z list) a s = pick (eqb (optionsReason a) 0) (withOptions a s) s
+keeping (reading z number file rest) a s =
+    pick (eqb (recordReason (λ name. isSome (z .facts name)) a) 0) (withTold (withRecord a (s .told)) s) s
+keeping (first z request) a s = s
+keeping (second z request code) a s = s
+
+-- START
+unfoldable pub started : List ℕ → List ℕ → Moved
+started b buf = moved (opened (readingOf b)) (begun b) buf
+
+-- an answer of the card's
+unfoldable pub answeredTo : Option Asked → State → List ℕ → List ℕ → Moved
+answeredTo none s a buf = unmoved s buf
+answeredTo (some w) s a buf = moved (turn w a) (keeping w a s) buf
+
+unfoldable pub answered : State → List ℕ → List ℕ → Moved
+answered s a buf = answeredTo (askedIn s) s a buf
+
+-- the issuer's reply
+unfoldable pub heardAs : Heard → State → List ℕ → List ℕ → Moved
+heardAs NoReply s h buf = unmoved s buf
+heardAs (Said reply) s h buf = moved (heard (late s) reply h) s buf
+
+unfoldable pub heardIn : Kept → State → List ℕ → List ℕ → Moved
+heardIn Start s h buf = unmoved s buf
+heardIn Select s h buf = unmoved s buf
+heardIn Options s h buf = unmoved s buf
+heardIn Record s h buf = unmoved s buf
+heardIn (First request) s h buf = unmoved s buf
+heardIn (Second request) s h buf = unmoved s buf
+heardIn Host s h buf = heardAs (replyOf h) s h buf
+heardIn (Decided outcome reason) s h buf = unmoved s buf
+heardIn Closed s h buf = unmoved s buf
+
+unfoldable pub hostHeard : State → List ℕ → List ℕ → Moved
+hostHeard s h buf = heardIn (s .phase) s h buf
+
+-- the same state, but for what is due
+unfoldable pub waiting : Kept → Due → State → Step
+waiting phase due s = record { state = changed phase (s .tvr) (s .tsi) (s .cursor) s; due = due }

@@ -1,0 +1,122 @@
+// How a session goes on after each answer of the card's.
+use crate::Due;
+use crate::Step;
+use crate::ends::decide;
+use crate::ends::end;
+use crate::ends::wait;
+use crate::online::by_first;
+use crate::reading::read_on;
+use answers::cryptogram;
+use answers::cryptogram::Allowed;
+use answers::options::options_reason;
+use answers::records::record_reason;
+use answers::select;
+use commands::write;
+use decide::requests::Cryptogram;
+use decide::requests::first_allowed;
+use decide::requests::given_by;
+use decide::requests::second_allowed;
+use decide::results::tsi_after_first_answer;
+use state::Phase;
+use state::State;
+use state::change::change;
+use state::change::with_options;
+use state::change::with_told;
+use state::facts::seen;
+use state::known::at_options;
+use state::records::with_record;
+ghost use mathlib.Core.Path.{_≡_};
+ghost use mathlib.Core.List.{[]};
+ghost use Rattle.answers.specs.Cryptogram.{allows};
+ghost use Rattle.rulebook.specs.Phase.{selecting, optioning, reading as readingRecord, first as firstAsked, second as secondAsked};
+ghost use Rattle.rulebook.specs.Turn.{turn, firstAllows, secondAllows};
+ghost use Rattle.state.specs.Reading.{early, late, recordsLeft};
+ghost use Rattle.dialogue.specs.Moves.{played, moved, keeping};
+ghost use Rattle.dialogue.specs.Storing.{answeredState};
+
+pub fn on_select(s: State, a: &[u8], buf: &mut [u8]) -> Step
+    ensures { λ r. ⌜ played r (now (buf .exit)) ≡ moved (turn (selecting (early s)) (now (a .entry))) (keeping (selecting (early s)) (now (a .entry)) s) (now (buf .entry)) ⌝ }
+{
+    let start = s.start;
+    let why = select::select_reason(&start, a);
+    if why != 0 {
+        return end(s, why);
+    }
+    let n = write::options(select::pdol(a), &start, at_options(s), buf);
+    wait(s, Phase::Options, Due::Command(n))
+}
+
+pub fn on_options(s: State, a: &[u8], buf: &mut [u8]) -> Step
+    ensures { λ r. ⌜ played r (now (buf .exit)) ≡ moved (turn (optioning (early s) []) (now (a .entry))) (keeping (optioning (early s) []) (now (a .entry)) s) (now (buf .entry)) ⌝ }
+{
+    let why = options_reason(a);
+    if why != 0 {
+        return end(s, why);
+    }
+    read_on(with_options(s, a), buf)
+}
+
+pub fn on_record(s: State, a: &[u8], buf: &mut [u8]) -> Step
+    ensures { λ r. ⌜ played r (now (buf .exit)) ≡ moved (turn (readingRecord (late s) 0 0 (recordsLeft s)) (now (a .entry))) (keeping (readingRecord (late s) 0 0 (recordsLeft s)) (now (a .entry)) s) (now (buf .entry)) ⌝ }
+{
+    let told = s.told;
+    let why = record_reason(seen(told), a);
+    if why != 0 {
+        return end(s, why);
+    }
+    read_on(with_told(s, with_record(told, a)), buf)
+}
+
+fn allowed_first(request: Cryptogram) -> Allowed
+    ensures { λ r. ⌜ allows r ≡ firstAllows request ⌝ }
+{
+    Allowed {
+        aac: first_allowed(request, given_by(0x00)),
+        tc: first_allowed(request, given_by(0x40)),
+        arqc: first_allowed(request, given_by(0x80)),
+    }
+}
+
+fn allowed_second(request: Cryptogram) -> Allowed
+    ensures { λ r. ⌜ allows r ≡ secondAllows request ⌝ }
+{
+    Allowed {
+        aac: second_allowed(request, given_by(0x00)),
+        tc: second_allowed(request, given_by(0x40)),
+        arqc: second_allowed(request, given_by(0x80)),
+    }
+}
+
+fn after_first(s: State) -> State
+    ensures { λ r. ⌜ r ≡ answeredState s ⌝ }
+{
+    let tvr = s.tvr;
+    let tsi = s.tsi;
+    let phase = s.phase;
+    let place = s.cursor;
+    change(s, phase, tvr, tsi_after_first_answer(tsi), place)
+}
+
+pub fn on_first(s: State, request: Cryptogram, a: &[u8], buf: &mut [u8]) -> Step
+    ensures { λ r. ⌜ played r (now (buf .exit)) ≡ moved (turn (firstAsked (late s) request) (now (a .entry))) s (now (buf .entry)) ⌝ }
+{
+    let why = cryptogram::cryptogram_reason(allowed_first(request), a);
+    if why != 0 {
+        return end(s, why);
+    }
+    by_first(cryptogram::cryptogram(a), after_first(s), buf)
+}
+
+pub fn on_second(s: State, request: Cryptogram, a: &[u8], buf: &mut [u8]) -> Step
+    ensures { λ r. ⌜ played r (now (buf .exit)) ≡ moved (turn (secondAsked (late s) request []) (now (a .entry))) s (now (buf .entry)) ⌝ }
+{
+    let why = cryptogram::cryptogram_reason(allowed_second(request), a);
+    if why != 0 {
+        return end(s, why);
+    }
+    if cryptogram::cryptogram(a) == 1 {
+        decide(s, 1)
+    } else {
+        decide(s, 2)
+    }
+}
