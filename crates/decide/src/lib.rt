@@ -1,5 +1,5 @@
 // From facts to a decision: the TVR and TSI, the requests, the answers that they allow, and the issuer's reply.
-mod bits;
+pub mod bits;
 pub mod reply;
 pub mod requests;
 pub mod results;

@@ -7,7 +7,6 @@ use Prim.Native.Nat.{ℕ}
 use lib.Dec.{eqb, ltb}
 use lib.ListN.{length}
 use Rattle.lists.specs.Choice.{pick, firstOf}
-use Rattle.lists.specs.Writing.{zeros}
 use Rattle.terminal.specs.Start.{validStart}
 use Rattle.tape.specs.Entries.{payloadMost}
 use Rattle.commands.specs.Commands.{longest}
@@ -15,9 +14,7 @@ use Rattle.decide.specs.Replies.{replyOf}
 use Rattle.decide.specs.declared.reply.Heard.{Heard}
 use Rattle.decide.specs.declared.reply.Heard.the-variants.{Said, Nothing as NoReply}
 use Rattle.state.specs.Keeping.{changed, fresh as freshState}
-use Rattle.state.specs.declared.State.{State}
-use Rattle.state.specs.declared.Phase.{Phase}
-use Rattle.state.specs.declared.Phase.the-variants.{Start, Select, Options, Record, First, Second, Host, Decided, Closed}
+use Rattle.state.specs.declared.Phase.the-variants.{Closed}
 use Rattle.dialogue.specs.Moves.{Moved, started, answered, hostHeard}
 use Rattle.dialogue.specs.declared.Due.{Due}
 use Rattle.dialogue.specs.declared.Due.the-variants.{Command as CommandDue, Host as HostDue, Decision, Nothing}
@@ -103,30 +100,3 @@ silenceCall s buf = unless (silenceRefusal s buf) s buf (closedAfter s buf)
 
 unfoldable pub freshSession : Session
 freshSession = record { state = freshState }
-
--- 1 approved, 2 declined, 3 terminated; 0 while there is no decision
-unfoldable pub outcomeOf : Phase → ℕ
-outcomeOf Start = 0
-outcomeOf Select = 0
-outcomeOf Options = 0
-outcomeOf Record = 0
-outcomeOf (First request) = 0
-outcomeOf (Second request) = 0
-outcomeOf Host = 0
-outcomeOf (Decided outcome reason) = outcome
-outcomeOf Closed = 0
-
-unfoldable pub reasonOf : Phase → ℕ
-reasonOf Start = 0
-reasonOf Select = 0
-reasonOf Options = 0
-reasonOf Record = 0
-reasonOf (First request) = 0
-reasonOf (Second request) = 0
-reasonOf Host = 0
-reasonOf (Decided outcome reason) = reason
-reasonOf Closed = 0
-
--- DECISION's nine bytes; with no decision yet the outcome is 0
-unfoldable pub decisionIn : Session → List ℕ
-decisionIn s = outcomeOf (s .state .phase) ∷ reasonOf (s .state .phase) ∷ (s .state .tvr ++ s .state .tsi)

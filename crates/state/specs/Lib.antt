@@ -2,3 +2,4 @@
 pub mod Reading
 pub mod Keeping
 pub mod Readings
+pub mod Results

@@ -3,6 +3,7 @@ pub mod change;
 pub mod facts;
 pub mod known;
 pub mod records;
+pub mod result;
 pub mod runs;
 
 use decide::requests::Code;

@@ -5,17 +5,17 @@ use mathlib.Core.List.{List, [], _∷_}
 use Prim.Native.Nat.{ℕ}
 use lib.ListN.{length, getD}
 use borrow.Author.Needs.{needs}
-use Rattle.kernel.specs.Calls.{outcomeOf, reasonOf, decisionIn}
-use Rattle.kernel.proofs.Nine.{nine-bytes}
-use Rattle.kernel.proofs.result.decision.Statement.{statement}
-use Rattle.kernel.proofs.result.decision.Tie as tie
+use Rattle.state.specs.Results.{outcomeOf, reasonOf, decisionIn}
+use Rattle.state.proofs.Nine.{nine-bytes}
+use Rattle.state.proofs.result.decision.Statement.{statement}
+use Rattle.state.proofs.result.decision.Tie as tie
 
 returns : tie.Need-returns
 unfolding decisionIn
 returns c =
     let t = c .before .before .before .tvr in
     let u = c .before .before .tsi in
-    let s = c .before .before .before .before .args .s .state in
+    let s = c .before .before .before .before .args .s in
     (λ i.
     c .before .outcome .ensures i
     ∷ c .reason .ensures i

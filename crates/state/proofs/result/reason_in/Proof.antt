@@ -2,9 +2,9 @@
 -- Assumes nothing.
 use mathlib.Core.Path.{_≡_, refl, sym, ap, _∙_}
 use borrow.Author.Needs.{needs}
-use Rattle.kernel.specs.Calls.{reasonOf}
-use Rattle.kernel.proofs.result.reason_in.Statement.{statement}
-use Rattle.kernel.proofs.result.reason_in.Tie as tie
+use Rattle.state.specs.Results.{reasonOf}
+use Rattle.state.proofs.result.reason_in.Statement.{statement}
+use Rattle.state.proofs.result.reason_in.Tie as tie
 
 returns : tie.Need-returns
 unfolding reasonOf
