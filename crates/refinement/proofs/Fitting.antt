@@ -1,0 +1,169 @@
+-- The state that a step leaves stands at the phase that the step leads to: what the answer told is kept in the very form in which
+-- the rulebook's next situation has it, and the phase, TVR, TSI and the place among the records are the phase's own.
+-- Assumes nothing.
+use mathlib.Core.Path.{_≡_, refl, sym, ap, _∙_, subst}
+use mathlib.Core.Bool.{Bool, true, false}
+use mathlib.Core.List.{List, [], _∷_}
+use mathlib.Core.Option.{Option, none, some}
+use Prim.Native.Nat.{ℕ}
+use lib.Dec.{eqb}
+use lib.ListN.{length}
+use borrow.Author.Tests.{eqb-true}
+use Rattle.lists.specs.Choice.{pick}
+use Rattle.lists.proofs.Choice.{picked, either}
+use Rattle.objects.specs.Objects.{isSome}
+use Rattle.terminal.specs.Reading.{readingOf}
+use Rattle.object_lists.specs.Wanted.{fillable}
+use Rattle.locator.specs.Entries.{toRead}
+use Rattle.locator.specs.Cursor.{isLeft, stepped, remaining}
+use Rattle.locator.proofs.Walking.{none-remain, one-less}
+use Rattle.answers.specs.Select.{selectReason}
+use Rattle.answers.specs.Options.{optionsReason, profileOf, locatorOf}
+use Rattle.answers.specs.Records.{recordReason, afterRecords}
+use Rattle.answers.specs.Cryptogram.{cryptogramReason, cryptogramOf}
+use Rattle.decide.specs.Replies.{codeIn}
+use Rattle.decide.specs.declared.reply.Reply.{Reply}
+use Rattle.decide.specs.declared.reply.Reply.the-variants.{Unable}
+use Rattle.rulebook.specs.Situation.{Situation, listIn, begun as situationBegun}
+use Rattle.rulebook.specs.Phase.{Asked, selecting, optioning, reading, first, second, Phase, opens, asks, hears, decides, situationOf, decided, ended, tvrOf, tsiOf}
+use Rattle.rulebook.specs.Turn.{goesOn, opened, selected, managed, requested, allRead, readOn, withProfile, optioned, withRecord as recordAdded, recorded, answered, replied, online, byFirst, firstAllows, secondAllows, firstAnswered, secondAnswered, turn, heard}
+use Rattle.state.specs.Reading.{inRun, factsIn, situationWith, early, late, recordsLeft, askedBy, askedIn}
+use Rattle.state.specs.Keeping.{withRecord, withTold, withOptions, changed, stateAt, begun}
+use Rattle.state.specs.declared.State.{State}
+use Rattle.state.specs.declared.Phase.{Phase as Kept}
+use Rattle.state.specs.declared.Phase.the-variants.{Start, Select, Options, Record, First, Second, Host, Decided, Closed}
+use Rattle.state.proofs.Telling.{late-told}
+use Rattle.state.proofs.Starting.{early-begun, late-options, left-options}
+use Rattle.dialogue.specs.Moves.{awaiting, keptAs, cursorAsking, cursorAfter, standing, keeping}
+use Rattle.refinement.specs.Agreeing.{forgets, StandsAt}
+use Rattle.refinement.proofs.Standing.{not-asked}
+
+-- a state that can wait for a phase: once what the phase overwrites is overwritten, it stands there
+unfoldable pub Fits : Phase → State → Type 0
+Fits p s = StandsAt (standing p s) p
+
+-- two choices by one test
+both : {A B : Type 0} (P : A → B → Type 0) (t : Bool) (a a′ : A) (b b′ : B) → (t ≡ true → P a b) → (t ≡ false → P a′ b′) → P (pick t a a′) (pick t b b′)
+unfolding pick
+both P true a a′ b b′ yes′ no′ = yes′ refl
+both P false a a′ b b′ yes′ no′ = no′ refl
+
+module _ (s : State) where
+  -- a decision keeps nothing but TVR and TSI
+  decides-fits : (outcome reason : ℕ) (z : Situation) → Fits (decides outcome reason z) s
+  unfolding Fits StandsAt standing changed keptAs tvrOf tsiOf
+  decides-fits outcome reason z = (refl, refl, refl)
+
+  goes-fits : (reason : ℕ) (z : Situation) (p : Phase) → Fits p s → Fits (goesOn reason z p) s
+  unfolding goesOn ended
+  goes-fits reason z p h = picked (λ (q : Phase). Fits q s) (eqb reason 0) p _ (λ y. h) (λ n. decides-fits _ reason z)
+
+  -- the situation that is read off the state, with some TVR and TSI
+  abbrev lateWith : List ℕ → List ℕ → Situation
+  lateWith tvr tsi =
+      record { terminal = readingOf (s .start); profile = s .profile; facts = factsIn (s .told); tvr = tvr; tsi = tsi }
+
+  module _ (tvr tsi : List ℕ) where
+    abbrev z : Situation
+    z = lateWith tvr tsi
+
+    requested-fits : (reason : ℕ) → Fits (requested reason z) s
+    unfolding requested Fits StandsAt forgets standing changed keptAs awaiting tvrOf tsiOf situationOf cursorAfter cursorAsking askedIn askedBy late situationWith
+    requested-fits reason = goes-fits reason z _ refl
+
+    replied-fits : (reply : Reply) (code : List ℕ) → Fits (replied z reply code) s
+    unfolding replied ended Fits StandsAt forgets standing changed keptAs awaiting tvrOf tsiOf situationOf cursorAfter cursorAsking askedIn askedBy late situationWith
+    replied-fits reply code = picked (λ (q : Phase). Fits q s) (fillable (listIn z 0x8D)) _ _ (λ y. refl) (λ n. decides-fits _ 9 z)
+
+    online-fits : Fits (online z) s
+    unfolding online Fits StandsAt standing changed keptAs tvrOf tsiOf cursorAfter late situationWith
+    online-fits = picked (λ (q : Phase). Fits q s) (eqb (z .terminal .kind) 0) _ _ (λ y. replied-fits Unable []) (λ n. (refl, refl))
+
+    by-first-fits : (type : ℕ) → Fits (byFirst type z) s
+    unfolding byFirst decided
+    by-first-fits type =
+        picked (λ (q : Phase). Fits q s) (eqb type 1) _ _ (λ y. decides-fits _ 0 z) (λ n.
+        picked (λ (q : Phase). Fits q s) (eqb type 0) _ _ (λ y. decides-fits _ 0 z) (λ m. online-fits))
+
+  all-read-fits : Fits (allRead (late s)) s
+  unfolding allRead ended managed late situationWith
+  all-read-fits =
+      picked (λ (q : Phase). Fits q s) (eqb (afterRecords (late s .facts)) 8) _ _ (λ y. decides-fits _ 8 (late s))
+      (λ n. requested-fits (managed (late s) .tvr) (managed (late s) .tsi) (afterRecords (late s .facts)))
+
+  -- the next record is the one at the cursor, and the cursor goes one further
+  read-fits : Fits (readOn (late s) (recordsLeft s)) s
+  unfolding readOn recordsLeft Fits StandsAt forgets standing changed keptAs awaiting tvrOf tsiOf situationOf cursorAfter cursorAsking askedIn askedBy late situationWith
+  read-fits =
+      let v = inRun (s .locator) in
+      either (isLeft v (s .cursor))
+      (λ y. subst (λ (rest : List (ℕ × ℕ)). Fits (readOn (late s) rest) s) (sym (one-less v (s .cursor) y)) refl)
+      (λ n. subst (λ (rest : List (ℕ × ℕ)). Fits (readOn (late s) rest) s) (sym (none-remain v (s .cursor) n)) all-read-fits)
+
+-- the same for situations and records that are known to be the state's
+reads-on : (s : State) (z : Situation) (rest : List (ℕ × ℕ)) → late s ≡ z → recordsLeft s ≡ rest → Fits (readOn z rest) s
+reads-on s z rest e f = subst (λ (p : Phase). Fits p s) (λ i. readOn (e i) (f i)) (read-fits s)
+
+-- ---- after each answer
+module _ (s : State) (a : List ℕ) where
+  abbrev Turns : Asked → Type 0
+  Turns w = Fits (turn w a) (keeping w a s)
+
+  select-fits : Turns (selecting (early s))
+  unfolding turn keeping selected Fits StandsAt forgets standing changed keptAs awaiting tvrOf tsiOf situationOf cursorAfter cursorAsking askedIn askedBy early situationWith
+  select-fits = goes-fits s (selectReason (early s .terminal) a) (early s) _ refl
+
+  options-fits : Turns (optioning (early s) [])
+  unfolding turn keeping optioned goesOn ended
+  options-fits =
+      both Fits (eqb (optionsReason a) 0) _ _ (withOptions a s) s
+      (λ y. let good = eqb-true (optionsReason a) 0 y in reads-on (withOptions a s) _ _ (late-options s a good) (left-options s a good))
+      (λ n. decides-fits s _ (optionsReason a) (early s))
+
+  record-fits : Turns (reading (late s) 0 0 (recordsLeft s))
+  unfolding turn keeping recorded goesOn ended late situationWith recordsLeft withTold
+  record-fits =
+      let reason = recordReason (λ name. isSome (factsIn (s .told) name)) a in
+      both Fits (eqb reason 0) _ _ (withTold (withRecord a (s .told)) s) s
+      (λ y. reads-on (withTold (withRecord a (s .told)) s) _ _ (late-told s a (eqb-true reason 0 y)) refl)
+      (λ n. decides-fits s _ reason (late s))
+
+  first-fits : (request : _) → Turns (first (late s) request)
+  unfolding turn keeping firstAnswered answered late situationWith
+  first-fits request =
+      goes-fits s (cryptogramReason (firstAllows request) a) (late s) _
+      (by-first-fits s (s .tvr) (answered (late s) .tsi) (cryptogramOf a))
+
+  second-fits : (request : _) → Turns (second (late s) request [])
+  unfolding turn keeping secondAnswered decided
+  second-fits request = goes-fits s (cryptogramReason (secondAllows request) a) (late s) _ (decides-fits s _ 0 (late s))
+
+  turned : {v : Asked} (w : Asked) → Turns v → some v ≡ some w → Turns w
+  turned {v} w h e = let same : v ≡ w = cc in subst Turns same h
+
+  by-phase : (k : Kept) (w : Asked) → askedBy k s ≡ some w → Turns w
+  unfolding askedBy
+  by-phase Start w e = not-asked w e
+  by-phase Select w e = turned w select-fits e
+  by-phase Options w e = turned w options-fits e
+  by-phase Record w e = turned w record-fits e
+  by-phase (First request) w e = turned w (first-fits request) e
+  by-phase (Second request) w e = turned w (second-fits request) e
+  by-phase Host w e = not-asked w e
+  by-phase (Decided outcome reason) w e = not-asked w e
+  by-phase Closed w e = not-asked w e
+
+-- an answer to what the state waits for
+pub turn-fits : (s : State) (w : Asked) (a : List ℕ) → askedIn s ≡ some w → Fits (turn w a) (keeping w a s)
+unfolding askedIn
+turn-fits s w a e = by-phase s a (s .phase) w e
+
+-- the issuer's reply
+pub heard-fits : (s : State) (reply : Reply) (h : List ℕ) → Fits (heard (late s) reply h) s
+unfolding heard late situationWith
+heard-fits s reply h = replied-fits s (s .tvr) (s .tsi) reply (codeIn h)
+
+-- START
+pub started-fits : (b : List ℕ) → length b ≡ 74 → Fits (opened (readingOf b)) (begun b)
+unfolding opened Fits StandsAt forgets standing changed keptAs awaiting tvrOf tsiOf situationOf cursorAfter cursorAsking askedIn askedBy early situationWith begun stateAt situationBegun
+started-fits b e = ap (λ (z : Situation). some (selecting z)) (early-begun b e)

@@ -1,0 +1,3 @@
+-- How a session's state and the rulebook stand to one another.
+pub mod Agreeing
+pub mod Logging

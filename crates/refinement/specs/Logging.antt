@@ -1,0 +1,33 @@
+-- What the terminal puts on the tape by itself once a phase is reached, and where the machine stands after it.
+-- Assumes nothing.
+use mathlib.Core.Path.{_≡_}
+use mathlib.Core.List.{List, [], _∷_}
+use mathlib.Core.Option.{some}
+use Prim.Native.Nat.{ℕ}
+use lib.ListN.{length}
+use Rattle.tape.specs.Entries.{Entry, entry, command, decision}
+use Rattle.rulebook.specs.Phase.{Phase, opens, asks, hears, decides, commandOf, decisionOf}
+use Rattle.rulebook.proofs.Running.{State as Machine, at, owes, done, next}
+use Rattle.dialogue.specs.Moves.{Moved, dueIn, bufferIn}
+use Rattle.refinement.specs.Agreeing.{StandsAt, Agrees}
+
+-- the command or the decision that is due
+unfoldable pub logged : Phase → List Entry
+logged opens = []
+logged (asks w) = entry command (commandOf w) ∷ []
+logged (hears z) = []
+logged (decides outcome reason z) = entry decision (decisionOf outcome reason z) ∷ []
+
+unfoldable pub landing : Phase → Machine
+landing opens = at opens
+landing (asks w) = owes w
+landing (hears z) = at (hears z)
+landing (decides outcome reason z) = done
+
+-- an event takes the machine to a phase; the state left behind stands there, what is due is the phase's, and so is the buffer
+pub record Follows (σ : Machine) (event : Entry) (p : Phase) (buf : List ℕ) (m : Moved) : Type 0 where
+  pub taken : next σ event ≡ some (at p)
+  pub stands : StandsAt (m .state) p
+  pub lands : Agrees (m .state) (landing p)
+  pub due : m .due ≡ dueIn (length buf) p
+  pub buffer : m .buffer ≡ bufferIn p buf

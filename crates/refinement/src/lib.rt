@@ -1,0 +1,1 @@
+// The refinement has definitions and laws only: see specs/.
