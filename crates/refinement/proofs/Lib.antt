@@ -1,2 +1,5 @@
 pub mod Standing
 pub mod Fitting
+pub mod Commanding
+pub mod Stepping
+pub mod Clearing

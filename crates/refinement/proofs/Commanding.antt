@@ -1,0 +1,75 @@
+-- Every command of a session fits 261 bytes: its data is at most what an object list may ask for, and the AID is read off START,
+-- where it has room for 16. A buffer of that many bytes therefore holds the whole command.
+-- Assumes nothing.
+use mathlib.Core.Path.{_≡_, refl, sym, ap, _∙_, subst}
+use mathlib.Core.List.{List, [], _∷_}
+use mathlib.Core.Option.{none, some}
+use Prim.Native.Nat.{ℕ, _≤_}
+use native.Mathlib.Omega.{arith}
+use lib.Dec.{leb}
+use lib.ListN.{length, take}
+use lib.Seq.{take-at}
+use borrow.Author.Tests.{le-leb, leb-true, leb-false}
+use Rattle.lists.specs.Writing.{put, laid}
+use Rattle.lists.proofs.Choice.{pick-yes, either}
+use Rattle.lists.proofs.Writing.{put-length, put-start, laid-fits, laid-short}
+use Rattle.terminal.specs.Reading.{Terminal, readingOf}
+use Rattle.object_lists.specs.Filled.{filling}
+use Rattle.object_lists.specs.declared.Known.{Known}
+use Rattle.commands.specs.Commands.{longest, sizeIn}
+use Rattle.commands.proofs.Sizes.{data-length, data-most}
+use Rattle.commands.proofs.Shapes.{aid-most, select-most, options-most, record-most, cryptogram-most}
+use Rattle.decide.specs.Requests.{p1Of}
+use Rattle.rulebook.specs.Situation.{knownIn, listIn}
+use Rattle.rulebook.specs.Phase.{Asked, selecting, optioning, reading, first, second, Phase, opens, asks, hears, decides, situationOf, commandOf}
+use Rattle.state.specs.Reading.{askedIn}
+use Rattle.state.specs.declared.State.{State}
+use Rattle.dialogue.specs.declared.Due.the-variants.{Command}
+use Rattle.dialogue.specs.Moves.{dueIn, bufferIn}
+use Rattle.refinement.specs.Agreeing.{forgets, StandsAt}
+use Rattle.refinement.proofs.Standing.{situation-forgets, asked-terminal}
+
+filling-most : (t : Terminal) (k : Known) (list : List ℕ) → length (filling t k list) ≤ 252
+filling-most t k list = let size = data-length t k list in let limit = data-most list in omega arith
+
+command-fits : (w : Asked) → length (situationOf w .terminal .aid) ≤ 16 → length (commandOf w) ≤ longest
+unfolding commandOf situationOf
+command-fits (selecting z) h = select-most (z .terminal .aid) h
+command-fits (optioning z list) h = options-most _ (filling-most (z .terminal) (knownIn z none) list)
+command-fits (reading z number file rest) h = record-most number file
+command-fits (first z request) h = cryptogram-most (p1Of request) _ (filling-most (z .terminal) (knownIn z none) (listIn z 0x8C))
+command-fits (second z request code) h = cryptogram-most (p1Of request) _ (filling-most (z .terminal) (knownIn z (some code)) (listIn z 0x8D))
+
+pub command-most : (s : State) (w : Asked) → StandsAt s (asks w) → length (commandOf w) ≤ longest
+unfolding StandsAt
+command-most s w h =
+    command-fits w
+    (subst (λ (t : Terminal). length (t .aid) ≤ 16)
+    (sym (ap (λ z. z .terminal) (situation-forgets w) ∙ asked-terminal s (forgets w) h))
+    (aid-most (s .start)))
+
+-- a command in a buffer that has room for it
+module _ (w : Asked) (buf : List ℕ) (room : length (commandOf w) ≤ length buf) where
+  pub command-due : dueIn (length buf) (asks w) ≡ Command (length (commandOf w))
+  unfolding dueIn sizeIn
+  command-due = ap Command (pick-yes _ _ _ (le-leb (length (commandOf w)) (length buf) room))
+
+  pub command-there : take (length (commandOf w)) (bufferIn (asks w) buf) ≡ commandOf w
+  unfolding bufferIn
+  command-there =
+      ap (take (length (commandOf w))) (laid-fits (commandOf w) 0 buf (omega arith) ∙ put-start (commandOf w) buf)
+      ∙ take-at (commandOf w) _ (length (commandOf w)) refl
+
+-- the buffer stays as long as it was
+laid-length : (c buf : List ℕ) → length (laid c 0 buf) ≡ length buf
+laid-length c buf =
+    either (leb (length c) (length buf))
+    (λ y. let h = leb-true (length c) (length buf) y in ap length (laid-fits c 0 buf (omega arith)) ∙ put-length c 0 buf (omega arith))
+    (λ n. let h = leb-false (length c) (length buf) n in ap length (laid-short c 0 buf (omega arith)))
+
+pub buffer-length : (p : Phase) (buf : List ℕ) → length (bufferIn p buf) ≡ length buf
+unfolding bufferIn
+buffer-length opens buf = refl
+buffer-length (asks w) buf = laid-length (commandOf w) buf
+buffer-length (hears z) buf = refl
+buffer-length (decides outcome reason z) buf = refl
