@@ -3,3 +3,5 @@ pub mod Fitting
 pub mod Commanding
 pub mod Stepping
 pub mod Clearing
+pub mod Telling
+pub mod Reaching

@@ -7,7 +7,8 @@ use Prim.Native.Nat.{ℕ}
 use lib.ListN.{length}
 use Rattle.tape.specs.Entries.{Entry, entry, command, decision}
 use Rattle.rulebook.specs.Phase.{Phase, opens, asks, hears, decides, commandOf, decisionOf}
-use Rattle.rulebook.proofs.Running.{State as Machine, at, owes, done, next}
+use Rattle.rulebook.proofs.Running.{State as Machine, at, owes, done, next, run}
+use Rattle.state.specs.declared.State.{State}
 use Rattle.dialogue.specs.Moves.{Moved, dueIn, bufferIn}
 use Rattle.refinement.specs.Agreeing.{StandsAt, Agrees}
 
@@ -31,3 +32,9 @@ pub record Follows (σ : Machine) (event : Entry) (p : Phase) (buf : List ℕ) (
   pub lands : Agrees (m .state) (landing p)
   pub due : m .due ≡ dueIn (length buf) p
   pub buffer : m .buffer ≡ bufferIn p buf
+
+-- a tape's entries lead to a phase, its own entry among them, and the state stands there
+pub record Reached (s : State) (es : List Entry) : Type 0 where
+  pub phase : Phase
+  pub read : run es (at opens) ≡ some (landing phase)
+  pub stands : StandsAt s phase
