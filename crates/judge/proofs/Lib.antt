@@ -1,0 +1,2 @@
+pub mod Tracking
+pub mod Deciding

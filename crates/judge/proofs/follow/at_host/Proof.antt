@@ -1,0 +1,41 @@
+-- `follow::at_host` meets its contract: the kind first, then whether it is a reply, and then the dialogue's step.
+-- Assumes nothing.
+use borrow.Author.Needs.{needs}
+use mathlib.Core.Path.{_≡_, refl, sym, ap, _∙_}
+use mathlib.Core.List.{List, [], _∷_}
+use Prim.Native.Nat.{ℕ}
+use mathlib.Core.Bool.{Bool}
+use Rattle.judge.specs.declared.Stage.the-variants.{Answer, Done, Closed, Broken}
+use Rattle.decide.specs.Replies.{replyOf}
+use Rattle.tape.specs.Entries.{host}
+use Rattle.dialogue.specs.Moves.{Moved, played, hostHeard}
+use Rattle.judge.specs.Following.{stageOf, staged, moving, isReply, atHost}
+use Rattle.judge.proofs.Deciding.{other-kind, test-fails, test-holds, not-yes, not-no, as-moving}
+use Rattle.judge.proofs.follow.at_host.Statement.{statement}
+use Rattle.judge.proofs.follow.at_host.Tie as tie
+
+returns : tie.Need-returns
+unfolding atHost
+returns c = let j = c .before .before .before .args .j in let i = c .before .before .before .args .index in let kind = c .before .before .before .args .kind in let p = c .before .before .before .args .payload .now in c .stage .ensures ∙ other-kind kind host (isReply (replyOf p)) (moving (hostHeard (j .state) p (j .command))) (staged (Broken i) j) (c .before .if1 .taken)
+
+returns-2 : tie.Need-returns-2
+unfolding atHost
+returns-2 c = let j = c .before .before .before .before .before .args .j in let i = c .before .before .before .before .before .args .index in let kind = c .before .before .before .before .before .args .kind in let p = c .before .before .before .before .before .args .payload .now in c .stage2 .ensures ∙ test-fails kind host (isReply (replyOf p)) (moving (hostHeard (j .state) p (j .command))) (staged (Broken i) j) (c .before .before .before .if1 .left) (sym (c .before .before .is-reply .ensures) ∙ not-yes _ (c .before .if2 .taken))
+
+returns-3 : tie.Need-returns-3
+unfolding atHost
+returns-3 c = let j = c .before .before .before .before .before .before .before .before .before .before .before .args .j in let i = c .before .before .before .before .before .before .before .before .before .before .before .args .index in let kind = c .before .before .before .before .before .before .before .before .before .before .before .args .kind in let p = c .before .before .before .before .before .before .before .before .before .before .before .args .payload .now in as-moving (c .before .before .before .host .result) (c .stage-of .result) (c .before .before .before .host .last .1 .1 .0) (hostHeard (j .state) p (j .command)) (c .stage-of .ensures) (c .before .before .before .host .ensures) ∙ test-holds kind host (isReply (replyOf p)) (moving (hostHeard (j .state) p (j .command))) (staged (Broken i) j) (c .before .before .before .before .before .before .before .before .before .if1 .left) (sym (c .before .before .before .before .before .before .before .before .is-reply .ensures) ∙ not-no _ (c .before .before .before .before .before .before .before .if2 .left))
+
+pub at-host-spec : {M : Type 1} → statement M
+at-host-spec =
+    tie.close
+    (tie.spec
+    (λ c κs. search needs)
+    returns
+    (λ c κs. search needs)
+    (λ c κs. search needs)
+    returns-2
+    (λ c. search needs)
+    (λ c κs. search needs)
+    (λ c κs. search needs)
+    returns-3)

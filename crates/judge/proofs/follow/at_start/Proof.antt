@@ -1,0 +1,41 @@
+-- `follow::at_start` meets its contract: the kind first, then whether START is valid, and then the dialogue's step.
+-- Assumes nothing.
+use borrow.Author.Needs.{needs}
+use mathlib.Core.Path.{_≡_, refl, sym, ap, _∙_}
+use mathlib.Core.List.{List, [], _∷_}
+use Prim.Native.Nat.{ℕ}
+use mathlib.Core.Bool.{Bool}
+use Rattle.judge.specs.declared.Stage.the-variants.{Answer, Done, Closed, Broken}
+use Rattle.terminal.specs.Start.{validStart}
+use Rattle.tape.specs.Entries.{start}
+use Rattle.dialogue.specs.Moves.{Moved, played, started}
+use Rattle.judge.specs.Following.{stageOf, staged, moving, atStart}
+use Rattle.judge.proofs.Deciding.{other-kind, test-fails, test-holds, not-yes, not-no, as-moving}
+use Rattle.judge.proofs.follow.at_start.Statement.{statement}
+use Rattle.judge.proofs.follow.at_start.Tie as tie
+
+returns : tie.Need-returns
+unfolding atStart
+returns c = let j = c .before .before .before .args .j in let i = c .before .before .before .args .index in let kind = c .before .before .before .args .kind in let p = c .before .before .before .args .payload .now in c .stage .ensures ∙ other-kind kind start (validStart p) (moving (started p (j .command))) (staged (Broken i) j) (c .before .if1 .taken)
+
+returns-2 : tie.Need-returns-2
+unfolding atStart
+returns-2 c = let j = c .before .before .before .before .before .args .j in let i = c .before .before .before .before .before .args .index in let kind = c .before .before .before .before .before .args .kind in let p = c .before .before .before .before .before .args .payload .now in c .stage2 .ensures ∙ test-fails kind start (validStart p) (moving (started p (j .command))) (staged (Broken i) j) (c .before .before .before .if1 .left) (sym (c .before .before .valid-start .ensures) ∙ not-yes _ (c .before .if2 .taken))
+
+returns-3 : tie.Need-returns-3
+unfolding atStart
+returns-3 c = let j = c .before .before .before .before .before .before .before .before .before .before .args .j in let i = c .before .before .before .before .before .before .before .before .before .before .args .index in let kind = c .before .before .before .before .before .before .before .before .before .before .args .kind in let p = c .before .before .before .before .before .before .before .before .before .before .args .payload .now in as-moving (c .before .before .before .start .result) (c .stage-of .result) (c .before .before .before .start .last .1 .0) (started p (j .command)) (c .stage-of .ensures) (c .before .before .before .start .ensures) ∙ test-holds kind start (validStart p) (moving (started p (j .command))) (staged (Broken i) j) (c .before .before .before .before .before .before .before .before .if1 .left) (sym (c .before .before .before .before .before .before .before .valid-start .ensures) ∙ not-no _ (c .before .before .before .before .before .before .if2 .left))
+
+pub at-start-spec : {M : Type 1} → statement M
+at-start-spec =
+    tie.close
+    (tie.spec
+    (λ c κs. search needs)
+    returns
+    (λ c κs. search needs)
+    (λ c κs. search needs)
+    returns-2
+    (λ c. search needs)
+    (λ c κs. search needs)
+    (λ c κs. search needs)
+    returns-3)

@@ -1,0 +1,58 @@
+// The judge: the verdict of a tape. It replays the dialogue entry by entry and compares; it reads on after a broken rule, since a
+// later damaged block makes the whole tape unreadable.
+mod follow;
+mod verdict;
+
+use state::State;
+use tape::block_at;
+use tape::code;
+use tape::kind;
+use tape::payload;
+use tape::session;
+use verdicts::Answer;
+ghost use Rattle.verdicts.specs.Judged.{Judged};
+
+// What the next entry must be, or how the reading ended: with a decision, with a closing silence, or at the entry that cannot be.
+pub enum Stage {
+    Start,
+    Command(usize),
+    Answer,
+    Host,
+    Decision,
+    Done,
+    Closed,
+    Broken(usize),
+}
+
+// How far a tape is read. The command that is due stands in the first bytes of `command`.
+pub struct Judgement {
+    pub stage: Stage,
+    pub state: State,
+    pub command: [u8; 261],
+}
+
+// The verdict of any bytes.
+pub fn judge(tape: &[u8]) -> Answer
+    ensures { λ r. ⌜ Judged (now (tape .entry)) r ⌝ }
+{
+    if 65536 < tape.len() {
+        return verdict::unreadable(0, 1);
+    }
+    if tape.len() % 512 != 0 {
+        return verdict::unreadable(tape.len() / 512, 2);
+    }
+    let number = session(block_at(tape, 0));
+    let mut j = follow::begin();
+    let mut k = 0;
+    while k < tape.len() / 512 {
+        let block = block_at(tape, k);
+        let why = code(block, k, number);
+        if why != 0 {
+            return verdict::unreadable(k, why as usize);
+        }
+        let next = follow::feed(j, k, kind(block), payload(block));
+        j = next;
+        k += 1;
+    }
+    verdict::conclude(j, k)
+}
