@@ -1,8 +1,8 @@
 -- No step clears a bit of TVR or TSI, whatever the state: what was asked is read off the state itself, and from there on it is the
 -- rulebook's law; an event that is not due changes nothing.
 -- Assumes nothing.
-use mathlib.Core.Path.{_≡_, refl, sym, ap, _∙_, subst}
-use mathlib.Core.List.{List, [], _∷_}
+use mathlib.Core.Path.{_≡_, refl, ap, _∙_}
+use mathlib.Core.List.{List}
 use mathlib.Core.Option.{Option, none, some}
 use Prim.Native.Nat.{ℕ}
 use Rattle.lists.specs.Writing.{zeros}
@@ -12,7 +12,7 @@ use Rattle.decide.specs.Replies.{replyOf}
 use Rattle.decide.specs.declared.reply.Heard.{Heard}
 use Rattle.decide.specs.declared.reply.Heard.the-variants.{Said, Nothing}
 use Rattle.decide.proofs.Rows.{joined-self}
-use Rattle.rulebook.specs.Phase.{Asked, Phase, opens, asks, hears, situationOf, tvrOf, tsiOf}
+use Rattle.rulebook.specs.Phase.{Asked, Phase, tvrOf, tsiOf}
 use Rattle.rulebook.specs.Turn.{opened, turn, heard}
 use Rattle.rulebook.proofs.Growing.{turn-kept, heard-grows, opened-grows}
 use Rattle.state.specs.Reading.{situationWith, late, askedIn}
@@ -20,7 +20,7 @@ use Rattle.state.specs.Keeping.{changed, begun}
 use Rattle.state.specs.declared.State.{State}
 use Rattle.state.specs.declared.Phase.{Phase as Kept}
 use Rattle.state.specs.declared.Phase.the-variants.{Start, Select, Options, Record, First, Second, Host, Decided, Closed}
-use Rattle.dialogue.specs.Moves.{standing, moved, unmoved, keeping, started, answeredTo, answered, heardAs, heardIn, hostHeard, Moved}
+use Rattle.dialogue.specs.Moves.{standing, moved, unmoved, keeping, started, answeredTo, answered, heardAs, heardIn, hostHeard}
 use Rattle.refinement.proofs.Standing.{asked-tvr, asked-tsi}
 
 -- every bit that is set in one state is set in another

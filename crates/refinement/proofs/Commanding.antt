@@ -2,7 +2,7 @@
 -- where it has room for 16. A buffer of that many bytes therefore holds the whole command.
 -- Assumes nothing.
 use mathlib.Core.Path.{_≡_, refl, sym, ap, _∙_, subst}
-use mathlib.Core.List.{List, [], _∷_}
+use mathlib.Core.List.{List}
 use mathlib.Core.Option.{none, some}
 use Prim.Native.Nat.{ℕ, _≤_}
 use native.Mathlib.Omega.{arith}
@@ -10,10 +10,10 @@ use lib.Dec.{leb}
 use lib.ListN.{length, take}
 use lib.Seq.{take-at}
 use borrow.Author.Tests.{le-leb, leb-true, leb-false}
-use Rattle.lists.specs.Writing.{put, laid}
+use Rattle.lists.specs.Writing.{laid}
 use Rattle.lists.proofs.Choice.{pick-yes, either}
 use Rattle.lists.proofs.Writing.{put-length, put-start, laid-fits, laid-short}
-use Rattle.terminal.specs.Reading.{Terminal, readingOf}
+use Rattle.terminal.specs.Reading.{Terminal}
 use Rattle.object_lists.specs.Filled.{filling}
 use Rattle.object_lists.specs.declared.Known.{Known}
 use Rattle.commands.specs.Commands.{longest, sizeIn}
@@ -22,7 +22,6 @@ use Rattle.commands.proofs.Shapes.{aid-most, select-most, options-most, record-
 use Rattle.decide.specs.Requests.{p1Of}
 use Rattle.rulebook.specs.Situation.{knownIn, listIn}
 use Rattle.rulebook.specs.Phase.{Asked, selecting, optioning, reading, first, second, Phase, opens, asks, hears, decides, situationOf, commandOf}
-use Rattle.state.specs.Reading.{askedIn}
 use Rattle.state.specs.declared.State.{State}
 use Rattle.dialogue.specs.declared.Due.the-variants.{Command}
 use Rattle.dialogue.specs.Moves.{dueIn, bufferIn}

@@ -1,10 +1,10 @@
 -- The state that a step leaves stands at the phase that the step leads to: what the answer told is kept in the very form in which
 -- the rulebook's next situation has it, and the phase, TVR, TSI and the place among the records are the phase's own.
 -- Assumes nothing.
-use mathlib.Core.Path.{_≡_, refl, sym, ap, _∙_, subst}
+use mathlib.Core.Path.{_≡_, refl, sym, ap, subst}
 use mathlib.Core.Bool.{Bool, true, false}
-use mathlib.Core.List.{List, [], _∷_}
-use mathlib.Core.Option.{Option, none, some}
+use mathlib.Core.List.{List, []}
+use mathlib.Core.Option.{some}
 use Prim.Native.Nat.{ℕ}
 use lib.Dec.{eqb}
 use lib.ListN.{length}
@@ -14,29 +14,28 @@ use Rattle.lists.proofs.Choice.{picked, either}
 use Rattle.objects.specs.Objects.{isSome}
 use Rattle.terminal.specs.Reading.{readingOf}
 use Rattle.object_lists.specs.Wanted.{fillable}
-use Rattle.locator.specs.Entries.{toRead}
-use Rattle.locator.specs.Cursor.{isLeft, stepped, remaining}
+use Rattle.locator.specs.Cursor.{isLeft}
 use Rattle.locator.proofs.Walking.{none-remain, one-less}
 use Rattle.answers.specs.Select.{selectReason}
-use Rattle.answers.specs.Options.{optionsReason, profileOf, locatorOf}
+use Rattle.answers.specs.Options.{optionsReason}
 use Rattle.answers.specs.Records.{recordReason, afterRecords}
 use Rattle.answers.specs.Cryptogram.{cryptogramReason, cryptogramOf}
 use Rattle.decide.specs.Replies.{codeIn}
+use Rattle.decide.specs.declared.requests.Cryptogram.{Cryptogram}
 use Rattle.decide.specs.declared.reply.Reply.{Reply}
 use Rattle.decide.specs.declared.reply.Reply.the-variants.{Unable}
 use Rattle.rulebook.specs.Situation.{Situation, listIn, begun as situationBegun}
-use Rattle.rulebook.specs.Phase.{Asked, selecting, optioning, reading, first, second, Phase, opens, asks, hears, decides, situationOf, decided, ended, tvrOf, tsiOf}
-use Rattle.rulebook.specs.Turn.{goesOn, opened, selected, managed, requested, allRead, readOn, withProfile, optioned, withRecord as recordAdded, recorded, answered, replied, online, byFirst, firstAllows, secondAllows, firstAnswered, secondAnswered, turn, heard}
+use Rattle.rulebook.specs.Phase.{Asked, selecting, optioning, reading, first, second, Phase, decides, situationOf, decided, ended, tvrOf, tsiOf}
+use Rattle.rulebook.specs.Turn.{goesOn, opened, selected, managed, requested, allRead, readOn, optioned, recorded, answered, replied, online, byFirst, firstAllows, secondAllows, firstAnswered, secondAnswered, turn, heard}
 use Rattle.state.specs.Reading.{inRun, factsIn, situationWith, early, late, recordsLeft, askedBy, askedIn}
 use Rattle.state.specs.Keeping.{withRecord, withTold, withOptions, changed, stateAt, begun}
 use Rattle.state.specs.declared.State.{State}
 use Rattle.state.specs.declared.Phase.{Phase as Kept}
-use Rattle.state.specs.declared.Phase.the-variants.{Start, Select, Options, Record, First, Second, Host, Decided, Closed}
 use Rattle.state.proofs.Telling.{late-told}
 use Rattle.state.proofs.Starting.{early-begun, late-options, left-options}
 use Rattle.dialogue.specs.Moves.{awaiting, keptAs, cursorAsking, cursorAfter, standing, keeping}
 use Rattle.refinement.specs.Agreeing.{forgets, StandsAt}
-use Rattle.refinement.proofs.Standing.{not-asked}
+use Rattle.refinement.proofs.Standing.{asked-one}
 
 -- a state that can wait for a phase: once what the phase overwrites is overwritten, it stands there
 unfoldable pub Fits : Phase → State → Type 0
@@ -128,35 +127,22 @@ module _ (s : State) (a : List ℕ) where
       (λ y. reads-on (withTold (withRecord a (s .told)) s) _ _ (late-told s a (eqb-true reason 0 y)) refl)
       (λ n. decides-fits s _ reason (late s))
 
-  first-fits : (request : _) → Turns (first (late s) request)
+  first-fits : (request : Cryptogram) → Turns (first (late s) request)
   unfolding turn keeping firstAnswered answered late situationWith
   first-fits request =
       goes-fits s (cryptogramReason (firstAllows request) a) (late s) _
       (by-first-fits s (s .tvr) (answered (late s) .tsi) (cryptogramOf a))
 
-  second-fits : (request : _) → Turns (second (late s) request [])
+  second-fits : (request : Cryptogram) → Turns (second (late s) request [])
   unfolding turn keeping secondAnswered decided
   second-fits request = goes-fits s (cryptogramReason (secondAllows request) a) (late s) _ (decides-fits s _ 0 (late s))
 
-  turned : {v : Asked} (w : Asked) → Turns v → some v ≡ some w → Turns w
-  turned {v} w h e = let same : v ≡ w = cc in subst Turns same h
-
-  by-phase : (k : Kept) (w : Asked) → askedBy k s ≡ some w → Turns w
-  unfolding askedBy
-  by-phase Start w e = not-asked w e
-  by-phase Select w e = turned w select-fits e
-  by-phase Options w e = turned w options-fits e
-  by-phase Record w e = turned w record-fits e
-  by-phase (First request) w e = turned w (first-fits request) e
-  by-phase (Second request) w e = turned w (second-fits request) e
-  by-phase Host w e = not-asked w e
-  by-phase (Decided outcome reason) w e = not-asked w e
-  by-phase Closed w e = not-asked w e
-
 -- an answer to what the state waits for
 pub turn-fits : (s : State) (w : Asked) (a : List ℕ) → askedIn s ≡ some w → Fits (turn w a) (keeping w a s)
-unfolding askedIn
-turn-fits s w a e = by-phase s a (s .phase) w e
+turn-fits s w a e =
+    asked-one s (λ (k : Kept) (v : Asked). Turns s a v)
+    (record { atSelect = select-fits s a; atOptions = options-fits s a; atRecord = record-fits s a; atFirst = first-fits s a; atSecond = second-fits s a })
+    w e
 
 -- the issuer's reply
 pub heard-fits : (s : State) (reply : Reply) (h : List ℕ) → Fits (heard (late s) reply h) s

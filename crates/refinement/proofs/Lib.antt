@@ -5,3 +5,4 @@ pub mod Stepping
 pub mod Clearing
 pub mod Telling
 pub mod Reaching
+pub mod Onward

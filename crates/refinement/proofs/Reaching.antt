@@ -1,14 +1,14 @@
 -- A whole session, event by event: from START on, the entries of the events with the commands and the decision that they bring
 -- about lead the machine to where the state stands. So the state alone says what the rulebook says of the tape so far.
 -- Assumes nothing.
-use mathlib.Core.Path.{_≡_, refl, sym, ap, _∙_, subst}
+use mathlib.Core.Path.{_≡_, refl, ap, _∙_, subst}
 use mathlib.Core.List.{List, [], _∷_, _++_}
 use mathlib.Core.Option.{some}
 use Prim.Native.Nat.{ℕ}
 use Rattle.tape.specs.Entries.{Entry}
-use Rattle.rulebook.specs.Phase.{Asked, Phase, opens, asks, hears, decides, tvrOf, tsiOf}
+use Rattle.rulebook.specs.Phase.{Asked, Phase, opens, asks, hears, decides}
 use Rattle.rulebook.specs.Session.{Session}
-use Rattle.rulebook.proofs.Running.{State as Machine, at, owes, done, run, run-session}
+use Rattle.rulebook.proofs.Running.{State as Machine, at, owes, run, run-session}
 use Rattle.state.specs.Reading.{late, askedIn}
 use Rattle.state.specs.Keeping.{fresh}
 use Rattle.state.specs.declared.State.{State}

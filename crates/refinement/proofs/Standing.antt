@@ -1,16 +1,17 @@
 -- What a state that stands at a phase knows: the situation of what was asked is the state's own reading, so its TVR and TSI are the
 -- phase's, and what the state does not keep has no part in the turn.
 -- Assumes nothing.
-use mathlib.Core.Path.{_≡_, refl, sym, ap, _∙_}
+use mathlib.Core.Path.{_≡_, refl, sym, ap, _∙_, subst}
 use mathlib.Core.List.{List, [], _∷_, _++_}
-use mathlib.Core.Option.{Option, none, some}
+use mathlib.Core.Option.{none, some}
 use Prim.Native.Nat.{ℕ}
 use native.Mathlib.Omega.{arith}
 use Rattle.terminal.specs.Reading.{readingOf}
+use Rattle.decide.specs.declared.requests.Cryptogram.{Cryptogram}
 use Rattle.rulebook.specs.Situation.{Situation}
 use Rattle.rulebook.specs.Phase.{Asked, selecting, optioning, reading, first, second, Phase, opens, asks, hears, decides, situationOf, decisionOf, tvrOf, tsiOf}
 use Rattle.rulebook.specs.Turn.{turn}
-use Rattle.state.specs.Reading.{situationWith, early, late, askedBy, askedIn}
+use Rattle.state.specs.Reading.{situationWith, early, late, recordsLeft, askedBy, askedIn}
 use Rattle.state.specs.declared.State.{State}
 use Rattle.state.specs.declared.Phase.{Phase as Kept}
 use Rattle.state.specs.declared.Phase.the-variants.{Start, Select, Options, Record, First, Second, Host, Decided, Closed}
@@ -42,33 +43,49 @@ situation-forgets (reading z number file rest) = refl
 situation-forgets (first z request) = refl
 situation-forgets (second z request code) = refl
 
-pub not-asked : {A : Type 0} (w : Asked) → none ≡ some w → A
-not-asked w e = absurd (let z : _≡_ {A = ℕ} 0 1 = cc in omega arith)
+-- where something was asked it is one of five, by the state's phase: what holds of each holds of it
+pub record Each (s : State) (P : Kept → Asked → Type 0) : Type 0 where
+  pub atSelect : P Select (selecting (early s))
+  pub atOptions : P Options (optioning (early s) [])
+  pub atRecord : P Record (reading (late s) 0 0 (recordsLeft s))
+  pub atFirst : (request : Cryptogram) → P (First request) (first (late s) request)
+  pub atSecond : (request : Cryptogram) → P (Second request) (second (late s) request [])
 
--- where something was asked, its situation is read off the state
+module _ (s : State) (P : Kept → Asked → Type 0) (each : Each s P) where
+  same : (k : Kept) (v w : Asked) → P k v → some v ≡ some w → P k w
+  same k v w h e = let one : v ≡ w = cc in subst (P k) one h
+
+  not-asked : (k : Kept) (w : Asked) → none ≡ some w → P k w
+  not-asked k w e = absurd (let z : _≡_ {A = ℕ} 0 1 = cc in omega arith)
+
+  by-phase : (k : Kept) (w : Asked) → askedBy k s ≡ some w → P k w
+  unfolding askedBy
+  by-phase Start w e = not-asked Start w e
+  by-phase Select w e = same Select (selecting (early s)) w (each .atSelect) e
+  by-phase Options w e = same Options (optioning (early s) []) w (each .atOptions) e
+  by-phase Record w e = same Record (reading (late s) 0 0 (recordsLeft s)) w (each .atRecord) e
+  by-phase (First request) w e = same (First request) (first (late s) request) w (each .atFirst request) e
+  by-phase (Second request) w e = same (Second request) (second (late s) request []) w (each .atSecond request) e
+  by-phase Host w e = not-asked Host w e
+  by-phase (Decided outcome reason) w e = not-asked (Decided outcome reason) w e
+  by-phase Closed w e = not-asked Closed w e
+
+  pub asked-one : (w : Asked) → askedIn s ≡ some w → P (s .phase) w
+  unfolding askedIn
+  asked-one w e = by-phase (s .phase) w e
+
+-- its situation is read off the state
 module _ (s : State) where
-  abbrev ReadOff : Asked → Type 0
-  ReadOff w = (profile : List ℕ) × (situationOf w ≡ situationWith profile s)
-
-  read-off : {v : Asked} (w : Asked) → ReadOff v → some v ≡ some w → ReadOff w
-  read-off {v} w h e = let same : v ≡ w = cc in (h .0, ap situationOf (sym same) ∙ h .1)
-
-  by-phase : (k : Kept) (w : Asked) → askedBy k s ≡ some w → ReadOff w
-  unfolding askedBy situationOf early late
-  by-phase Start w e = not-asked w e
-  by-phase Select w e = read-off w ([], refl) e
-  by-phase Options w e = read-off w ([], refl) e
-  by-phase Record w e = read-off w (s .profile, refl) e
-  by-phase (First request) w e = read-off w (s .profile, refl) e
-  by-phase (Second request) w e = read-off w (s .profile, refl) e
-  by-phase Host w e = not-asked w e
-  by-phase (Decided outcome reason) w e = not-asked w e
-  by-phase Closed w e = not-asked w e
+  abbrev ReadOff : Kept → Asked → Type 0
+  ReadOff k w = (profile : List ℕ) × (situationOf w ≡ situationWith profile s)
 
   module _ (w : Asked) (e : askedIn s ≡ some w) where
-    read : ReadOff w
-    unfolding askedIn
-    read = by-phase (s .phase) w e
+    read : ReadOff (s .phase) w
+    unfolding situationOf early late
+    read =
+        asked-one s ReadOff
+        (record { atSelect = ([], refl); atOptions = ([], refl); atRecord = (s .profile, refl); atFirst = λ request. (s .profile, refl); atSecond = λ request. (s .profile, refl) })
+        w e
 
     pub asked-tvr : s .tvr ≡ situationOf w .tvr
     unfolding situationWith

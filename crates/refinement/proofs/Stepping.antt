@@ -4,9 +4,8 @@
 use mathlib.Core.Path.{_≡_, refl, sym, ap, _∙_, subst}
 use mathlib.Core.Bool.{true}
 use mathlib.Core.List.{List, [], _∷_, _++_}
-use mathlib.Core.Option.{Option, none, some}
+use mathlib.Core.Option.{Option, some}
 use Prim.Native.Nat.{ℕ}
-use lib.ListN.{length}
 use Rattle.terminal.specs.Reading.{readingOf}
 use Rattle.terminal.specs.Start.{validStart}
 use Rattle.terminal.proofs.Laws.{accepted, start-length}
@@ -19,9 +18,8 @@ use Rattle.rulebook.specs.Situation.{Situation}
 use Rattle.rulebook.specs.Phase.{Asked, Phase, opens, asks, hears, decides}
 use Rattle.rulebook.specs.Turn.{opened, turn, heard}
 use Rattle.rulebook.specs.Session.{isPayload}
-use Rattle.rulebook.proofs.Running.{State as Machine, at, owes, done, next, andOn, run, takes-start, takes-command, takes-answer, takes-reply, takes-decision}
+use Rattle.rulebook.proofs.Running.{State as Machine, at, owes, next, andOn, run, takes-start, takes-command, takes-answer, takes-reply, takes-decision}
 use Rattle.rulebook.proofs.Reading.{run-append}
-use Rattle.state.specs.Reading.{late, askedIn}
 use Rattle.state.specs.Keeping.{stateAt, fresh, begun}
 use Rattle.state.specs.declared.State.{State}
 use Rattle.state.specs.declared.Phase.{Phase as Kept}

@@ -1,21 +1,19 @@
 -- From the state back to the rulebook: the state's own phase, and what a step says is due, tell which phase of the rulebook it is.
 -- Assumes nothing.
 use mathlib.Core.Path.{_≡_, refl, sym, ap, _∙_}
-use mathlib.Core.List.{List, []}
-use mathlib.Core.Option.{Option, none, some}
+use mathlib.Core.Option.{some}
 use Prim.Native.Nat.{ℕ}
 use native.Mathlib.Omega.{arith}
 use Rattle.rulebook.specs.Situation.{Situation}
 use Rattle.rulebook.specs.Phase.{Asked, selecting, optioning, reading, first, second, Phase, opens, asks, hears, decides}
-use Rattle.state.specs.Reading.{late, askedBy, askedIn}
+use Rattle.state.specs.Reading.{late, askedIn}
 use Rattle.state.specs.declared.State.{State}
 use Rattle.state.specs.declared.Phase.{Phase as Kept}
 use Rattle.state.specs.declared.Phase.the-variants.{Start, Select, Options, Record, First, Second, Host, Decided, Closed}
-use Rattle.dialogue.specs.declared.Due.{Due}
 use Rattle.dialogue.specs.declared.Due.the-variants.{Command, Host as HostDue, Decision, Nothing}
 use Rattle.dialogue.specs.Moves.{awaiting, keptAs, dueIn}
 use Rattle.refinement.specs.Agreeing.{forgets, StandsAt}
-use Rattle.refinement.proofs.Standing.{not-asked}
+use Rattle.refinement.proofs.Standing.{asked-one}
 
 -- ---- the state's phase is the one that the rulebook's is kept as
 awaiting-forgets : (w : Asked) → awaiting (forgets w) ≡ awaiting w
@@ -26,25 +24,17 @@ awaiting-forgets (reading z number file rest) = refl
 awaiting-forgets (first z request) = refl
 awaiting-forgets (second z request code) = refl
 
-asked-as : {v : Asked} (w : Asked) → some v ≡ some w → awaiting v ≡ awaiting w
-asked-as {v} w e = let same : v ≡ w = cc in ap awaiting same
-
-by-phase : (k : Kept) (s : State) (w : Asked) → askedBy k s ≡ some w → k ≡ awaiting w
-unfolding askedBy awaiting
-by-phase Start s w e = not-asked w e
-by-phase Select s w e = asked-as w e
-by-phase Options s w e = asked-as w e
-by-phase Record s w e = asked-as w e
-by-phase (First request) s w e = asked-as w e
-by-phase (Second request) s w e = asked-as w e
-by-phase Host s w e = not-asked w e
-by-phase (Decided outcome reason) s w e = not-asked w e
-by-phase Closed s w e = not-asked w e
+asked-phase : (s : State) (w : Asked) → askedIn s ≡ some w → s .phase ≡ awaiting w
+unfolding awaiting
+asked-phase s w e =
+    asked-one s (λ (k : Kept) (v : Asked). k ≡ awaiting v)
+    (record { atSelect = refl; atOptions = refl; atRecord = refl; atFirst = λ request. refl; atSecond = λ request. refl })
+    w e
 
 pub stands-phase : (s : State) (p : Phase) → StandsAt s p → s .phase ≡ keptAs p
-unfolding StandsAt keptAs askedIn
+unfolding StandsAt keptAs
 stands-phase s opens h = h .0
-stands-phase s (asks w) h = by-phase (s .phase) s (forgets w) h ∙ awaiting-forgets w
+stands-phase s (asks w) h = asked-phase s (forgets w) h ∙ awaiting-forgets w
 stands-phase s (hears z) h = h .0
 stands-phase s (decides outcome reason z) h = h .0
 
@@ -101,8 +91,8 @@ module _ (s : State) where
   start-at (decides outcome reason z) h e = absurd (let k = same-kind (decides outcome reason z) Start h e in omega arith)
 
   pub asked-at : (p : Phase) (v : Asked) → StandsAt s p → askedIn s ≡ some v → (w : Asked) × ((p ≡ asks w) × (forgets w ≡ v))
-  unfolding askedIn StandsAt kindAt
-  asked-at p v h e = by-rule p h (same-kind p (awaiting v) h (by-phase (s .phase) s v e) ∙ awaiting-kind v)
+  unfolding StandsAt kindAt
+  asked-at p v h e = by-rule p h (same-kind p (awaiting v) h (asked-phase s v e) ∙ awaiting-kind v)
     where
       by-rule : (q : Phase) → StandsAt s q → kindAt q ≡ 1 → (w : Asked) × ((q ≡ asks w) × (forgets w ≡ v))
       by-rule opens g k = absurd (omega arith)
@@ -155,3 +145,10 @@ module _ (room : ℕ) where
   due-decides (asks w) e = absurd (let z : _≡_ {A = ℕ} 0 1 = cc in omega arith)
   due-decides (hears z) e = absurd (let z : _≡_ {A = ℕ} 0 1 = cc in omega arith)
   due-decides (decides outcome reason z) e = (outcome, (reason, (z, refl)))
+
+  pub due-nothing : (p : Phase) → dueIn room p ≡ Nothing → p ≡ opens
+  unfolding dueIn
+  due-nothing opens e = refl
+  due-nothing (asks w) e = absurd (let z : _≡_ {A = ℕ} 0 1 = cc in omega arith)
+  due-nothing (hears z) e = absurd (let z : _≡_ {A = ℕ} 0 1 = cc in omega arith)
+  due-nothing (decides outcome reason z) e = absurd (let z : _≡_ {A = ℕ} 0 1 = cc in omega arith)

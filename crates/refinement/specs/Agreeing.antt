@@ -2,7 +2,7 @@
 -- command alone it does not keep, so that is left out of the comparison.
 -- Assumes nothing.
 use mathlib.Core.Path.{_≡_}
-use mathlib.Core.List.{List, [], _∷_}
+use mathlib.Core.List.{[]}
 use mathlib.Core.Option.{some}
 use Prim.Native.Nat.{ℕ}
 use Rattle.lists.specs.Writing.{zeros}
