@@ -1,0 +1,44 @@
+// The verdict of the tape on standard input, in one line: verdict, place, code. Where the input cannot be read there is no verdict:
+// nothing goes to standard output, and standard error says why.
+use judge::judge;
+use libc::STDIN_FILENO;
+use libc::STDOUT_FILENO;
+use lists::part;
+use verdicts::line::line;
+
+enum Input {
+    Bytes(usize),
+    Failed,
+}
+
+// One byte more than the longest tape is enough to know that a tape is too long.
+fn main() {
+    let mut input = [0u8; 65537];
+    match read_all(&mut input) {
+        Input::Bytes(n) => tell(part(&input, 0, n)),
+        Input::Failed => os::fail(b"judge_tape: standard input"),
+    }
+}
+
+// Reads to the end of the input, or until the buffer is full.
+fn read_all(buf: &mut [u8]) -> Input {
+    let mut n = 0;
+    while n < buf.len() {
+        let got = libc::read(STDIN_FILENO, &mut buf[n..]);
+        if got < 0 {
+            return Input::Failed;
+        }
+        let more = io::count(got, &buf[n..]);
+        if more == 0 {
+            return Input::Bytes(n);
+        }
+        n += more;
+    }
+    Input::Bytes(n)
+}
+
+fn tell(tape: &[u8]) {
+    let mut out = [0u8; 64];
+    let n = line(judge(tape), &mut out);
+    io::write_all(STDOUT_FILENO, part(&out, 0, n));
+}
