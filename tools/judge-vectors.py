@@ -1,0 +1,38 @@
+#!/usr/bin/env python3
+"""Makes the tapes that judge_bench reads, and the lines that it must print.
+
+    tools/judge-vectors.py REFERENCE [TAPES EXPECTED]
+
+REFERENCE is the reference program (reference/target/release/reference). Its generator's fixed table goes through every outcome, every way
+to spoil an answer, to cut or change the entries and to damage a block; every few of those tapes are taken, the smallest kinds of each
+label and some that are as long as a tape can be. TAPES is a folder of further tapes and EXPECTED a file of `NAME VERDICT place code`
+lines for them, made by another independent program. Each tape stands behind its length in four bytes, big-endian.
+"""
+import os, subprocess, sys, tempfile
+
+reference = os.path.abspath(sys.argv[1])
+here = os.path.join(os.path.dirname(os.path.abspath(__file__)), "..", "crates", "judge_bench")
+tapes = [(b"", "INCONCLUSIVE 0 0"), (b"\x00", "UNREADABLE 0 2")]  # 01, "Sessions on the bench"
+if len(sys.argv) > 3:
+    for line in open(sys.argv[3]):
+        name, said = line.rstrip("\n").split(" ", 1)
+        tapes.append((open(os.path.join(sys.argv[2], name), "rb").read(), said))
+with tempfile.TemporaryDirectory() as work:
+    labels = os.path.join(work, "labels")
+    lines = subprocess.run([reference, "make", work, "1600", "20", "--list", labels], check=True, capture_output=True, text=True).stdout
+    long = 0
+    for number, line in enumerate(lines.splitlines()):
+        name, said = line.split(" ", 1)
+        tape = open(os.path.join(work, name), "rb").read()
+        if len(tape) > 60000:
+            long += 1
+        few = 8 if said.startswith("PASS") else 2
+        if (len(tape) <= 10240 and number % few == 0) or (len(tape) > 60000 and long <= 4):
+            tapes.append((tape, said))
+with open(os.path.join(here, "stdin"), "wb") as out:
+    for tape, said in tapes:
+        out.write(len(tape).to_bytes(4, "big") + tape)
+with open(os.path.join(here, "stdout"), "w") as out:
+    for tape, said in tapes:
+        out.write(said + "\n")
+print(len(tapes), "tapes")
