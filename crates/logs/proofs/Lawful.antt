@@ -1,0 +1,90 @@
+-- After any calls from fresh, taken and turned away, the log is a session of the rulebook exactly where the kernel has decided, and
+-- open everywhere else: the machine has read the log to its end just there, and a silence leaves it open.
+-- Assumes nothing.
+use mathlib.Core.Path.{_≡_, refl, sym, ap, _∙_}
+use mathlib.Core.Bool.{Bool, true, false, false≢true}
+use mathlib.Core.List.{List, [], _∷_}
+use mathlib.Core.Logic.{inr, ⊎-elim}
+use mathlib.Core.Option.{some}
+use Prim.Native.Nat.{ℕ}
+use native.Mathlib.Omega.{arith}
+use Rattle.lists.proofs.Choice.{either}
+use Rattle.tape.specs.Entries.{Entry}
+use Rattle.rulebook.specs.Phase.{Phase, opens, asks, hears, decides}
+use Rattle.rulebook.specs.Session.{Session as WholeSession, Open, Lawful, Closed as ClosedLog}
+use Rattle.rulebook.proofs.Running.{State as Machine, at, owes, done, run, session-run}
+use Rattle.rulebook.proofs.Reading.{not-closed}
+use Rattle.rulebook.proofs.Trichotomy.{one-sort}
+use Rattle.rulebook.proofs.States.{state-lawful}
+use Rattle.state.specs.declared.State.{State}
+use Rattle.state.specs.declared.Phase.{Phase as Kept}
+use Rattle.state.specs.declared.Phase.the-variants.{Start, Select, Options, Record, First, Second, Host, Decided, Closed}
+use Rattle.refinement.specs.Agreeing.{StandsAt}
+use Rattle.refinement.specs.Logging.{landing, Reached}
+use Rattle.refinement.proofs.Telling.{stands-phase}
+use Rattle.refinement.proofs.Reaching.{reached-decided}
+use Rattle.dialogue.specs.Moves.{keptAs}
+use Rattle.kernel.specs.declared.Session.{Session}
+use Rattle.logs.specs.Log.{Call, plays, allBytes, isDecided}
+use Rattle.logs.specs.Saying.{Lawfully}
+use Rattle.logs.proofs.Lasting.{Stands, going, shut, stands-plays}
+
+is-decided : (k : Kept) → isDecided k ≡ true → (outcome : ℕ) × ((reason : ℕ) × (k ≡ Decided outcome reason))
+unfolding isDecided
+is-decided Start e = absurd (false≢true e)
+is-decided Select e = absurd (false≢true e)
+is-decided Options e = absurd (false≢true e)
+is-decided Record e = absurd (false≢true e)
+is-decided (First request) e = absurd (false≢true e)
+is-decided (Second request) e = absurd (false≢true e)
+is-decided Host e = absurd (false≢true e)
+is-decided (Decided outcome reason) e = (outcome, (reason, refl))
+is-decided Closed e = absurd (false≢true e)
+
+-- the machine is at its end only after a decision
+decided-there : (s : State) (p : Phase) → StandsAt s p → landing p ≡ done → isDecided (s .phase) ≡ true
+unfolding landing keptAs isDecided
+decided-there s opens h e = absurd (let z : _≡_ {A = ℕ} 0 1 = cc e in omega arith)
+decided-there s (asks w) h e = absurd (let z : _≡_ {A = ℕ} 0 1 = cc e in omega arith)
+decided-there s (hears z) h e = absurd (let z : _≡_ {A = ℕ} 0 1 = cc e in omega arith)
+decided-there s (decides outcome reason z) h e = ap isDecided (stands-phase s (decides outcome reason z) h)
+
+module _ (s : Session) (es : List Entry) where
+  module _ (there : Reached (s .state) es) where
+    going-finished : isDecided (s .state .phase) ≡ true → WholeSession es
+    going-finished e =
+        let d = is-decided (s .state .phase) e in
+        reached-decided (s .state) es there (d .0) (d .1 .0) (d .1 .1)
+
+    going-decided : WholeSession es → isDecided (s .state .phase) ≡ true
+    going-decided play =
+        let same : some (landing (there .phase)) ≡ some done = sym (there .read) ∙ session-run es play in
+        decided-there (s .state) (there .phase) (there .stands) (cc same)
+
+    going-open : isDecided (s .state .phase) ≡ false → Open es
+    unfolding Lawful
+    going-open n = ⊎-elim (λ play. absurd (false≢true (sym n ∙ going-decided play))) (λ o. o) (state-lawful es (landing (there .phase)) (there .read))
+
+  shut-undecided : s .state .phase ≡ Closed → isDecided (s .state .phase) ≡ false
+  unfolding isDecided
+  shut-undecided k = ap isDecided k
+
+  pub stands-lawful : Stands s es → Lawfully s es
+  unfolding Open
+  stands-lawful (going there) =
+      record {
+        finished = going-finished there;
+        decided = going-decided there;
+        unfinished = going-open there;
+        undecided = λ o. either (isDecided (s .state .phase)) (λ y. absurd (one-sort es (going-finished there y) o)) (λ n. n);
+      }
+  stands-lawful (shut k c) =
+      record {
+        finished = λ e. absurd (false≢true (sym (shut-undecided k) ∙ e));
+        decided = λ play. absurd (not-closed es play c);
+        unfinished = λ n. inr c;
+        undecided = λ o. shut-undecided k;
+      }
+
+pub any-calls : (cs : List Call) → allBytes cs ≡ true → Lawfully (plays cs .session) (plays cs .log)
+any-calls cs bytes = stands-lawful (plays cs .session) (plays cs .log) (stands-plays cs bytes)

@@ -1,0 +1,6 @@
+pub mod Later
+pub mod Turning
+pub mod Giving
+pub mod Taking
+pub mod Lasting
+pub mod Lawful

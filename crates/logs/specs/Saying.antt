@@ -1,0 +1,46 @@
+-- What is said of a session after any calls, and of the last of them.
+-- Assumes nothing.
+use mathlib.Core.Path.{_≡_}
+use mathlib.Core.Bool.{Bool, true, false}
+use mathlib.Core.List.{List, [], _∷_, _++_}
+use mathlib.Core.Option.{some}
+use Prim.Native.Nat.{ℕ}
+use lib.ListN.{length, take, drop}
+use Rattle.tape.specs.Entries.{Entry}
+use Rattle.rulebook.specs.Situation.{Situation}
+use Rattle.rulebook.specs.Phase.{Asked, Phase, opens, asks, hears, decides, commandOf, decisionOf, tvrOf, tsiOf}
+use Rattle.rulebook.specs.Session.{Session as WholeSession, Open}
+use Rattle.rulebook.proofs.Running.{at, run}
+use Rattle.state.specs.Results.{decisionIn}
+use Rattle.kernel.specs.declared.Session.{Session}
+use Rattle.kernel.specs.declared.Reply.{Reply}
+use Rattle.kernel.specs.declared.Reply.the-variants.{Command, Host, Decided, Closed, Refused}
+use Rattle.kernel.specs.Calls.{Called}
+use Rattle.logs.specs.Log.{Event, entryOf, loggedBy, isDecided}
+
+-- the log is a session of the rulebook exactly where the kernel has decided, and open everywhere else
+pub record Lawfully (s : Session) (log : List Entry) : Type 0 where
+  pub finished : isDecided (s .state .phase) ≡ true → WholeSession log
+  pub decided : WholeSession log → isDecided (s .state .phase) ≡ true
+  pub unfinished : isDecided (s .state .phase) ≡ false → Open log
+  pub undecided : Open log → isDecided (s .state .phase) ≡ false
+
+-- what a phase of the rulebook asks of a call that leads to it: the reply, and the command or the decision. The buffer behind the
+-- command stays as it was lent
+unfoldable pub Gives : Phase → List ℕ → Called → Type 0
+Gives opens buf r = ⊥
+Gives (asks w) buf r =
+    (r .reply ≡ Command (length (commandOf w)))
+    × (take (length (commandOf w)) (r .buffer) ≡ commandOf w)
+    × (drop (length (commandOf w)) (r .buffer) ≡ drop (length (commandOf w)) buf)
+Gives (hears z) buf r = (r .reply ≡ Host) × (r .buffer ≡ buf)
+Gives (decides outcome reason z) buf r =
+    (r .reply ≡ Decided) × (decisionIn (r .session .state) ≡ decisionOf outcome reason z) × (r .buffer ≡ buf)
+
+-- an accepted event, with the log before it, leads the rulebook to a phase, and all that the call gives is what that phase names
+pub record Follows (log : List Entry) (e : Event) (buf : List ℕ) (r : Called) : Type 0 where
+  pub phase : Phase
+  pub reads : run (log ++ (entryOf e ∷ [])) (at opens) ≡ some (at phase)
+  pub gives : Gives phase buf r
+  pub tvr : r .session .state .tvr ≡ tvrOf phase
+  pub tsi : r .session .state .tsi ≡ tsiOf phase
