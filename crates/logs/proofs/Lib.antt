@@ -4,3 +4,5 @@ pub mod Giving
 pub mod Taking
 pub mod Lasting
 pub mod Lawful
+pub mod Refusing
+pub mod Ending

@@ -16,7 +16,7 @@ use Rattle.kernel.specs.declared.Session.{Session}
 use Rattle.kernel.specs.declared.Reply.{Reply}
 use Rattle.kernel.specs.declared.Reply.the-variants.{Command, Host, Decided, Closed, Refused}
 use Rattle.kernel.specs.Calls.{Called}
-use Rattle.logs.specs.Log.{Event, entryOf, loggedBy, isDecided}
+use Rattle.logs.specs.Log.{Event, Call, call, entryOf, loggedBy, isDecided}
 
 -- the log is a session of the rulebook exactly where the kernel has decided, and open everywhere else
 pub record Lawfully (s : Session) (log : List Entry) : Type 0 where
@@ -44,3 +44,9 @@ pub record Follows (log : List Entry) (e : Event) (buf : List ℕ) (r : Called) 
   pub gives : Gives phase buf r
   pub tvr : r .session .state .tvr ≡ tvrOf phase
   pub tsi : r .session .state .tsi ≡ tsiOf phase
+
+-- a call that changed nothing: the session and the buffer come back as they were, and nothing is logged
+pub record Unchanged (s : Session) (c : Call) : Type 0 where
+  pub session : call s c .session ≡ s
+  pub buffer : call s c .buffer ≡ c .buffer
+  pub log : loggedBy (call s c) (c .event) ≡ []
