@@ -6,3 +6,4 @@ pub mod Lasting
 pub mod Lawful
 pub mod Refusing
 pub mod Ending
+pub mod Holding
