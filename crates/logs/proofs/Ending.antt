@@ -24,7 +24,7 @@ use Rattle.kernel.specs.Calls.{Called, firstLines, startRefusal, answerRefusal,
 use Rattle.logs.specs.Log.{Event, start, answer, silence, host, Call, call, Played, after, playsFrom, plays, allBytes, isDecided, isClosed}
 use Rattle.logs.specs.Table.{refusalOf}
 use Rattle.logs.proofs.Turning.{call-refused}
-use Rattle.logs.proofs.Lasting.{Stands, going, shut, stands-plays}
+use Rattle.logs.proofs.Lasting.{Stands, going, shut, silenced-log, stands-plays}
 use Rattle.logs.proofs.Lawful.{any-calls}
 use Rattle.logs.proofs.Refusing.{turned-away, unchanged-after}
 
@@ -119,7 +119,7 @@ closed-ended cs k = ended cs (closed-over (plays cs .session .state .phase) k)
 -- ---- the log of a session closed by silence
 closed-log : (s : Session) (es : List Entry) → Stands s es → s .state .phase ≡ Closed → ClosedLog es
 closed-log s es (going there) k = absurd (reached-open (s .state) es there k)
-closed-log s es (shut k c) same = c
+closed-log s es (shut c) same = silenced-log s es c
 
 module _ (cs : List Call) (bytes : allBytes cs ≡ true) (k : isClosed (plays cs .session .state .phase) ≡ true) where
   pub closed-by-silence : ClosedLog (plays cs .log)

@@ -83,7 +83,7 @@ stands-clear s es (going there) e =
     let same = start-at (s .state) (there .phase) (there .stands) e in
     let h = subst (StandsAt (s .state)) same (there .stands) in
     (h .1, h .2)
-stands-clear s es (shut k c) e = absurd (false≢true (ap awaitsStart (sym k ∙ e)))
+stands-clear s es (shut c) e = absurd (false≢true (ap awaitsStart (sym (c .closed) ∙ e)))
 
 pub plays-clear : (cs : List Call) → allBytes cs ≡ true → BeginsClear (plays cs .session)
 plays-clear cs bytes = stands-clear (plays cs .session) (plays cs .log) (stands-plays cs bytes)

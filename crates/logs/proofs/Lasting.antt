@@ -9,6 +9,7 @@ use lib.Pow.{areBytes}
 use Rattle.lists.proofs.Choice.{and-left, and-right}
 use Rattle.tape.specs.Entries.{Entry}
 use Rattle.rulebook.specs.Session.{Closed as ClosedLog}
+use Rattle.rulebook.proofs.States.{silence-closes}
 use Rattle.state.specs.Keeping.{changed, fresh}
 use Rattle.state.specs.declared.Phase.{Phase as Kept}
 use Rattle.state.specs.declared.Phase.the-variants.{Closed}
@@ -19,12 +20,17 @@ use Rattle.kernel.specs.Waiting.{isOver}
 use Rattle.kernel.specs.Calls.{Called, refused, closedAfter, freshSession}
 use Rattle.logs.specs.Log.{Event, start, answer, silence, host, Call, callOf, call, entryOf, payloadOf, logged, loggedBy, Played, after, playsFrom, plays, allBytes}
 use Rattle.logs.specs.Table.{refusalOf}
+use Rattle.logs.specs.Saying.{Silenced}
 use Rattle.logs.proofs.Turning.{takenBy, call-taken, call-refused, zero-or, passed}
 use Rattle.logs.proofs.Taking.{isSilence, taken, silence-taken, taken-reached}
 
 pub data Stands (s : Session) (es : List Entry) : Type 0 where
   going : Reached (s .state) es → Stands s es
-  shut : s .state .phase ≡ Closed → ClosedLog es → Stands s es
+  shut : Silenced s es → Stands s es
+
+-- a silence closes the log too
+pub silenced-log : (s : Session) (es : List Entry) → Silenced s es → ClosedLog es
+silenced-log s es c = subst ClosedLog (sym (c .ends)) (silence-closes (c .before) (c .asked) (c .reads))
 
 module _ (s : Session) (es : List Entry) (buf : List ℕ) where
   -- where a call leaves the session and its log
@@ -43,18 +49,18 @@ module _ (s : Session) (es : List Entry) (buf : List ℕ) where
   left-taken (answer a) bytes there h =
       going (taken-reached es (answer a) buf _ (passed s buf (answer a) h .0) (taken s es buf there (answer a) bytes h refl))
   left-taken silence bytes there h =
-      subst (λ (r : Called). Left r silence) (sym (call-taken s buf silence h)) (shut refl (silence-taken s es buf there h))
+      subst (λ (r : Called). Left r silence) (sym (call-taken s buf silence h)) (shut (silence-taken s es buf there h))
   left-taken (host b) bytes there h =
       going (taken-reached es (host b) buf _ (passed s buf (host b) h .0) (taken s es buf there (host b) bytes h refl))
 
   -- a session that is closed takes nothing
-  not-closed : (e : Event) → s .state .phase ≡ Closed → refusalOf e s buf ≡ 0 → ⊥
+  pub not-closed : (e : Event) → s .state .phase ≡ Closed → refusalOf e s buf ≡ 0 → ⊥
   unfolding isOver
   not-closed e k h = false≢true (sym (passed s buf e h .1) ∙ ap isOver k)
 
   by-case : (e : Event) → areBytes (payloadOf e) ≡ true → Stands s es → refusalOf e s buf ≡ 0 → Left (callOf e s buf) e
   by-case e bytes (going there) h = left-taken e bytes there h
-  by-case e bytes (shut k c) h = absurd (not-closed e k h)
+  by-case e bytes (shut c) h = absurd (not-closed e (c .closed) h)
 
   pub stands-call : (e : Event) → areBytes (payloadOf e) ≡ true → Stands s es → Left (callOf e s buf) e
   stands-call e bytes st = zero-or (refusalOf e s buf) (by-case e bytes st) (left-refused e st)

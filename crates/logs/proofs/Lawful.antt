@@ -27,7 +27,7 @@ use Rattle.dialogue.specs.Moves.{keptAs}
 use Rattle.kernel.specs.declared.Session.{Session}
 use Rattle.logs.specs.Log.{Call, plays, allBytes, isDecided}
 use Rattle.logs.specs.Saying.{Lawfully}
-use Rattle.logs.proofs.Lasting.{Stands, going, shut, stands-plays}
+use Rattle.logs.proofs.Lasting.{Stands, going, shut, silenced-log, stands-plays}
 
 is-decided : (k : Kept) → isDecided k ≡ true → (outcome : ℕ) × ((reason : ℕ) × (k ≡ Decided outcome reason))
 unfolding isDecided
@@ -78,12 +78,12 @@ module _ (s : Session) (es : List Entry) where
         unfinished = going-open there;
         undecided = λ o. either (isDecided (s .state .phase)) (λ y. absurd (one-sort es (going-finished there y) o)) (λ n. n);
       }
-  stands-lawful (shut k c) =
+  stands-lawful (shut c) =
       record {
-        finished = λ e. absurd (false≢true (sym (shut-undecided k) ∙ e));
-        decided = λ play. absurd (not-closed es play c);
-        unfinished = λ n. inr c;
-        undecided = λ o. shut-undecided k;
+        finished = λ e. absurd (false≢true (sym (shut-undecided (c .closed)) ∙ e));
+        decided = λ play. absurd (not-closed es play (silenced-log s es c));
+        unfinished = λ n. inr (silenced-log s es c);
+        undecided = λ o. shut-undecided (c .closed);
       }
 
 pub any-calls : (cs : List Call) → allBytes cs ≡ true → Lawfully (plays cs .session) (plays cs .log)

@@ -7,3 +7,4 @@ pub mod Lawful
 pub mod Refusing
 pub mod Ending
 pub mod Holding
+pub mod Telling

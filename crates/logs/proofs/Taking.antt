@@ -20,23 +20,24 @@ use Rattle.commands.specs.Commands.{longest}
 use Rattle.decide.specs.Replies.{replyOf, saidBy, codeIn}
 use Rattle.decide.specs.declared.reply.Reply.{Reply as Said·Reply}
 use Rattle.decide.specs.declared.reply.Heard.the-variants.{Said}
-use Rattle.rulebook.specs.Phase.{Asked, Phase, opens, asks, hears}
+use Rattle.rulebook.specs.Phase.{Asked, Phase, opens, asks, hears, tvrOf, tsiOf}
 use Rattle.rulebook.specs.Turn.{opened, turn, heard}
-use Rattle.rulebook.specs.Session.{isPayload, Closed}
+use Rattle.rulebook.specs.Session.{isPayload}
 use Rattle.rulebook.proofs.Running.{State as Machine, at, owes, run}
-use Rattle.rulebook.proofs.States.{silence-closes, state-next}
+use Rattle.rulebook.proofs.States.{state-next}
 use Rattle.state.specs.Reading.{late, askedIn}
+use Rattle.state.specs.Keeping.{changed}
 use Rattle.dialogue.specs.Moves.{Moved, started, answered, hostHeard}
-use Rattle.refinement.specs.Agreeing.{StandsAt}
+use Rattle.refinement.specs.Agreeing.{StandsAt, Agrees}
 use Rattle.refinement.specs.Logging.{logged as ruled, Follows as Steps, Reached}
 use Rattle.refinement.proofs.Standing.{stands-tvr, stands-tsi}
 use Rattle.refinement.proofs.Stepping.{start-step, answer-step, host-step}
 use Rattle.refinement.proofs.Reaching.{reached-on, reached-start, reached-asked, reached-host}
 use Rattle.kernel.specs.declared.Session.{Session}
-use Rattle.kernel.specs.Calls.{Called, accepted}
+use Rattle.kernel.specs.Calls.{Called, accepted, closedAfter}
 use Rattle.logs.specs.Log.{Event, start, answer, silence, host, callOf, entryOf, payloadOf, loggedBy}
 use Rattle.logs.specs.Table.{refusalOf}
-use Rattle.logs.specs.Saying.{Gives, Follows}
+use Rattle.logs.specs.Saying.{Gives, Follows, Silenced}
 use Rattle.logs.proofs.Later.{later, turn-later, heard-later}
 use Rattle.logs.proofs.Turning.{takenBy, call-taken, passed, start-passed, answer-passed, silence-passed, host-passed}
 use Rattle.logs.proofs.Giving.{step-gives, gives-logged}
@@ -118,12 +119,20 @@ module _ (s : Session) (es : List Entry) (buf : List ℕ) (there : Reached (s .s
   taken e bytes h n = subst (Taken es e buf) (sym (call-taken s buf e h)) (taken-event e bytes h n)
 
   -- a silence that is taken closes what waits for the card
-  pub silence-taken : refusalOf silence s buf ≡ 0 → Closed (es ++ (entryOf silence ∷ []))
-  unfolding refusalOf entryOf
+  pub silence-taken : refusalOf silence s buf ≡ 0 → Silenced (closedAfter s buf .session) (es ++ (entryOf silence ∷ []))
+  unfolding refusalOf entryOf closedAfter changed Agrees tvrOf tsiOf
   silence-taken h =
       let p = silence-passed s buf h in
       let w = reached-asked (s .state) es there (p .0) (p .1) in
-      silence-closes es (w .0) (w .1 .1 .0)
+      record {
+        before = es;
+        asked = w .0;
+        reads = w .1 .1 .0;
+        ends = refl;
+        closed = refl;
+        tvr = stands-tvr (s .state) (asks (w .0)) (w .1 .1 .1);
+        tsi = stands-tsi (s .state) (asks (w .0)) (w .1 .1 .1);
+      }
 
 -- ---- what follows of a call that is taken
 module _ (es : List Entry) (e : Event) (buf : List ℕ) (r : Called) (room : longest ≤ length buf) (t : Taken es e buf r) where
@@ -152,4 +161,5 @@ module _ (es : List Entry) (e : Event) (buf : List ℕ) (r : Called) (room : lon
         gives = taken-gives;
         tvr = stands-tvr (r .session .state) (t .to) taken-stands;
         tsi = stands-tsi (r .session .state) (t .to) taken-stands;
+        grows = taken-logged;
       }

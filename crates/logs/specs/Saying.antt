@@ -6,17 +6,20 @@ use mathlib.Core.List.{List, [], _∷_, _++_}
 use mathlib.Core.Option.{some}
 use Prim.Native.Nat.{ℕ}
 use lib.ListN.{length, take, drop}
-use Rattle.tape.specs.Entries.{Entry}
+use Rattle.tape.specs.Entries.{Entry, entry, silence}
 use Rattle.rulebook.specs.Situation.{Situation}
-use Rattle.rulebook.specs.Phase.{Asked, Phase, opens, asks, hears, decides, commandOf, decisionOf, tvrOf, tsiOf}
+use Rattle.rulebook.specs.Phase.{Asked, Phase, opens, asks, hears, decides, situationOf, commandOf, decisionOf, tvrOf, tsiOf}
 use Rattle.rulebook.specs.Session.{Session as WholeSession, Open}
-use Rattle.rulebook.proofs.Running.{at, run}
+use Rattle.rulebook.proofs.Running.{at, owes, run}
 use Rattle.state.specs.Results.{decisionIn}
+use Rattle.state.specs.declared.Phase.the-variants.{Closed}
+use Rattle.dialogue.specs.Moves.{keptAs}
+use Rattle.refinement.specs.Logging.{logged, landing}
 use Rattle.kernel.specs.declared.Session.{Session}
 use Rattle.kernel.specs.declared.Reply.{Reply}
-use Rattle.kernel.specs.declared.Reply.the-variants.{Command, Host, Decided, Closed, Refused}
+use Rattle.kernel.specs.declared.Reply.the-variants.{Command, Host, Decided, Closed as ClosedReply, Refused}
 use Rattle.kernel.specs.Calls.{Called}
-use Rattle.logs.specs.Log.{Event, Call, call, entryOf, loggedBy, isDecided}
+use Rattle.logs.specs.Log.{Event, silence as silent, Call, call, entryOf, loggedBy, Played, isDecided}
 
 -- the log is a session of the rulebook exactly where the kernel has decided, and open everywhere else
 pub record Lawfully (s : Session) (log : List Entry) : Type 0 where
@@ -44,9 +47,42 @@ pub record Follows (log : List Entry) (e : Event) (buf : List ℕ) (r : Called) 
   pub gives : Gives phase buf r
   pub tvr : r .session .state .tvr ≡ tvrOf phase
   pub tsi : r .session .state .tsi ≡ tsiOf phase
+  pub grows : loggedBy r e ≡ entryOf e ∷ logged phase
+
+-- a log that a closing silence ends: something was asked before it, and TVR and TSI are as they were then
+pub record Silenced (s : Session) (log : List Entry) : Type 0 where
+  pub before : List Entry
+  pub asked : Asked
+  pub reads : run before (at opens) ≡ some (owes asked)
+  pub ends : log ≡ before ++ (entry silence [] ∷ [])
+  pub closed : s .state .phase ≡ Closed
+  pub tvr : s .state .tvr ≡ situationOf asked .tvr
+  pub tsi : s .state .tsi ≡ situationOf asked .tsi
+
+-- a log that leads the rulebook to a phase, its own command or decision among the entries: the session waits for what the phase
+-- does, and TVR, TSI and the decision are the phase's
+pub record Named (s : Session) (log : List Entry) : Type 0 where
+  pub phase : Phase
+  pub reads : run log (at opens) ≡ some (landing phase)
+  pub waits : s .state .phase ≡ keptAs phase
+  pub tvr : s .state .tvr ≡ tvrOf phase
+  pub tsi : s .state .tsi ≡ tsiOf phase
+  pub decision : (outcome reason : ℕ) (z : Situation) → phase ≡ decides outcome reason z → decisionIn (s .state) ≡ decisionOf outcome reason z
+
+-- every session from fresh is one of these
+pub data Says (s : Session) (log : List Entry) : Type 0 where
+  named : Named s log → Says s log
+  silenced : Silenced s log → Says s log
 
 -- a call that changed nothing: the session and the buffer come back as they were, and nothing is logged
 pub record Unchanged (s : Session) (c : Call) : Type 0 where
   pub session : call s c .session ≡ s
   pub buffer : call s c .buffer ≡ c .buffer
   pub log : loggedBy (call s c) (c .event) ≡ []
+
+-- every call on a session is one of these: it follows the rulebook, it closes the session, or it is turned away
+pub data Replies (p : Played) (c : Call) : Type 0 where
+  follows : Follows (p .log) (c .event) (c .buffer) (call (p .session) c) → Replies p c
+  closes : c .event ≡ silent → call (p .session) c .reply ≡ ClosedReply → call (p .session) c .buffer ≡ c .buffer
+      → Silenced (call (p .session) c .session) (p .log ++ (entry silence [] ∷ [])) → Replies p c
+  refuses : (n : ℕ) → call (p .session) c .reply ≡ Refused n → Unchanged (p .session) c → Replies p c
