@@ -8,3 +8,5 @@ pub mod Refusing
 pub mod Ending
 pub mod Holding
 pub mod Telling
+pub mod Admitting
+pub mod Playing
