@@ -8,5 +8,9 @@ pub mod Refusing
 pub mod Ending
 pub mod Holding
 pub mod Telling
+pub mod Deciding
 pub mod Admitting
 pub mod Playing
+pub mod Complete
+pub mod Numbers
+pub mod WrongKernels

@@ -1,31 +1,35 @@
--- Every session of the rulebook is the log of a kernel session: its events, handed to the kernel one after the other with any buffers
--- of 261 bytes, are all taken, and the commands and the decision between them are the ones that the kernel gives.
+-- Whatever the rulebook's machine reads, the kernel plays: the events, handed to it one after the other with any buffers of 261 bytes,
+-- are all taken, and the commands and the decision between them are the ones that the kernel gives. So every session of the rulebook
+-- is the log of a kernel session.
 -- Assumes nothing.
 use mathlib.Core.Path.{_≡_, refl, sym, ap, _∙_, subst}
-use mathlib.Core.Bool.{Bool, true, _&&_}
+use mathlib.Core.Bool.{Bool, true, false, false≢true}
 use mathlib.Core.List.{List, [], _∷_, _++_, append-nil, append-assoc}
-use mathlib.Core.Option.{some}
+use mathlib.Core.Option.{Option, none, some}
 use Prim.Native.Nat.{ℕ, _≤_}
 use native.Mathlib.Omega.{arith}
-use lib.Dec.{leb}
+use lib.Dec.{eqb, leb}
 use lib.ListN.{length}
 use lib.Pow.{areBytes}
 use borrow.Author.Tests.{leb-true}
+use Rattle.lists.specs.Choice.{pick}
 use Rattle.lists.specs.Writing.{zeros}
-use Rattle.lists.proofs.Choice.{and-left, and-right, and-both}
+use Rattle.lists.proofs.Choice.{either, and-left, and-right, and-both}
 use Rattle.lists.proofs.Writing.{zeros-length}
 use Rattle.terminal.specs.Reading.{Terminal, readingOf}
 use Rattle.terminal.specs.Start.{terminalOf, validStart}
-use Rattle.terminal.proofs.Laws.{handed-over}
+use Rattle.terminal.proofs.Laws.{accepted as valid-read, turned-away}
 use Rattle.tape.specs.Entries.{Entry, entry, start as startKind, command, answer as answerKind, host as hostKind, decision, payloadMost}
 use Rattle.commands.specs.Commands.{longest}
-use Rattle.decide.specs.declared.reply.Heard.the-variants.{Said}
+use Rattle.decide.specs.declared.reply.Reply.{Reply as Said·Reply}
+use Rattle.decide.specs.declared.reply.Heard.{Heard}
+use Rattle.decide.specs.declared.reply.Heard.the-variants.{Said, Nothing}
 use Rattle.decide.specs.Replies.{replyOf}
 use Rattle.rulebook.specs.Situation.{Situation}
-use Rattle.rulebook.specs.Phase.{Asked, Phase, opens, asks, hears, decides}
+use Rattle.rulebook.specs.Phase.{Asked, Phase, opens, asks, hears, decides, commandOf, decisionOf}
 use Rattle.rulebook.specs.Turn.{opened, turn, heard}
-use Rattle.rulebook.specs.Session.{isPayload, Plays, started, exchanged, told, decided, Session as WholeSession}
-use Rattle.rulebook.proofs.Running.{State as Machine, at, owes}
+use Rattle.rulebook.specs.Session.{isPayload, Session as WholeSession}
+use Rattle.rulebook.proofs.Running.{State as Machine, at, owes, done, due, alike, alike-same, due-entry, due-test, ofTerminal, ofReply, next, run, chosen, taken, no-state, session-run}
 use Rattle.dialogue.specs.Moves.{Moved, keptAs, started as startMoved, answered as answerMoved, hostHeard}
 use Rattle.refinement.specs.Agreeing.{StandsAt, Agrees}
 use Rattle.refinement.specs.Logging.{logged as ruled, landing, Follows as Steps}
@@ -33,136 +37,167 @@ use Rattle.refinement.proofs.Stepping.{fresh-stands, lands-at, start-step, answ
 use Rattle.refinement.proofs.Telling.{stands-phase}
 use Rattle.kernel.specs.declared.Session.{Session}
 use Rattle.kernel.specs.Calls.{Called, accepted, freshSession}
-use Rattle.logs.specs.Log.{Event, start, answer, host, Call, callOf, call, entryOf, payloadOf, loggedBy, Played, after, playsFrom, plays, allBytes, isDecided}
+use Rattle.logs.specs.Log.{Event, start, answer, host, Call, callOf, call, entryOf, loggedBy, Played, after, playsFrom, plays}
+use Rattle.logs.specs.Replay.{eventIn, handing, callsIn}
 use Rattle.logs.specs.Table.{refusalOf}
 use Rattle.logs.proofs.Later.{later, turn-later, heard-later}
 use Rattle.logs.proofs.Turning.{takenBy, call-taken}
 use Rattle.logs.proofs.Giving.{step-gives, gives-logged}
-use Rattle.logs.proofs.Lawful.{any-calls}
 use Rattle.logs.proofs.Admitting.{start-free, answer-free, host-free}
 
-payload-most : (p : List ℕ) → isPayload p ≡ true → length p ≤ payloadMost
+pub payload-most : (p : List ℕ) → isPayload p ≡ true → length p ≤ payloadMost
 unfolding isPayload
 payload-most p ok = leb-true (length p) payloadMost (and-left (leb (length p) payloadMost) (areBytes p) ok)
 
-payload-bytes : (p : List ℕ) → isPayload p ≡ true → areBytes p ≡ true
-unfolding isPayload
-payload-bytes p ok = and-right (leb (length p) payloadMost) (areBytes p) ok
-
--- the calls that play the entries from a phase on, the phase's own command or decision being logged already
-pub record Played-on (s : Session) (p : Phase) (es : List Entry) : Type 0 where
-  pub rest : List Entry
-  pub split : es ≡ ruled p ++ rest
-  pub calls : List Call
-  pub bytes : allBytes calls ≡ true
-  pub grows : (log : List Entry) → playsFrom (record { session = s; log = log }) calls .log ≡ log ++ rest
+-- what the kernel has logged before the machine has read it
+unfoldable pub pending : Machine → List Entry
+pending (at p) = ruled p
+pending (owes w) = []
+pending done = []
 
 module _ (buf : List ℕ) (room : longest ≤ length buf) where
-  -- a session one event further
-  module _ (s : Session) (e : Event) (σ : Machine) (p : Phase) (m : Moved) (es : List Entry) where
-    abbrev further : Session
-    further = record { state = m .state }
+  -- the kernel plays entries from a state of the machine to another: its log grows by them, and by what is pending at the end
+  abbrev Goes : Machine → List Entry → Machine → Type 0
+  Goes σ es τ =
+      (s : Session) → Agrees (s .state) σ → (log : List Entry)
+      → playsFrom (record { session = s; log = log ++ pending σ }) (callsIn buf es) .log ≡ (log ++ es) ++ pending τ
 
+  longer : (log es : List Entry) (e : Entry) (τ : Machine) → ((log ++ (e ∷ [])) ++ es) ++ pending τ ≡ (log ++ (e ∷ es)) ++ pending τ
+  longer log es e τ = ap (λ (l : List Entry). l ++ pending τ) (append-assoc log (e ∷ []) es)
+
+  -- ---- an event that is taken
+  module _ (s : Session) (e : Event) (σ : Machine) (p : Phase) (m : Moved) (free : refusalOf e s buf ≡ 0)
+      (same : takenBy e s buf ≡ accepted m) (steps : Steps σ (entryOf e) p buf m) (onward : later p ≡ true) where
     abbrev one : Call
     one = record { event = e; buffer = buf }
 
-    module _ (free : refusalOf e s buf ≡ 0) (same : takenBy e s buf ≡ accepted m) (steps : Steps σ (entryOf e) p buf m) (onward : later p ≡ true) where
-      called : call s one ≡ accepted m
-      unfolding call
-      called = call-taken s buf e free ∙ same
+    abbrev further : List Entry → Played
+    further log = record { session = record { state = m .state }; log = log }
 
-      after-one : (log : List Entry) → after (record { session = s; log = log }) one ≡ record { session = further; log = log ++ (entryOf e ∷ ruled p) }
-      unfolding after accepted
-      after-one log =
-          ap (λ (r : Called). record { session = r .session; log = log ++ loggedBy r e }) called
-          ∙ ap (λ (l : List Entry). record { session = further; log = log ++ l })
-          (gives-logged e p buf (accepted m) (step-gives σ (entryOf e) buf m room p steps onward))
+    after-one : (log : List Entry) → after (record { session = s; log = log }) one ≡ further (log ++ (entryOf e ∷ ruled p))
+    unfolding after accepted call
+    after-one log =
+        ap (λ (r : Called). record { session = r .session; log = log ++ loggedBy r e }) (call-taken s buf e free ∙ same)
+        ∙ ap (λ (l : List Entry). further (log ++ l))
+        (gives-logged e p buf (accepted m) (step-gives σ (entryOf e) buf m room p steps onward))
 
-      grows-one : (h : Played-on further p es) (log : List Entry)
-          → playsFrom (record { session = s; log = log }) (one ∷ h .calls) .log ≡ log ++ (entryOf e ∷ es)
-      unfolding playsFrom
-      grows-one h log =
-          ap (λ (q : Played). playsFrom q (h .calls) .log) (after-one log)
-          ∙ (h .grows (log ++ (entryOf e ∷ ruled p))
-          ∙ (append-assoc log (entryOf e ∷ ruled p) (h .rest)
-          ∙ ap (λ (l : List Entry). log ++ (entryOf e ∷ l)) (sym (h .split))))
+    goes-one : (es : List Entry) (τ : Machine) → Goes (at p) es τ → (log : List Entry)
+        → playsFrom (record { session = s; log = log ++ [] }) (one ∷ callsIn buf es) .log ≡ (log ++ (entryOf e ∷ es)) ++ pending τ
+    unfolding playsFrom Agrees pending
+    goes-one es τ rest log =
+        ap (λ (q : Played). playsFrom q (callsIn buf es) .log)
+        (after-one (log ++ [])
+        ∙ ap further
+        (ap (λ (l : List Entry). l ++ (entryOf e ∷ ruled p)) (append-nil log) ∙ sym (append-assoc log (entryOf e ∷ []) (ruled p))))
+        ∙ (rest (record { state = m .state }) (steps .stands) (log ++ (entryOf e ∷ [])) ∙ longer log es (entryOf e) τ)
 
-      bytes-one : (h : Played-on further p es) → areBytes (payloadOf e) ≡ true → allBytes (one ∷ h .calls) ≡ true
-      unfolding allBytes
-      bytes-one h b = and-both (areBytes (payloadOf e)) (allBytes (h .calls)) b (h .bytes)
+  start-goes : (b : List ℕ) (es : List Entry) (τ : Machine) → validStart b ≡ true → isPayload b ≡ true → Goes (at (opened (readingOf b))) es τ
+      → Goes (at opens) (entry startKind b ∷ es) τ
+  unfolding callsIn handing eventIn pick pending ruled entryOf takenBy refusalOf Agrees keptAs opened later
+  start-goes b es τ valid ok rest s h log =
+      goes-one s (start b) (at opens) (opened (readingOf b)) (startMoved b buf)
+      (start-free s buf room b (stands-phase (s .state) opens h) valid) refl (start-step b buf valid ok) refl es τ rest log
 
-  play : {p : Phase} {es : List Entry} → Plays p es → (s : Session) → StandsAt (s .state) p → Played-on s p es
-  unfolding ruled takenBy refusalOf payloadOf entryOf keptAs landing opened later allBytes playsFrom
-  play (started {b} {t} {es} f ok rest) s h =
-      let given = handed-over b t f in
-      let p = opened (readingOf b) in
-      let m = startMoved b buf in
-      let steps = start-step b buf (given .0) ok in
-      let free = start-free s buf room b (stands-phase (s .state) opens h) (given .0) in
-      let further : Session = record { state = m .state } in
-      let there = subst (λ (x : Terminal). StandsAt (m .state) (opened x)) (given .1) (steps .stands) in
-      let on = subst (λ (x : Terminal). Played-on further (opened x) es) (sym (given .1)) (play rest further there) in
-      record {
-        rest = entry startKind b ∷ es;
-        split = refl;
-        calls = record { event = start b; buffer = buf } ∷ on .calls;
-        bytes = bytes-one s (start b) (at opens) p m es free refl steps refl on (payload-bytes b ok);
-        grows = grows-one s (start b) (at opens) p m es free refl steps refl on;
-      }
-  play (exchanged {w} {c} {a} {es} f ok rest) s h =
-      let p = turn w a in
-      let m = answerMoved (s .state) a buf in
-      let steps = answer-step (s .state) w a buf (lands-at (s .state) (asks w) h) ok in
-      let free = answer-free s buf room w (stands-phase (s .state) (asks w) h) a (payload-most a ok) in
-      let on = play rest (record { state = m .state }) (steps .stands) in
-      record {
-        rest = entry answerKind a ∷ es;
-        split = ap (λ (x : List ℕ). entry command x ∷ entry answerKind a ∷ es) f;
-        calls = record { event = answer a; buffer = buf } ∷ on .calls;
-        bytes = bytes-one s (answer a) (owes w) p m es free refl steps (turn-later w a) on (payload-bytes a ok);
-        grows = grows-one s (answer a) (owes w) p m es free refl steps (turn-later w a) on;
-      }
-  play (told {s = z} {p = b} {r} {es} f ok rest) s h =
-      let p = heard z r b in
-      let m = hostHeard (s .state) b buf in
-      let steps = host-step (s .state) z r b buf (lands-at (s .state) (hears z) h) f ok in
-      let free = host-free s buf room b r (stands-phase (s .state) (hears z) h) f in
-      let on = play rest (record { state = m .state }) (steps .stands) in
-      record {
-        rest = entry hostKind b ∷ es;
-        split = refl;
-        calls = record { event = host b; buffer = buf } ∷ on .calls;
-        bytes = bytes-one s (host b) (at (hears z)) p m es free refl steps (heard-later z r b) on (payload-bytes b ok);
-        grows = grows-one s (host b) (at (hears z)) p m es free refl steps (heard-later z r b) on;
-      }
-  play (decided {d} f) s h =
-      record {
-        rest = [];
-        split = ap (λ (x : List ℕ). entry decision x ∷ []) f;
-        calls = [];
-        bytes = refl;
-        grows = λ log. sym (append-nil log);
-      }
+  answer-goes : (w : Asked) (a : List ℕ) (es : List Entry) (τ : Machine) → isPayload a ≡ true → Goes (at (turn w a)) es τ
+      → Goes (owes w) (entry answerKind a ∷ es) τ
+  unfolding callsIn handing eventIn pick pending entryOf takenBy refusalOf Agrees keptAs
+  answer-goes w a es τ ok rest s h log =
+      goes-one s (answer a) (owes w) (turn w a) (answerMoved (s .state) a buf)
+      (answer-free s buf room w (stands-phase (s .state) (asks w) h) a (payload-most a ok)) refl (answer-step (s .state) w a buf h ok) (turn-later w a)
+      es τ rest log
 
--- calls whose log is a list of entries
-pub record LoggedAs (es : List Entry) : Type 0 where
-  pub calls : List Call
-  pub bytes : allBytes calls ≡ true
-  pub log : plays calls .log ≡ es
-  pub decides : isDecided (plays calls .session .state .phase) ≡ true
+  host-goes : (z : Situation) (b : List ℕ) (r : Said·Reply) (es : List Entry) (τ : Machine) → replyOf b ≡ Said r → isPayload b ≡ true
+      → Goes (at (heard z r b)) es τ → Goes (at (hears z)) (entry hostKind b ∷ es) τ
+  unfolding callsIn handing eventIn pick pending ruled entryOf takenBy refusalOf Agrees keptAs
+  host-goes z b r es τ said ok rest s h log =
+      goes-one s (host b) (at (hears z)) (heard z r b) (hostHeard (s .state) b buf)
+      (host-free s buf room b r (stands-phase (s .state) (hears z) h) said) refl (host-step (s .state) z r b buf h said ok) (heard-later z r b)
+      es τ rest log
 
--- with any buffer that is long enough
-pub session-played : (buf : List ℕ) → longest ≤ length buf → (es : List Entry) → WholeSession es → LoggedAs es
-unfolding WholeSession plays freshSession ruled
-session-played buf room es whole =
-    let on = play buf room whole freshSession fresh-stands in
-    let log : plays (on .calls) .log ≡ es = on .grows [] ∙ sym (on .split) in
-    record {
-      calls = on .calls;
-      bytes = on .bytes;
-      log = log;
-      decides = any-calls (on .calls) (on .bytes) .decided (subst WholeSession (sym log) whole);
-    }
+  -- ---- an entry of the kernel's own: it was pending
+  own-goes : (s : Session) (e : Entry) (es : List Entry) (τ : Machine) (log : List Entry)
+      → playsFrom (record { session = s; log = (log ++ (e ∷ [])) ++ [] }) (callsIn buf es) .log ≡ ((log ++ (e ∷ [])) ++ es) ++ pending τ
+      → playsFrom (record { session = s; log = log ++ (e ∷ []) }) (callsIn buf es) .log ≡ (log ++ (e ∷ es)) ++ pending τ
+  own-goes s e es τ log rest =
+      ap (λ (l : List Entry). playsFrom (record { session = s; log = l }) (callsIn buf es) .log) (sym (append-nil (log ++ (e ∷ []))))
+      ∙ (rest ∙ longer log es e τ)
 
-pub session-logged : (es : List Entry) → WholeSession es → LoggedAs es
-session-logged es whole = let size = zeros-length longest in session-played (zeros longest) (omega arith) es whole
+  command-goes : (w : Asked) (es : List Entry) (τ : Machine) → Goes (owes w) es τ → Goes (at (asks w)) (entry command (commandOf w) ∷ es) τ
+  unfolding callsIn handing eventIn pick pending ruled Agrees
+  command-goes w es τ rest s h log =
+      own-goes s (entry command (commandOf w)) es τ log (rest s h (log ++ (entry command (commandOf w) ∷ [])))
+
+  decision-goes : (outcome reason : ℕ) (z : Situation) (es : List Entry) (τ : Machine) → Goes done es τ
+      → Goes (at (decides outcome reason z)) (entry decision (decisionOf outcome reason z) ∷ es) τ
+  unfolding callsIn handing eventIn pick pending ruled Agrees landing
+  decision-goes outcome reason z es τ rest s h log =
+      let e = entry decision (decisionOf outcome reason z) in
+      own-goes s e es τ log (rest s (lands-at (s .state) (decides outcome reason z) h) (log ++ (e ∷ [])))
+
+  -- ---- whatever the machine takes
+  abbrev Onward : List Entry → Machine → Type 0
+  Onward es τ = (σ : Machine) → run es σ ≡ some τ → Goes σ es τ
+
+  module _ (es : List Entry) (τ : Machine) (on : Onward es τ) where
+    -- the machine's next state is known
+    settled : (σ σ′ : Machine) (o : Option Machine) → o ≡ some σ → o ≡ some σ′ → run es σ ≡ some τ → Goes σ′ es τ
+    settled σ σ′ o a b r = let same : some σ ≡ some σ′ = sym a ∙ b in on σ′ (subst (λ (x : Machine). run es x ≡ some τ) (cc same) r)
+
+    by-start : (b : List ℕ) (σ : Machine) → isPayload b ≡ true → ofTerminal (terminalOf b) ≡ some σ → run es σ ≡ some τ
+        → Goes (at opens) (entry startKind b ∷ es) τ
+    unfolding ofTerminal
+    by-start b σ ok h r =
+        either (validStart b)
+        (λ y. start-goes b es τ y ok (settled σ (at (opened (readingOf b))) _ h (ap ofTerminal (valid-read b y)) r))
+        (λ n. no-state σ (sym (ap ofTerminal (turned-away b n)) ∙ h))
+
+    by-reply : (z : Situation) (b : List ℕ) (σ : Machine) (x : Heard) → replyOf b ≡ x → isPayload b ≡ true → ofReply z b x ≡ some σ → run es σ ≡ some τ
+        → Goes (at (hears z)) (entry hostKind b ∷ es) τ
+    unfolding ofReply
+    by-reply z b σ (Said reply) said ok h r = host-goes z b reply es τ said ok (settled σ (at (heard z reply b)) _ h refl r)
+    by-reply z b σ Nothing said ok h r = no-state σ h
+
+    by-state : (e : Entry) (σ ρ : Machine) → next σ e ≡ some ρ → run es ρ ≡ some τ → Goes σ (e ∷ es) τ
+    unfolding next
+    by-state e (at opens) ρ h r =
+        let c = chosen (due startKind (isPayload (e .payload)) e) _ ρ h in
+        subst (λ (x : Entry). Goes (at opens) (x ∷ es) τ) (sym (due-entry startKind _ e (c .0)))
+        (by-start (e .payload) ρ (due-test startKind _ e (c .0)) (c .1) r)
+    by-state e (at (asks w)) ρ h r =
+        let c = chosen (due command (alike (e .payload) (commandOf w)) e) (some (owes w)) ρ h in
+        let same = alike-same (e .payload) (commandOf w) (due-test command _ e (c .0)) in
+        subst (λ (x : Entry). Goes (at (asks w)) (x ∷ es) τ) (sym (due-entry command _ e (c .0) ∙ ap (entry command) same))
+        (command-goes w es τ (settled ρ (owes w) _ (c .1) refl r))
+    by-state e (at (hears z)) ρ h r =
+        let c = chosen (due hostKind (isPayload (e .payload)) e) _ ρ h in
+        subst (λ (x : Entry). Goes (at (hears z)) (x ∷ es) τ) (sym (due-entry hostKind _ e (c .0)))
+        (by-reply z (e .payload) ρ (replyOf (e .payload)) refl (due-test hostKind _ e (c .0)) (c .1) r)
+    by-state e (at (decides outcome reason z)) ρ h r =
+        let c = chosen (due decision (alike (e .payload) (decisionOf outcome reason z)) e) (some done) ρ h in
+        let same = alike-same (e .payload) (decisionOf outcome reason z) (due-test decision _ e (c .0)) in
+        subst (λ (x : Entry). Goes (at (decides outcome reason z)) (x ∷ es) τ) (sym (due-entry decision _ e (c .0) ∙ ap (entry decision) same))
+        (decision-goes outcome reason z es τ (settled ρ done _ (c .1) refl r))
+    by-state e (owes w) ρ h r =
+        let c = chosen (due answerKind (isPayload (e .payload)) e) (some (at (turn w (e .payload)))) ρ h in
+        subst (λ (x : Entry). Goes (owes w) (x ∷ es) τ) (sym (due-entry answerKind _ e (c .0)))
+        (answer-goes w (e .payload) es τ (due-test answerKind _ e (c .0)) (settled ρ (at (turn w (e .payload))) _ (c .1) refl r))
+    by-state e done ρ h r = no-state ρ h
+
+  goes : (es : List Entry) (τ : Machine) → Onward es τ
+  unfolding run callsIn playsFrom
+  goes [] τ σ h =
+      let same : σ ≡ τ = cc h in
+      λ s a log. ap (λ (x : Machine). log ++ pending x) same ∙ ap (λ (l : List Entry). l ++ pending τ) (sym (append-nil log))
+  goes (e ∷ es) τ σ h =
+      let t = taken (run es) (next σ e) τ h in
+      by-state es τ (goes es τ) e σ (t .0) (t .1 .0) (t .1 .1)
+
+  -- from fresh: the entries that were read, and what is pending
+  pub read-played : (es : List Entry) (τ : Machine) → run es (at opens) ≡ some τ → plays (callsIn buf es) .log ≡ es ++ pending τ
+  unfolding plays freshSession Agrees pending ruled
+  read-played es τ h = goes es τ (at opens) h freshSession fresh-stands []
+
+  -- a whole session leaves nothing pending
+  pub session-played : (es : List Entry) → WholeSession es → plays (callsIn buf es) .log ≡ es
+  unfolding pending
+  session-played es whole = read-played es done (session-run es whole) ∙ append-nil es

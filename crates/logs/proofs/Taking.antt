@@ -31,6 +31,7 @@ use Rattle.dialogue.specs.Moves.{Moved, started, answered, hostHeard}
 use Rattle.refinement.specs.Agreeing.{StandsAt, Agrees}
 use Rattle.refinement.specs.Logging.{logged as ruled, Follows as Steps, Reached}
 use Rattle.refinement.proofs.Standing.{stands-tvr, stands-tsi}
+use Rattle.refinement.proofs.Telling.{stands-phase}
 use Rattle.refinement.proofs.Stepping.{start-step, answer-step, host-step}
 use Rattle.refinement.proofs.Reaching.{reached-on, reached-start, reached-asked, reached-host}
 use Rattle.kernel.specs.declared.Session.{Session}
@@ -159,6 +160,7 @@ module _ (es : List Entry) (e : Event) (buf : List ℕ) (r : Called) (room : lon
         phase = t .to;
         reads = state-next es (t .from) (entryOf e) (t .read) (at (t .to)) (t .steps .taken);
         gives = taken-gives;
+        waits = stands-phase (r .session .state) (t .to) taken-stands;
         tvr = stands-tvr (r .session .state) (t .to) taken-stands;
         tsi = stands-tsi (r .session .state) (t .to) taken-stands;
         grows = taken-logged;

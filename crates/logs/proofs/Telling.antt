@@ -81,7 +81,7 @@ module _ (p : Played) (c : Call) (bytes : areBytes (payloadOf (c .event)) ≡ tr
   by-standing (going there) h = by-event (c .event) refl there h
   by-standing (shut k) h = absurd (not-closed s (p .log) buf (c .event) (k .closed) h)
 
-  stands-replies : Stands s (p .log) → Replies p c
+  pub stands-replies : Stands s (p .log) → Replies p c
   stands-replies st = zero-or (refusalOf (c .event) s buf) (by-standing st) by-refusal
 
 -- any call after any calls from fresh

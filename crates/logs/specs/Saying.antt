@@ -45,6 +45,7 @@ pub record Follows (log : List Entry) (e : Event) (buf : List ℕ) (r : Called) 
   pub phase : Phase
   pub reads : run (log ++ (entryOf e ∷ [])) (at opens) ≡ some (at phase)
   pub gives : Gives phase buf r
+  pub waits : r .session .state .phase ≡ keptAs phase
   pub tvr : r .session .state .tvr ≡ tvrOf phase
   pub tsi : r .session .state .tsi ≡ tsiOf phase
   pub grows : loggedBy r e ≡ entryOf e ∷ logged phase
