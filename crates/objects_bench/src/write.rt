@@ -22,15 +22,13 @@ fn room(word: &[u8]) -> usize
     if asked < 5000 { asked } else { 5000 }
 }
 
-// The buffer is full of a byte that shows where it was touched behind the object.
+// The buffer shows where it was touched behind the object.
 fn write_into(tag: usize, value: &[u8], room: usize)
     requires { ⌜ room ≤ 5000 ⌝ }
 {
-    let mut buf = [0xA5u8; 5000];
+    let mut buf = [printing::UNTOUCHED; 5000];
     let written = print_written(tag, value, &mut buf[0..room]);
-    if is_touched(&buf, written) {
-        printing::text(b" touched");
-    }
+    printing::touched(&buf, written);
 }
 
 // Prints the object or the refusal, and answers how many bytes were written.
@@ -49,15 +47,4 @@ fn print_written(tag: usize, value: &[u8], buf: &mut [u8]) -> usize {
             n
         }
     }
-}
-
-fn is_touched(buf: &[u8], from: usize) -> bool {
-    let mut i = from;
-    while i < buf.len() {
-        if buf[i] != 0xA5 {
-            return true;
-        }
-        i += 1;
-    }
-    false
 }

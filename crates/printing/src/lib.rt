@@ -47,3 +47,26 @@ pub fn tag(t: usize)
         bytes(&both[0..2]);
     }
 }
+
+// What a bench fills a buffer with before it lends it, so that a byte that was touched shows.
+pub const UNTOUCHED: u8 = 0xA5;
+
+// Says so where a byte from a place on was touched.
+pub fn touched(buf: &[u8], from: usize)
+    ensures { λ r. ⌜ r ≡ tt ⌝ }
+{
+    if is_touched(buf, from) {
+        text(b" touched");
+    }
+}
+
+fn is_touched(buf: &[u8], from: usize) -> bool {
+    let mut i = from;
+    while i < buf.len() {
+        if buf[i] != UNTOUCHED {
+            return true;
+        }
+        i += 1;
+    }
+    false
+}

@@ -6,8 +6,8 @@ use borrow.Author.Needs.{needs}
 use Rattle.objects_bench.proofs.write.write_into.Statement.{statement}
 use Rattle.objects_bench.proofs.write.write_into.Tie as tie
 
-slice-aggregate-is-touched : tie.Need-slice-aggregate-is-touched
-slice-aggregate-is-touched c = simp (length-append, length-drop, length-take) (omega arith)
+slice-aggregate-touched : tie.Need-slice-aggregate-touched
+slice-aggregate-touched c = simp (length-append, length-drop, length-take) (omega arith)
 
 pub write-into-spec : {M : Type 1} → statement M
 write-into-spec =
@@ -17,9 +17,6 @@ write-into-spec =
     (λ c. search needs)
     (λ c. search needs)
     (λ c κs. search needs)
-    slice-aggregate-is-touched
+    slice-aggregate-touched
     (λ c κs. search needs)
-    (λ c. search needs)
-    (λ c κs. search needs)
-    (λ c. search needs)
     (λ c. search needs))

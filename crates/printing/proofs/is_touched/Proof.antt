@@ -1,10 +1,10 @@
--- `write::is_touched` is safe and ends: it looks at each byte of the buffer from a place on, and at none past its end.
+-- `is_touched` is safe and ends: it looks at each byte of the buffer from a place on, and at none past its end.
 -- Assumes nothing.
 use Prim.Native.Nat.{_-_}
 use native.Mathlib.Omega.{arith}
 use lib.ListN.{length}
-use Rattle.objects_bench.proofs.write.is_touched.Statement.{statement}
-use Rattle.objects_bench.proofs.write.is_touched.Tie as tie
+use Rattle.printing.proofs.is_touched.Statement.{statement}
+use Rattle.printing.proofs.is_touched.Tie as tie
 
 abbrev Inv-loop : tie.InvT-loop
 Inv-loop buf from i₀ i = Unit {0}

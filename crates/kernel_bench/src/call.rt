@@ -1,0 +1,76 @@
+// One call, and its reply printed.
+use kernel::Reply;
+use kernel::Session;
+use kernel::Step;
+use kernel::result::decision;
+use lists::part;
+use text::unhex;
+ghost use Prim.Native.Nat.{_≤_};
+
+// The longest payload, and the most bytes that are lent.
+const MOST: usize = 4096;
+
+pub fn play(s: Session, event: u8, word: &[u8], room: usize) -> Session {
+    let mut payload = [0u8; MOST];
+    let n = unhex(word, &mut payload);
+    play_in(s, event, &payload[0..n], least(room))
+}
+
+fn least(room: usize) -> usize
+    ensures { λ r. ⌜ r ≤ 4096 ⌝ }
+{
+    if room < MOST { room } else { MOST }
+}
+
+// The buffer shows where it was touched behind the command.
+fn play_in(s: Session, event: u8, payload: &[u8], room: usize) -> Session
+    requires { ⌜ room ≤ 4096 ⌝ }
+{
+    let mut buf = [printing::UNTOUCHED; MOST];
+    let step = stepped(s, event, payload, &mut buf[0..room]);
+    let session = step.session;
+    let reply = step.reply;
+    let written = print_reply(session, reply, &buf);
+    printing::touched(&buf, written);
+    printing::text(b"\n");
+    session
+}
+
+// The fourth letter tells the event.
+fn stepped(s: Session, event: u8, payload: &[u8], command: &mut [u8]) -> Step {
+    match event {
+        b'R' => s.start(payload, command),
+        b'W' => s.answer(payload, command),
+        b'T' => s.host(payload, command),
+        _ => s.silence(command),
+    }
+}
+
+// Prints the reply, and answers how many bytes of the buffer are the command.
+fn print_reply(s: Session, reply: Reply, buf: &[u8]) -> usize {
+    match reply {
+        Reply::Command(n) => {
+            printing::text(b"COMMAND ");
+            printing::bytes(part(buf, 0, n));
+            n
+        }
+        Reply::Host => {
+            printing::text(b"HOST");
+            0
+        }
+        Reply::Decided => {
+            printing::text(b"DECISION ");
+            printing::bytes(&decision(s));
+            0
+        }
+        Reply::Closed => {
+            printing::text(b"CLOSED");
+            0
+        }
+        Reply::Refused(n) => {
+            printing::text(b"REFUSED ");
+            printing::number(n);
+            0
+        }
+    }
+}

@@ -1,0 +1,83 @@
+-- `record` meets its contract: each arm keeps the entries that the definition names for that reply.
+-- Assumes nothing.
+use mathlib.Core.Path.{_≡_, refl, sym, ap, ap₂, _∙_}
+use mathlib.Core.List.{List, [], _∷_}
+use Prim.Native.Nat.{ℕ}
+use borrow.Author.Needs.{needs}
+use Rattle.kernel.specs.declared.Reply.{Reply}
+use Rattle.kernel.specs.declared.Session.{Session}
+use Rattle.tape.specs.declared.write.Writer.{Writer}
+use Rattle.tape.specs.Entries.{Entry, entry, command, decision}
+use Rattle.recorder.specs.Recording.{recorded, kept, keptAll}
+use Rattle.recorder.proofs.Keeping.{only}
+use Rattle.recorder.proofs.record.Statement.{statement}
+use Rattle.recorder.proofs.record.Tie as tie
+
+-- the entries are those of the reply that was told
+by : (w : Writer) (e : Entry) (buf : List ℕ) (s : Session) (t : List ℕ) (reply told : Reply) → reply ≡ told
+    → keptAll w (recorded e told buf s) t ≡ keptAll w (recorded e reply buf s) t
+by w e buf s t reply told h = ap (λ (q : Reply). keptAll w (recorded e q buf s) t) (sym h)
+
+returns : tie.Need-returns
+unfolding recorded
+returns c =
+    let a = c .before .before .before .before .before .before .before .before .before .before .before .args in
+    c .before .before .both .ensures
+    ∙ (ap (λ (p : List ℕ). keptAll (a .writer) (entry (a .kind) (a .payload .now) ∷ entry command p ∷ []) (a .tape .now)) (c .before .before .before .before .part .ensures)
+    ∙ by (a .writer) _ (a .command .now) (a .session) (a .tape .now) (a .reply) _ (c .before .before .before .before .before .before .reply .given .1))
+
+returns-2 : tie.Need-returns-2
+unfolding recorded
+returns-2 c =
+    let a = c .before .before .before .before .before .before .before .before .before .before .before .args in
+    c .before .before .both2 .ensures
+    ∙ (ap (λ (p : List ℕ). keptAll (a .writer) (entry (a .kind) (a .payload .now) ∷ entry decision p ∷ []) (a .tape .now)) (c .before .before .before .before .before .decision .ensures)
+    ∙ by (a .writer) _ (a .command .now) (a .session) (a .tape .now) (a .reply) _ (c .before .before .before .before .before .before .enum-told .given .1))
+
+returns-3 : tie.Need-returns-3
+unfolding recorded
+returns-3 c =
+    let a = c .before .before .before .before .before .before .before .before .before .args in
+    let m = c .before .before .append in
+    only (a .writer) _ (a .tape .now) (m .result) _ (m .ensures .0) (m .ensures .1)
+    ∙ by (a .writer) _ (a .command .now) (a .session) (a .tape .now) (a .reply) _ (c .before .before .before .before .enum-told2 .given .1)
+
+returns-4 : tie.Need-returns-4
+unfolding recorded
+returns-4 c =
+    let a = c .before .before .before .before .before .before .before .before .before .args in
+    let m = c .before .before .append2 in
+    only (a .writer) _ (a .tape .now) (m .result) _ (m .ensures .0) (m .ensures .1)
+    ∙ by (a .writer) _ (a .command .now) (a .session) (a .tape .now) (a .reply) _ (c .before .before .before .before .enum-told3 .given .1)
+
+returns-5 : tie.Need-returns-5
+unfolding recorded keptAll
+returns-5 c =
+    let a = c .before .before .before .before .before .args in
+    by (a .writer) (entry (a .kind) (a .payload .now)) (a .command .now) (a .session) (a .tape .now) (a .reply) _ (c .enum-told4 .given .1)
+
+pub record-spec : {M : Type 1} → statement M
+record-spec =
+    tie.close
+    (tie.spec
+    (λ c. search needs)
+    (λ c κs. search needs)
+    (λ c κs. search needs)
+    (λ c. search needs)
+    (λ c κs. search needs)
+    (λ c. search needs)
+    (λ c κs. search needs)
+    (λ c. search needs)
+    (λ c κs. search needs)
+    (λ c. search needs)
+    (λ c κs. search needs)
+    (λ c. search needs)
+    (λ c. search needs)
+    returns
+    (λ c. search needs)
+    returns-2
+    (λ c. search needs)
+    returns-3
+    (λ c. search needs)
+    returns-4
+    returns-5)

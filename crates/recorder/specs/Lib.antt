@@ -1,0 +1,2 @@
+-- What a kernel session puts on its tape.
+pub mod Recording

@@ -1,0 +1,83 @@
+#!/usr/bin/env python3
+"""Calls for crates/kernel_bench: writes its stdin, and the stdout that it must give.
+
+The replies come from two programs that were written from the scope paper and share nothing with the proved code: those of
+crates/kernel_bench/calls.jsonl were stored with the calls, the others are given by `reference make-calls`, and by `reference play` for
+the scripts of samples/. Build it first (cd reference && cargo build --release --offline), then run this in the repository's
+root.
+"""
+import glob
+import json
+import subprocess
+
+FOLDER = "crates/kernel_bench/"
+REFERENCE = "reference/target/release/reference"
+STORED = "crates/kernel_bench/calls.jsonl"
+COUNT, SEED = 300, 1
+
+# Answers over this length make up most of the generator's text. They are turned away, whatever their bytes, and a call that
+# is turned away changes nothing: all but the first few are left out.
+LONG, LONG_KEPT = 496, 60
+
+
+def reply_line(reply):
+    word, *rest = reply
+    return " ".join([word.upper(), *(str(r).upper() for r in rest)])
+
+
+# Sequences of calls, each (event, payload, room, reply)
+
+def sequence(line):
+    calls = json.loads(line)["calls"]
+    return [(c["event"], c["payload"].upper(), c["room"], reply_line(c["reply"])) for c in calls]
+
+
+def stored():
+    with open(STORED) as lines:
+        return [sequence(line) for line in lines]
+
+
+def made():
+    words = [REFERENCE, "make-calls", str(COUNT), str(SEED)]
+    lines = subprocess.run(words, capture_output=True, text=True, check=True).stdout.splitlines()
+    long = 0
+    for calls in map(sequence, lines):
+        kept = []
+        for call in calls:
+            if LONG < len(call[1]) // 2:
+                assert call[3].startswith("REFUSED")
+                long += 1
+            if len(call[1]) // 2 <= LONG or long <= LONG_KEPT:
+                kept.append(call)
+        yield kept
+
+
+def scripts():
+    for name in sorted(glob.glob("samples/*.script")):
+        with open(name) as script:
+            lines = script.read()
+        played = subprocess.run([REFERENCE, "play"], input=lines, capture_output=True, text=True, check=True)
+        calls = [(line + " ").split(" ")[:2] for line in lines.splitlines()]
+        replies = played.stdout.splitlines()
+        assert len(calls) == len(replies)
+        yield [(event, payload, 261, reply) for (event, payload), reply in zip(calls, replies)]
+
+
+def main():
+    asked, expected = [], []
+    for calls in [*stored(), *made(), *scripts()]:
+        asked.append("SESSION")
+        lent = None
+        for event, payload, room, reply in calls:
+            if room != lent:
+                asked.append(f"ROOM {room}")
+                lent = room
+            asked.append(f"{event} {payload}".rstrip())
+            expected.append(reply)
+    for name, lines in (("stdin", asked), ("stdout", expected)):
+        with open(FOLDER + name, "w") as out:
+            out.write("".join(line + "\n" for line in lines))
+    print(f"{len(expected)} calls")
+
+
+main()
