@@ -9,7 +9,7 @@ use Rattle.tape.specs.Entries.{Entry, entry, command, decision}
 use Rattle.tape.specs.Appending.{refusalOf, appendedOf, tapeAfter}
 use Rattle.tape.specs.declared.write.Writer.{Writer}
 use Rattle.tape.specs.declared.write.Appended.{Appended}
-use Rattle.kernel.specs.Calls.{decisionIn}
+use Rattle.state.specs.Results.{decisionIn}
 use Rattle.kernel.specs.declared.Session.{Session}
 use Rattle.kernel.specs.declared.Reply.{Reply}
 use Rattle.kernel.specs.declared.Reply.the-variants.{Command, Host, Decided, Closed, Refused}
@@ -18,7 +18,7 @@ use Rattle.kernel.specs.declared.Reply.the-variants.{Command, Host, Decided, Cl
 unfoldable pub recorded : Entry → Reply → List ℕ → Session → List Entry
 recorded event (Command n) buf s = event ∷ entry command (take n buf) ∷ []
 recorded event Host buf s = event ∷ []
-recorded event Decided buf s = event ∷ entry decision (decisionIn s) ∷ []
+recorded event Decided buf s = event ∷ entry decision (decisionIn (s .state)) ∷ []
 recorded event Closed buf s = event ∷ []
 recorded event (Refused n) buf s = []
 
