@@ -11,3 +11,4 @@ mod SelectWorked
 mod OptionsWorked
 mod RecordsWorked
 mod CryptogramWorked
+pub mod Reasons

@@ -32,7 +32,7 @@ pub part-judges : (es : List Entry) (k : ℕ) → Session es → k < length es �
 unfolding Open
 part-judges es k s h = undecided (inl (session-part es k h s)) (ap (λ (n : ℕ). says Inconclusive n 0) (sym (length-take-le k es (omega arith))))
 
-storable-append : (es fs : List Entry) → allStorable es ≡ true → allStorable fs ≡ true → allStorable (es ++ fs) ≡ true
+pub storable-append : (es fs : List Entry) → allStorable es ≡ true → allStorable fs ≡ true → allStorable (es ++ fs) ≡ true
 unfolding allStorable
 storable-append [] fs h k = k
 storable-append (e ∷ es) fs h k = and-both _ _ (first-storable e es h) (storable-append es fs (rest-storable e es h) k)

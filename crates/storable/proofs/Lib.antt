@@ -1,0 +1,7 @@
+pub mod Values
+pub mod Filling
+pub mod Commanding
+pub mod Numbers
+pub mod Staying
+pub mod Payloads
+pub mod Theorem

@@ -1,0 +1,68 @@
+-- Every session can be stored on a tape, and so can every unfinished one: what is due is a payload at each phase that a session passes.
+-- Assumes nothing.
+use mathlib.Core.Path.{_≡_, refl, ap, _∙_, subst}
+use mathlib.Core.Bool.{true}
+use mathlib.Core.List.{List, [], _∷_, _++_}
+use mathlib.Core.Logic.{⊎-elim}
+use Prim.Native.Nat.{ℕ}
+use Rattle.lists.proofs.Choice.{and-both}
+use Rattle.terminal.specs.Reading.{Terminal}
+use Rattle.terminal.proofs.Laws.{handed-over}
+use Rattle.tape.specs.Entries.{Entry, entry, start, command, answer, silence, host, decision, isKind, storable, allStorable}
+use Rattle.tape.proofs.Roundtrip.{first-storable, rest-storable}
+use Rattle.rulebook.specs.Phase.{Phase}
+use Rattle.rulebook.specs.Turn.{opened}
+use Rattle.rulebook.specs.Session.{isPayload, Plays, started, exchanged, told, decided, Session, Beginning, AwaitsCard, Closed, Open, Lawful}
+use Rattle.verdicts.proofs.Stored.{storable-append}
+use Rattle.storable.proofs.Staying.{Stays, opened-stays, heard-stays, turn-stays}
+use Rattle.storable.proofs.Payloads.{payload-bytes, asked-payload, decision-payload}
+
+-- an entry of a kind, with a payload, before others
+stored : (kind : ℕ) (p : List ℕ) (es : List Entry) → isKind kind ≡ true → isPayload p ≡ true → allStorable es ≡ true → allStorable (entry kind p ∷ es) ≡ true
+unfolding allStorable storable isPayload
+stored kind p es h k l = and-both _ _ (and-both _ _ h k) l
+
+plays-storable : {p : Phase} {es : List Entry} → Plays p es → Stays p → allStorable es ≡ true
+unfolding isKind allStorable
+plays-storable (started {b} {t} {es} f ok play) k =
+    let opening = subst (λ (u : Terminal). Stays (opened u)) (handed-over b t f .1) (opened-stays b (payload-bytes b ok)) in
+    stored start b es refl ok (plays-storable play opening)
+plays-storable (exchanged {w} {c} {a} {es} f ok play) k =
+    stored command c (entry answer a ∷ es) refl (ap isPayload f ∙ asked-payload w k)
+    (stored answer a es refl ok (plays-storable play (turn-stays w a k (payload-bytes a ok))))
+plays-storable (told {s} {p} {r} {es} f ok play) k = stored host p es refl ok (plays-storable play (heard-stays s k r p (payload-bytes p ok)))
+plays-storable (decided {outcome} {reason} {s} {d} f) k = stored decision d [] refl (ap isPayload f ∙ decision-payload outcome reason s k) refl
+
+-- ---- sessions
+
+-- every session can be stored,
+pub session-storable : (es : List Entry) → Session es → allStorable es ≡ true
+unfolding Session
+session-storable es play = plays-storable play tt
+
+front-storable : (es fs : List Entry) → allStorable (es ++ fs) ≡ true → allStorable es ≡ true
+unfolding allStorable
+front-storable [] fs h = refl
+front-storable (e ∷ es) fs h = and-both _ _ (first-storable e (es ++ fs) h) (front-storable es fs (rest-storable e (es ++ fs) h))
+
+pub begun-storable : (es : List Entry) → Beginning es → allStorable es ≡ true
+unfolding Beginning
+begun-storable es b = front-storable es (b .0 ∷ b .1 .0) (session-storable _ (b .1 .1))
+
+pub awaiting-storable : (es : List Entry) → AwaitsCard es → allStorable es ≡ true
+unfolding AwaitsCard
+awaiting-storable es a = front-storable es (entry answer (a .0) ∷ a .1 .0) (session-storable _ (a .1 .1))
+
+closed-storable : (es : List Entry) → Closed es → allStorable es ≡ true
+unfolding Closed allStorable storable isKind
+closed-storable es c = ap allStorable (c .1 .1) ∙ storable-append (c .0) (entry silence [] ∷ []) (awaiting-storable (c .0) (c .1 .0)) refl
+
+-- every unfinished one,
+pub open-storable : (es : List Entry) → Open es → allStorable es ≡ true
+unfolding Open
+open-storable es o = ⊎-elim (begun-storable es) (closed-storable es) o
+
+-- and so whatever breaks no rule
+pub lawful-storable : (es : List Entry) → Lawful es → allStorable es ≡ true
+unfolding Lawful
+lawful-storable es l = ⊎-elim (session-storable es) (open-storable es) l

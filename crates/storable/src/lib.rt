@@ -1,0 +1,1 @@
+// That every session can be stored on a tape: laws only, see proofs/.
