@@ -5,3 +5,4 @@ pub mod Numbers
 pub mod Staying
 pub mod Payloads
 pub mod Theorem
+pub mod Recorded
