@@ -1,10 +1,9 @@
 -- When a call is taken: the buffer has room, the session waits for the event, and the event passes its own line.
 -- Assumes nothing.
-use mathlib.Core.Path.{_≡_, refl, sym, ap, _∙_}
+use mathlib.Core.Path.{_≡_, refl, ap, _∙_}
 use mathlib.Core.Bool.{Bool, true, false, not}
-use mathlib.Core.List.{List, [], _∷_, _++_}
+use mathlib.Core.List.{List, _++_}
 use Prim.Native.Nat.{ℕ, _≤_}
-use lib.Dec.{ltb}
 use lib.ListN.{length}
 use borrow.Author.Tests.{le-ltb}
 use Rattle.lists.specs.Choice.{firstOf}
@@ -16,7 +15,7 @@ use Rattle.decide.specs.Replies.{replyOf}
 use Rattle.decide.specs.declared.reply.Reply.{Reply as Said·Reply}
 use Rattle.decide.specs.declared.reply.Heard.{Heard}
 use Rattle.decide.specs.declared.reply.Heard.the-variants.{Said}
-use Rattle.rulebook.specs.Phase.{Asked, selecting, optioning, reading, first, second, asks}
+use Rattle.rulebook.specs.Phase.{Asked, selecting, optioning, reading, first, second}
 use Rattle.state.specs.declared.Phase.{Phase as Kept}
 use Rattle.state.specs.declared.Phase.the-variants.{Start, Host}
 use Rattle.dialogue.specs.Moves.{awaiting}

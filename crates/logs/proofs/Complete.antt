@@ -2,9 +2,8 @@
 -- after the other. And the kernel, as a function of the entries so far, gives what the rulebook asks of one.
 -- Assumes nothing.
 use mathlib.Core.Path.{_≡_, refl, sym, ap, _∙_, subst}
-use mathlib.Core.Bool.{Bool, true, false, _||_, false≢true}
+use mathlib.Core.Bool.{Bool, true, _||_}
 use mathlib.Core.List.{List, [], _∷_, _++_, append-assoc}
-use mathlib.Core.Option.{Option, none, some}
 use Prim.Native.Nat.{ℕ, _≤_}
 use native.Mathlib.Omega.{arith}
 use lib.Dec.{eqb, leb}
@@ -23,7 +22,7 @@ use Rattle.rulebook.specs.Session.{isPayload, Plays, started, exchanged, told, 
 use Rattle.rulebook.proofs.Running.{at, done, run, taken, session-run}
 use Rattle.rulebook.proofs.Reading.{run-append}
 use Rattle.rulebook.proofs.Roles.{given, RightKernel}
-use Rattle.logs.specs.Log.{Event, Call, payloadOf, plays, allBytes, isDecided}
+use Rattle.logs.specs.Log.{Call, payloadOf, plays, allBytes, isDecided}
 use Rattle.logs.specs.Replay.{eventIn, handing, callsIn, firstEntry, givenAfter}
 use Rattle.logs.proofs.Lawful.{any-calls}
 use Rattle.logs.proofs.Playing.{pending, read-played, session-played}
@@ -41,13 +40,13 @@ plays-bytes buf (told {p = b} {es} f ok rest) = and-both (areBytes b) (allBytes 
 plays-bytes buf (decided f) = refl
 
 -- ---- the kernel plays every session
-pub record Plays-it (buf : List ℕ) (es : List Entry) : Type 0 where
+pub record Reproduces (buf : List ℕ) (es : List Entry) : Type 0 where
   pub bytes : allBytes (callsIn buf es) ≡ true
   pub log : plays (callsIn buf es) .log ≡ es
   pub decides : isDecided (plays (callsIn buf es) .session .state .phase) ≡ true
 
 -- with any buffer that is long enough
-pub session-logged : (buf : List ℕ) → longest ≤ length buf → (es : List Entry) → WholeSession es → Plays-it buf es
+pub session-logged : (buf : List ℕ) → longest ≤ length buf → (es : List Entry) → WholeSession es → Reproduces buf es
 unfolding WholeSession
 session-logged buf room es whole =
     let bytes = plays-bytes buf whole in

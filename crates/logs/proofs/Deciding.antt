@@ -2,13 +2,13 @@
 -- bytes, and nothing is taken after it.
 -- Assumes nothing.
 use mathlib.Core.Path.{_≡_, refl, sym, ap, _∙_, subst}
-use mathlib.Core.Bool.{Bool, true, false, false≢true}
+use mathlib.Core.Bool.{true, false, false≢true}
 use mathlib.Core.List.{List, [], _∷_, _++_, append-assoc}
 use Prim.Native.Nat.{ℕ}
 use lib.Pow.{areBytes}
 use Rattle.lists.proofs.Choice.{and-left, and-right}
 use Rattle.tape.specs.Entries.{Entry, entry, decision}
-use Rattle.rulebook.specs.Phase.{Asked, selecting, optioning, reading, first, second, Phase, opens, asks, hears, decides, decisionOf}
+use Rattle.rulebook.specs.Phase.{Asked, selecting, optioning, reading, first, second, Phase, opens, asks, hears, decides}
 use Rattle.state.specs.Results.{decisionIn}
 use Rattle.state.specs.Keeping.{stateAt, fresh}
 use Rattle.state.specs.declared.Phase.{Phase as Kept}
@@ -17,8 +17,8 @@ use Rattle.refinement.specs.Logging.{logged as ruled}
 use Rattle.refinement.proofs.Reaching.{reached-fresh}
 use Rattle.kernel.specs.declared.Session.{Session}
 use Rattle.kernel.specs.Calls.{freshSession}
-use Rattle.logs.specs.Log.{Event, Call, call, entryOf, loggedBy, payloadOf, Played, after, playsFrom, plays, allBytes, isDecided}
-use Rattle.logs.specs.Saying.{Gives, Follows, Replies, follows, closes, refuses}
+use Rattle.logs.specs.Log.{Call, call, entryOf, loggedBy, payloadOf, Played, after, playsFrom, plays, allBytes, isDecided}
+use Rattle.logs.specs.Saying.{Gives, Replies, follows, closes, refuses}
 use Rattle.logs.proofs.Lasting.{Stands, going, stands-call}
 use Rattle.logs.proofs.Refusing.{unchanged-after}
 use Rattle.logs.proofs.Telling.{stands-replies}

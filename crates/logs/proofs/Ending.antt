@@ -1,8 +1,8 @@
 -- After the end, a decision or a silence, everything is turned away with number 2, or 1 where the buffer is short, and nothing
 -- changes any more. A session closed by silence has a log that ends with that silence: it is open, and never a session.
 -- Assumes nothing.
-use mathlib.Core.Path.{_≡_, refl, sym, ap, _∙_, subst}
-use mathlib.Core.Bool.{Bool, true, false, false≢true}
+use mathlib.Core.Path.{_≡_, refl, sym, ap, _∙_}
+use mathlib.Core.Bool.{true, false≢true}
 use mathlib.Core.List.{List, [], _∷_, _++_}
 use mathlib.Core.Logic.{inr}
 use Prim.Native.Nat.{ℕ}
@@ -20,12 +20,11 @@ use Rattle.state.specs.declared.Phase.the-variants.{Start, Select, Options, Rec
 use Rattle.refinement.proofs.Reaching.{reached-open}
 use Rattle.kernel.specs.declared.Session.{Session}
 use Rattle.kernel.specs.Waiting.{isOver}
-use Rattle.kernel.specs.Calls.{Called, firstLines, startRefusal, answerRefusal, silenceRefusal, hostRefusal, refused}
+use Rattle.kernel.specs.Calls.{firstLines, startRefusal, answerRefusal, silenceRefusal, hostRefusal, refused}
 use Rattle.logs.specs.Log.{Event, start, answer, silence, host, Call, call, Played, after, playsFrom, plays, allBytes, isDecided, isClosed}
 use Rattle.logs.specs.Table.{refusalOf}
 use Rattle.logs.proofs.Turning.{call-refused}
 use Rattle.logs.proofs.Lasting.{Stands, going, shut, silenced-log, stands-plays}
-use Rattle.logs.proofs.Lawful.{any-calls}
 use Rattle.logs.proofs.Refusing.{turned-away, unchanged-after}
 
 -- the number after the end

@@ -2,24 +2,24 @@
 -- DECISION is read off the state that stands there. So the log grows by the entries that the rulebook asks for.
 -- Assumes nothing.
 use mathlib.Core.Path.{_≡_, refl, sym, ap, _∙_}
-use mathlib.Core.Bool.{true, false≢true}
 use mathlib.Core.List.{List, [], _∷_, _++_}
 use Prim.Native.Nat.{ℕ, _≤_}
 use native.Mathlib.Omega.{arith}
 use lib.ListN.{length, take, drop}
 use lib.Seq.{drop-at}
 use Rattle.lists.proofs.Writing.{put-start, laid-fits}
+use Rattle.terminal.specs.Reading.{Terminal}
 use Rattle.tape.specs.Entries.{Entry, entry, command, decision}
 use Rattle.commands.specs.Commands.{longest}
 use Rattle.rulebook.specs.Situation.{Situation}
 use Rattle.rulebook.specs.Phase.{Asked, Phase, opens, asks, hears, decides, commandOf, decisionOf}
+use Rattle.rulebook.specs.Turn.{opened}
 use Rattle.rulebook.proofs.Running.{State as Machine}
 use Rattle.state.specs.Results.{outcomeOf, reasonOf, decisionIn}
 use Rattle.state.specs.declared.State.{State}
 use Rattle.state.specs.declared.Phase.{Phase as Kept}
-use Rattle.state.specs.declared.Phase.the-variants.{Decided}
 use Rattle.dialogue.specs.Moves.{Moved, dueIn, bufferIn}
-use Rattle.dialogue.specs.declared.Due.{Due}
+use Rattle.dialogue.specs.declared.Due.the-variants.{Nothing}
 use Rattle.refinement.specs.Agreeing.{StandsAt}
 use Rattle.refinement.specs.Logging.{logged as ruled, Follows as Steps}
 use Rattle.refinement.proofs.Standing.{stands-decision}
@@ -28,7 +28,6 @@ use Rattle.kernel.specs.declared.Reply.{Reply}
 use Rattle.kernel.specs.Calls.{Called, replyTo, accepted}
 use Rattle.logs.specs.Log.{Event, entryOf, logged, loggedBy}
 use Rattle.logs.specs.Saying.{Gives}
-use Rattle.logs.proofs.Later.{later}
 
 -- behind a command that fits, the buffer is as it was
 command-rest : (w : Asked) (buf : List ℕ) → length (commandOf w) ≤ length buf
@@ -44,10 +43,15 @@ unfolding decisionIn outcomeOf reasonOf StandsAt
 decision-read s outcome reason z h =
     ap (λ (k : Kept). outcomeOf k ∷ reasonOf k ∷ (s .tvr ++ s .tsi)) (h .0) ∙ sym (stands-decision s outcome reason z h)
 
+-- after START something is due
+pub opened-due : (room : ℕ) (t : Terminal) → dueIn room (opened t) ≡ Nothing → ⊥
+unfolding dueIn opened
+opened-due room t e = let z : _≡_ {A = ℕ} 0 1 = cc e in omega arith
+
 module _ (σ : Machine) (e : Entry) (buf : List ℕ) (m : Moved) (room : longest ≤ length buf) where
-  pub step-gives : (p : Phase) → Steps σ e p buf m → later p ≡ true → Gives p buf (accepted m)
-  unfolding Gives accepted replyTo dueIn bufferIn later
-  step-gives opens f h = false≢true h
+  pub step-gives : (p : Phase) → Steps σ e p buf m → (dueIn (length buf) p ≡ Nothing → ⊥) → Gives p buf (accepted m)
+  unfolding Gives accepted replyTo dueIn bufferIn
+  step-gives opens f h = h refl
   step-gives (asks w) f h =
       let most = command-most (m .state) w (f .stands) in
       let fits : length (commandOf w) ≤ length buf = omega arith in (

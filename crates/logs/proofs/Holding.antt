@@ -2,22 +2,23 @@
 -- every session; START begins both from zeros, so it holds there of a session that has zeros while it waits for START, which every
 -- session from fresh has.
 -- Assumes nothing.
-use mathlib.Core.Path.{_≡_, refl, sym, ap, _∙_, subst}
-use mathlib.Core.Bool.{Bool, true, false≢true}
+use mathlib.Core.Path.{_≡_, sym, ap, _∙_, subst}
+use mathlib.Core.Bool.{true, false≢true}
 use mathlib.Core.List.{List, [], _∷_, _++_}
 use Prim.Native.Nat.{ℕ}
 use Rattle.lists.specs.Writing.{zeros}
 use Rattle.lists.proofs.Choice.{and-left, and-right}
 use lib.Pow.{areBytes}
 use Rattle.tape.specs.Entries.{Entry}
-use Rattle.decide.specs.Bits.{joined}
-use Rattle.decide.proofs.Rows.{joined-self, joined-assoc}
-use Rattle.rulebook.specs.Phase.{Phase, opens}
+use Rattle.decide.proofs.Rows.{joined-self, kept-on}
+use Rattle.rulebook.specs.Situation.{begun}
+use Rattle.rulebook.specs.Phase.{situationOf, tvrOf, tsiOf}
+use Rattle.rulebook.specs.Turn.{opened}
 use Rattle.state.specs.Keeping.{changed}
 use Rattle.state.specs.declared.State.{State}
-use Rattle.state.specs.declared.Phase.the-variants.{Start, Closed}
+use Rattle.state.specs.declared.Phase.the-variants.{Start}
+use Rattle.dialogue.specs.Moves.{standing, moved, started}
 use Rattle.refinement.specs.Agreeing.{StandsAt}
-use Rattle.refinement.specs.Logging.{Reached}
 use Rattle.refinement.proofs.Telling.{start-at}
 use Rattle.refinement.proofs.Clearing.{Keeps, answered-keeps, heard-keeps, started-keeps}
 use Rattle.kernel.specs.declared.Session.{Session}
@@ -65,6 +66,14 @@ module _ (s : Session) (buf : List ℕ) where
   start-keeps clear b =
       by-taken (start b) (λ z. let c = clear (start-passed s buf b z .1) in started-keeps (s .state) b buf (c .0) (c .1))
 
+  -- what a START that is taken leaves behind on any session: it begins anew
+  pub start-anew : (b : List ℕ) → refusalOf (start b) s buf ≡ 0
+      → (callOf (start b) s buf .session .state .tvr ≡ zeros 5) × (callOf (start b) s buf .session .state .tsi ≡ zeros 2)
+  unfolding takenBy accepted started moved standing changed opened begun situationOf tvrOf tsiOf
+  start-anew b h =
+      let same = call-taken s buf (start b) h in
+      (ap (λ (r : Called). r .session .state .tvr) same, ap (λ (r : Called). r .session .state .tsi) same)
+
 -- every call, on a session that begins clear
 pub call-keeps : (s : Session) → BeginsClear s → (c : Call) → Keeps (s .state) (call s c .session .state)
 unfolding call
@@ -89,10 +98,7 @@ pub plays-clear : (cs : List Call) → allBytes cs ≡ true → BeginsClear (pla
 plays-clear cs bytes = stands-clear (plays cs .session) (plays cs .log) (stands-plays cs bytes)
 
 keeps-on : (s t u : State) → Keeps s t → Keeps t u → Keeps s u
-keeps-on s t u h k = record { tvr = on (s .tvr) (t .tvr) (u .tvr) (h .tvr) (k .tvr); tsi = on (s .tsi) (t .tsi) (u .tsi) (h .tsi) (k .tsi) }
-  where
-    on : (a b c : List ℕ) → joined a b ≡ b → joined b c ≡ c → joined a c ≡ c
-    on a b c e f = ap (joined a) (sym f) ∙ (sym (joined-assoc a b c) ∙ (ap (λ (x : List ℕ). joined x c) e ∙ f))
+keeps-on s t u h k = record { tvr = kept-on (s .tvr) (t .tvr) (u .tvr) (h .tvr) (k .tvr); tsi = kept-on (s .tsi) (t .tsi) (u .tsi) (h .tsi) (k .tsi) }
 
 keeps-from : (cs : List Call) (p : Played) → allBytes cs ≡ true → Stands (p .session) (p .log)
     → Keeps (p .session .state) (playsFrom p cs .session .state)

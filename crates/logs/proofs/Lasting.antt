@@ -2,7 +2,7 @@
 -- ends its log: a call that is turned away changes neither, a silence closes, and any other that is taken is a step of the machine.
 -- Assumes nothing.
 use mathlib.Core.Path.{_≡_, refl, sym, ap, _∙_, subst}
-use mathlib.Core.Bool.{Bool, true, false, false≢true}
+use mathlib.Core.Bool.{true, false≢true}
 use mathlib.Core.List.{List, [], _∷_, _++_, append-nil}
 use Prim.Native.Nat.{ℕ}
 use lib.Pow.{areBytes}
@@ -10,15 +10,14 @@ use Rattle.lists.proofs.Choice.{and-left, and-right}
 use Rattle.tape.specs.Entries.{Entry}
 use Rattle.rulebook.specs.Session.{Closed as ClosedLog}
 use Rattle.rulebook.proofs.States.{silence-closes}
-use Rattle.state.specs.Keeping.{changed, fresh}
-use Rattle.state.specs.declared.Phase.{Phase as Kept}
+use Rattle.state.specs.Keeping.{changed}
 use Rattle.state.specs.declared.Phase.the-variants.{Closed}
 use Rattle.refinement.specs.Logging.{Reached}
 use Rattle.refinement.proofs.Reaching.{reached-fresh}
 use Rattle.kernel.specs.declared.Session.{Session}
 use Rattle.kernel.specs.Waiting.{isOver}
 use Rattle.kernel.specs.Calls.{Called, refused, closedAfter, freshSession}
-use Rattle.logs.specs.Log.{Event, start, answer, silence, host, Call, callOf, call, entryOf, payloadOf, logged, loggedBy, Played, after, playsFrom, plays, allBytes}
+use Rattle.logs.specs.Log.{Event, start, answer, silence, host, Call, callOf, call, payloadOf, logged, loggedBy, Played, after, playsFrom, plays, allBytes}
 use Rattle.logs.specs.Table.{refusalOf}
 use Rattle.logs.specs.Saying.{Silenced}
 use Rattle.logs.proofs.Turning.{takenBy, call-taken, call-refused, zero-or, passed}

@@ -2,8 +2,8 @@
 -- open everywhere else: the machine has read the log to its end just there, and a silence leaves it open.
 -- Assumes nothing.
 use mathlib.Core.Path.{_≡_, refl, sym, ap, _∙_}
-use mathlib.Core.Bool.{Bool, true, false, false≢true}
-use mathlib.Core.List.{List, [], _∷_}
+use mathlib.Core.Bool.{true, false, false≢true}
+use mathlib.Core.List.{List}
 use mathlib.Core.Logic.{inr, ⊎-elim}
 use mathlib.Core.Option.{some}
 use Prim.Native.Nat.{ℕ}
@@ -11,8 +11,8 @@ use native.Mathlib.Omega.{arith}
 use Rattle.lists.proofs.Choice.{either}
 use Rattle.tape.specs.Entries.{Entry}
 use Rattle.rulebook.specs.Phase.{Phase, opens, asks, hears, decides}
-use Rattle.rulebook.specs.Session.{Session as WholeSession, Open, Lawful, Closed as ClosedLog}
-use Rattle.rulebook.proofs.Running.{State as Machine, at, owes, done, run, session-run}
+use Rattle.rulebook.specs.Session.{Session as WholeSession, Open, Lawful}
+use Rattle.rulebook.proofs.Running.{done, session-run}
 use Rattle.rulebook.proofs.Reading.{not-closed}
 use Rattle.rulebook.proofs.Trichotomy.{one-sort}
 use Rattle.rulebook.proofs.States.{state-lawful}

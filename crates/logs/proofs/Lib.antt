@@ -1,4 +1,3 @@
-pub mod Later
 pub mod Turning
 pub mod Giving
 pub mod Taking
@@ -14,3 +13,4 @@ pub mod Playing
 pub mod Complete
 pub mod Numbers
 pub mod WrongKernels
+pub mod Theorem

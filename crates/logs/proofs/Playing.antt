@@ -3,46 +3,44 @@
 -- is the log of a kernel session.
 -- Assumes nothing.
 use mathlib.Core.Path.{_≡_, refl, sym, ap, _∙_, subst}
-use mathlib.Core.Bool.{Bool, true, false, false≢true}
+use mathlib.Core.Bool.{true}
 use mathlib.Core.List.{List, [], _∷_, _++_, append-nil, append-assoc}
-use mathlib.Core.Option.{Option, none, some}
+use mathlib.Core.Option.{Option, some}
 use Prim.Native.Nat.{ℕ, _≤_}
-use native.Mathlib.Omega.{arith}
-use lib.Dec.{eqb, leb}
+use lib.Dec.{leb}
 use lib.ListN.{length}
 use lib.Pow.{areBytes}
 use borrow.Author.Tests.{leb-true}
 use Rattle.lists.specs.Choice.{pick}
-use Rattle.lists.specs.Writing.{zeros}
-use Rattle.lists.proofs.Choice.{either, and-left, and-right, and-both}
-use Rattle.lists.proofs.Writing.{zeros-length}
-use Rattle.terminal.specs.Reading.{Terminal, readingOf}
+use Rattle.lists.proofs.Choice.{either, and-left}
+use Rattle.terminal.specs.Reading.{readingOf}
 use Rattle.terminal.specs.Start.{terminalOf, validStart}
 use Rattle.terminal.proofs.Laws.{accepted as valid-read, turned-away}
 use Rattle.tape.specs.Entries.{Entry, entry, start as startKind, command, answer as answerKind, host as hostKind, decision, payloadMost}
 use Rattle.commands.specs.Commands.{longest}
 use Rattle.decide.specs.declared.reply.Reply.{Reply as Said·Reply}
 use Rattle.decide.specs.declared.reply.Heard.{Heard}
-use Rattle.decide.specs.declared.reply.Heard.the-variants.{Said, Nothing}
+use Rattle.decide.specs.declared.reply.Heard.the-variants.{Said, Nothing as NoReply}
 use Rattle.decide.specs.Replies.{replyOf}
 use Rattle.rulebook.specs.Situation.{Situation}
 use Rattle.rulebook.specs.Phase.{Asked, Phase, opens, asks, hears, decides, commandOf, decisionOf}
 use Rattle.rulebook.specs.Turn.{opened, turn, heard}
 use Rattle.rulebook.specs.Session.{isPayload, Session as WholeSession}
 use Rattle.rulebook.proofs.Running.{State as Machine, at, owes, done, due, alike, alike-same, due-entry, due-test, ofTerminal, ofReply, next, run, chosen, taken, no-state, session-run}
-use Rattle.dialogue.specs.Moves.{Moved, keptAs, started as startMoved, answered as answerMoved, hostHeard}
-use Rattle.refinement.specs.Agreeing.{StandsAt, Agrees}
+use Rattle.dialogue.specs.Moves.{Moved, keptAs, started as startMoved, answered as answerMoved, hostHeard, dueIn}
+use Rattle.dialogue.specs.declared.Due.the-variants.{Nothing}
+use Rattle.refinement.specs.Agreeing.{Agrees}
 use Rattle.refinement.specs.Logging.{logged as ruled, landing, Follows as Steps}
 use Rattle.refinement.proofs.Stepping.{fresh-stands, lands-at, start-step, answer-step, host-step}
 use Rattle.refinement.proofs.Telling.{stands-phase}
+use Rattle.refinement.proofs.Onward.{turn-due, heard-due}
 use Rattle.kernel.specs.declared.Session.{Session}
 use Rattle.kernel.specs.Calls.{Called, accepted, freshSession}
-use Rattle.logs.specs.Log.{Event, start, answer, host, Call, callOf, call, entryOf, loggedBy, Played, after, playsFrom, plays}
+use Rattle.logs.specs.Log.{Event, start, answer, host, Call, call, entryOf, loggedBy, Played, after, playsFrom, plays}
 use Rattle.logs.specs.Replay.{eventIn, handing, callsIn}
 use Rattle.logs.specs.Table.{refusalOf}
-use Rattle.logs.proofs.Later.{later, turn-later, heard-later}
 use Rattle.logs.proofs.Turning.{takenBy, call-taken}
-use Rattle.logs.proofs.Giving.{step-gives, gives-logged}
+use Rattle.logs.proofs.Giving.{opened-due, step-gives, gives-logged}
 use Rattle.logs.proofs.Admitting.{start-free, answer-free, host-free}
 
 pub payload-most : (p : List ℕ) → isPayload p ≡ true → length p ≤ payloadMost
@@ -67,7 +65,7 @@ module _ (buf : List ℕ) (room : longest ≤ length buf) where
 
   -- ---- an event that is taken
   module _ (s : Session) (e : Event) (σ : Machine) (p : Phase) (m : Moved) (free : refusalOf e s buf ≡ 0)
-      (same : takenBy e s buf ≡ accepted m) (steps : Steps σ (entryOf e) p buf m) (onward : later p ≡ true) where
+      (same : takenBy e s buf ≡ accepted m) (steps : Steps σ (entryOf e) p buf m) (onward : dueIn (length buf) p ≡ Nothing → ⊥) where
     abbrev one : Call
     one = record { event = e; buffer = buf }
 
@@ -93,17 +91,17 @@ module _ (buf : List ℕ) (room : longest ≤ length buf) where
 
   start-goes : (b : List ℕ) (es : List Entry) (τ : Machine) → validStart b ≡ true → isPayload b ≡ true → Goes (at (opened (readingOf b))) es τ
       → Goes (at opens) (entry startKind b ∷ es) τ
-  unfolding callsIn handing eventIn pick pending ruled entryOf takenBy refusalOf Agrees keptAs opened later
+  unfolding callsIn handing eventIn pick pending ruled entryOf takenBy refusalOf Agrees keptAs opened
   start-goes b es τ valid ok rest s h log =
       goes-one s (start b) (at opens) (opened (readingOf b)) (startMoved b buf)
-      (start-free s buf room b (stands-phase (s .state) opens h) valid) refl (start-step b buf valid ok) refl es τ rest log
+      (start-free s buf room b (stands-phase (s .state) opens h) valid) refl (start-step b buf valid ok) (opened-due (length buf) (readingOf b)) es τ rest log
 
   answer-goes : (w : Asked) (a : List ℕ) (es : List Entry) (τ : Machine) → isPayload a ≡ true → Goes (at (turn w a)) es τ
       → Goes (owes w) (entry answerKind a ∷ es) τ
   unfolding callsIn handing eventIn pick pending entryOf takenBy refusalOf Agrees keptAs
   answer-goes w a es τ ok rest s h log =
       goes-one s (answer a) (owes w) (turn w a) (answerMoved (s .state) a buf)
-      (answer-free s buf room w (stands-phase (s .state) (asks w) h) a (payload-most a ok)) refl (answer-step (s .state) w a buf h ok) (turn-later w a)
+      (answer-free s buf room w (stands-phase (s .state) (asks w) h) a (payload-most a ok)) refl (answer-step (s .state) w a buf h ok) (turn-due (length buf) w a)
       es τ rest log
 
   host-goes : (z : Situation) (b : List ℕ) (r : Said·Reply) (es : List Entry) (τ : Machine) → replyOf b ≡ Said r → isPayload b ≡ true
@@ -111,7 +109,7 @@ module _ (buf : List ℕ) (room : longest ≤ length buf) where
   unfolding callsIn handing eventIn pick pending ruled entryOf takenBy refusalOf Agrees keptAs
   host-goes z b r es τ said ok rest s h log =
       goes-one s (host b) (at (hears z)) (heard z r b) (hostHeard (s .state) b buf)
-      (host-free s buf room b r (stands-phase (s .state) (hears z) h) said) refl (host-step (s .state) z r b buf h said ok) (heard-later z r b)
+      (host-free s buf room b r (stands-phase (s .state) (hears z) h) said) refl (host-step (s .state) z r b buf h said ok) (heard-due (length buf) z r b)
       es τ rest log
 
   -- ---- an entry of the kernel's own: it was pending
@@ -155,7 +153,7 @@ module _ (buf : List ℕ) (room : longest ≤ length buf) where
         → Goes (at (hears z)) (entry hostKind b ∷ es) τ
     unfolding ofReply
     by-reply z b σ (Said reply) said ok h r = host-goes z b reply es τ said ok (settled σ (at (heard z reply b)) _ h refl r)
-    by-reply z b σ Nothing said ok h r = no-state σ h
+    by-reply z b σ NoReply said ok h r = no-state σ h
 
     by-state : (e : Entry) (σ ρ : Machine) → next σ e ≡ some ρ → run es ρ ≡ some τ → Goes σ (e ∷ es) τ
     unfolding next

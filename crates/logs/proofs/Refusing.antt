@@ -1,10 +1,9 @@
 -- A call that is turned away changes nothing, whatever the session: the refusals come first, and no call that passes them is
 -- answered with a number.
 -- Assumes nothing.
-use mathlib.Core.Path.{_≡_, refl, sym, ap, _∙_, subst}
-use mathlib.Core.Bool.{Bool, true, false, false≢true}
-use mathlib.Core.List.{List, [], _∷_, _++_, append-nil}
-use mathlib.Core.Option.{Option, some}
+use mathlib.Core.Path.{_≡_, refl, sym, ap, _∙_}
+use mathlib.Core.List.{List, _++_, append-nil}
+use mathlib.Core.Option.{Option}
 use Prim.Native.Nat.{ℕ}
 use native.Mathlib.Omega.{arith}
 use lib.ListN.{length}
@@ -15,37 +14,38 @@ use Rattle.rulebook.specs.Turn.{opened, turn, heard}
 use Rattle.state.specs.Reading.{late}
 use Rattle.state.specs.declared.Phase.{Phase as Kept}
 use Rattle.dialogue.specs.Moves.{dueIn, moved, started, answeredTo, answered, heardAs, heardIn, hostHeard}
+use Rattle.dialogue.specs.declared.Due.the-variants.{Nothing}
+use Rattle.refinement.proofs.Onward.{turn-due, heard-due}
 use Rattle.kernel.specs.declared.Session.{Session}
-use Rattle.kernel.specs.declared.Reply.{Reply}
 use Rattle.kernel.specs.declared.Reply.the-variants.{Refused}
 use Rattle.kernel.specs.Calls.{Called, replyTo, accepted, refused, closedAfter}
 use Rattle.logs.specs.Log.{Event, start, answer, silence, host, Call, callOf, call, logged, loggedBy, Played, after}
 use Rattle.logs.specs.Table.{refusalOf}
 use Rattle.logs.specs.Saying.{Unchanged}
-use Rattle.logs.proofs.Later.{later, turn-later, heard-later}
+use Rattle.logs.proofs.Giving.{opened-due}
 use Rattle.logs.proofs.Turning.{takenBy, call-taken, call-refused, zero-or, answer-passed, host-passed}
 
 -- no phase after an event is answered with a number
-no-number : (p : Phase) (room n : ℕ) → later p ≡ true → replyTo (dueIn room p) ≡ Refused n → ⊥
-unfolding replyTo dueIn later
-no-number opens room n h e = false≢true h
+no-number : (p : Phase) (room n : ℕ) → (dueIn room p ≡ Nothing → ⊥) → replyTo (dueIn room p) ≡ Refused n → ⊥
+unfolding replyTo dueIn
+no-number opens room n h e = h refl
 no-number (asks w) room n h e = let z : _≡_ {A = ℕ} 0 1 = cc e in omega arith
 no-number (hears z) room n h e = let z : _≡_ {A = ℕ} 0 1 = cc e in omega arith
 no-number (decides outcome reason z) room n h e = let z : _≡_ {A = ℕ} 0 1 = cc e in omega arith
 
 module _ (s : Session) (buf : List ℕ) where
   taken-reply : (e : Event) → refusalOf e s buf ≡ 0 → (n : ℕ) → takenBy e s buf .reply ≡ Refused n → ⊥
-  unfolding takenBy refusalOf accepted started moved opened later closedAfter answered answeredTo hostHeard heardIn heardAs
-  taken-reply (start b) h n e = no-number (opened (readingOf b)) (length buf) n refl e
+  unfolding takenBy refusalOf accepted started moved opened closedAfter answered answeredTo hostHeard heardIn heardAs
+  taken-reply (start b) h n e = no-number (opened (readingOf b)) (length buf) n (opened-due (length buf) (readingOf b)) e
   taken-reply (answer a) h n e =
       let w = answer-passed s buf a h .1 in
-      no-number (turn (w .0) a) (length buf) n (turn-later (w .0) a)
+      no-number (turn (w .0) a) (length buf) n (turn-due (length buf) (w .0) a)
       (sym (ap (λ (o : Option Asked). replyTo (answeredTo o (s .state) a buf .due)) (w .1)) ∙ e)
   taken-reply silence h n e = let z : _≡_ {A = ℕ} 0 1 = cc e in omega arith
   taken-reply (host b) h n e =
       let p = host-passed s buf b h in
       let r = p .1 .0 in
-      no-number (heard (late (s .state)) r b) (length buf) n (heard-later (late (s .state)) r b)
+      no-number (heard (late (s .state)) r b) (length buf) n (heard-due (length buf) (late (s .state)) r b)
       (sym
       (ap (λ (k : Kept). replyTo (heardIn k (s .state) b buf .due)) (p .0)
       ∙ ap (λ (x : Heard). replyTo (heardAs x (s .state) b buf .due)) (p .1 .1))

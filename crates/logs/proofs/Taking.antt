@@ -1,37 +1,38 @@
 -- A call that is taken is a step of the rulebook's machine, from where the log has led it: the kernel lets an event pass only where
 -- the machine waits for it, with a payload that a tape can hold.
 -- Assumes nothing.
-use mathlib.Core.Path.{_≡_, refl, sym, ap, _∙_, subst}
+use mathlib.Core.Path.{_≡_, refl, sym, _∙_, subst}
 use mathlib.Core.Bool.{Bool, true, false, false≢true}
 use mathlib.Core.List.{List, [], _∷_, _++_}
-use mathlib.Core.Option.{Option, none, some}
+use mathlib.Core.Option.{some}
 use Prim.Native.Nat.{ℕ, _≤_}
 use native.Mathlib.Omega.{arith}
 use lib.Dec.{eqb, leb}
-use lib.ListN.{length, getD}
+use lib.ListN.{length}
 use lib.Pow.{areBytes}
 use borrow.Author.Tests.{eqb-true, le-leb}
 use Rattle.lists.proofs.Choice.{pick-no, either, and-both}
 use Rattle.terminal.specs.Reading.{readingOf}
-use Rattle.terminal.specs.Start.{validStart}
 use Rattle.terminal.proofs.Laws.{start-length}
-use Rattle.tape.specs.Entries.{Entry, entry, payloadMost}
+use Rattle.tape.specs.Entries.{Entry, payloadMost}
 use Rattle.commands.specs.Commands.{longest}
-use Rattle.decide.specs.Replies.{replyOf, saidBy, codeIn}
+use Rattle.decide.specs.Replies.{replyOf}
 use Rattle.decide.specs.declared.reply.Reply.{Reply as Said·Reply}
 use Rattle.decide.specs.declared.reply.Heard.the-variants.{Said}
-use Rattle.rulebook.specs.Phase.{Asked, Phase, opens, asks, hears, tvrOf, tsiOf}
+use Rattle.rulebook.specs.Phase.{Phase, opens, asks, hears, tvrOf, tsiOf}
 use Rattle.rulebook.specs.Turn.{opened, turn, heard}
 use Rattle.rulebook.specs.Session.{isPayload}
 use Rattle.rulebook.proofs.Running.{State as Machine, at, owes, run}
 use Rattle.rulebook.proofs.States.{state-next}
-use Rattle.state.specs.Reading.{late, askedIn}
+use Rattle.state.specs.Reading.{late}
 use Rattle.state.specs.Keeping.{changed}
-use Rattle.dialogue.specs.Moves.{Moved, started, answered, hostHeard}
+use Rattle.dialogue.specs.Moves.{Moved, started, answered, hostHeard, dueIn}
+use Rattle.dialogue.specs.declared.Due.the-variants.{Nothing}
 use Rattle.refinement.specs.Agreeing.{StandsAt, Agrees}
 use Rattle.refinement.specs.Logging.{logged as ruled, Follows as Steps, Reached}
 use Rattle.refinement.proofs.Standing.{stands-tvr, stands-tsi}
 use Rattle.refinement.proofs.Telling.{stands-phase}
+use Rattle.refinement.proofs.Onward.{turn-due, heard-due}
 use Rattle.refinement.proofs.Stepping.{start-step, answer-step, host-step}
 use Rattle.refinement.proofs.Reaching.{reached-on, reached-start, reached-asked, reached-host}
 use Rattle.kernel.specs.declared.Session.{Session}
@@ -39,9 +40,8 @@ use Rattle.kernel.specs.Calls.{Called, accepted, closedAfter}
 use Rattle.logs.specs.Log.{Event, start, answer, silence, host, callOf, entryOf, payloadOf, loggedBy}
 use Rattle.logs.specs.Table.{refusalOf}
 use Rattle.logs.specs.Saying.{Gives, Follows, Silenced}
-use Rattle.logs.proofs.Later.{later, turn-later, heard-later}
-use Rattle.logs.proofs.Turning.{takenBy, call-taken, passed, start-passed, answer-passed, silence-passed, host-passed}
-use Rattle.logs.proofs.Giving.{step-gives, gives-logged}
+use Rattle.logs.proofs.Turning.{takenBy, call-taken, start-passed, answer-passed, silence-passed, host-passed}
+use Rattle.logs.proofs.Giving.{opened-due, step-gives, gives-logged}
 
 -- ---- payloads that a tape can hold
 pub payload : (p : List ℕ) → length p ≤ payloadMost → areBytes p ≡ true → isPayload p ≡ true
@@ -70,12 +70,12 @@ pub record Taken (es : List Entry) (e : Event) (buf : List ℕ) (r : Called) : T
   pub to : Phase
   pub moved : Moved
   pub steps : Steps from (entryOf e) to buf moved
-  pub onward : later to ≡ true
+  pub onward : dueIn (length buf) to ≡ Nothing → ⊥
   pub same : r ≡ accepted moved
 
 module _ (s : Session) (es : List Entry) (buf : List ℕ) (there : Reached (s .state) es) where
   taken-event : (e : Event) → areBytes (payloadOf e) ≡ true → refusalOf e s buf ≡ 0 → isSilence e ≡ false → Taken es e buf (takenBy e s buf)
-  unfolding takenBy payloadOf refusalOf isSilence entryOf opened later
+  unfolding takenBy payloadOf refusalOf isSilence entryOf opened
   taken-event (start b) bytes h n =
       let p = start-passed s buf b h in
       let size = start-length b (p .0) in
@@ -85,7 +85,7 @@ module _ (s : Session) (es : List Entry) (buf : List ℕ) (there : Reached (s .s
         to = opened (readingOf b);
         moved = started b buf;
         steps = start-step b buf (p .0) (payload b (omega arith) bytes);
-        onward = refl;
+        onward = opened-due (length buf) (readingOf b);
         same = refl;
       }
   taken-event (answer a) bytes h n =
@@ -97,7 +97,7 @@ module _ (s : Session) (es : List Entry) (buf : List ℕ) (there : Reached (s .s
         to = turn (w .0) a;
         moved = answered (s .state) a buf;
         steps = answer-step (s .state) (w .0) a buf (w .1 .1 .1) (payload a (p .0) bytes);
-        onward = turn-later (w .0) a;
+        onward = turn-due (length buf) (w .0) a;
         same = refl;
       }
   taken-event silence bytes h n = absurd (false≢true (sym n))
@@ -112,7 +112,7 @@ module _ (s : Session) (es : List Entry) (buf : List ℕ) (there : Reached (s .s
         to = heard (late (s .state)) r b;
         moved = hostHeard (s .state) b buf;
         steps = host-step (s .state) (late (s .state)) r b buf (w .1) (p .1 .1) (payload b (omega arith) bytes);
-        onward = heard-later (late (s .state)) r b;
+        onward = heard-due (length buf) (late (s .state)) r b;
         same = refl;
       }
 

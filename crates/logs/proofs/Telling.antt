@@ -2,13 +2,11 @@
 -- session stands at that phase, and the call was a step to it.
 -- Assumes nothing.
 use mathlib.Core.Path.{_≡_, refl, sym, ap, _∙_, subst}
-use mathlib.Core.Bool.{Bool, true, false}
+use mathlib.Core.Bool.{true, false}
 use mathlib.Core.List.{List, [], _∷_, _++_}
 use Prim.Native.Nat.{ℕ}
 use lib.Pow.{areBytes}
 use Rattle.tape.specs.Entries.{Entry}
-use Rattle.rulebook.specs.Situation.{Situation}
-use Rattle.rulebook.specs.Phase.{Phase, decides}
 use Rattle.refinement.specs.Agreeing.{StandsAt}
 use Rattle.refinement.specs.Logging.{Reached}
 use Rattle.refinement.proofs.Standing.{stands-tvr, stands-tsi}

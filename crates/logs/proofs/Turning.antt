@@ -1,15 +1,15 @@
 -- A call is turned away, and then nothing is changed, or it is taken; and what a call that is taken has passed.
 -- Assumes nothing.
-use mathlib.Core.Path.{_≡_, refl, sym, ap, _∙_}
+use mathlib.Core.Path.{_≡_, refl, sym, _∙_}
 use mathlib.Core.Bool.{Bool, true, false, not, false≢true}
-use mathlib.Core.List.{List, [], _∷_, _++_}
-use mathlib.Core.Option.{Option, none, some}
+use mathlib.Core.List.{List, [], _++_}
+use mathlib.Core.Option.{some}
 use Prim.Native.Nat.{ℕ, _≤_}
 use native.Mathlib.Omega.{arith}
 use lib.Dec.{eqb, ltb}
 use lib.ListN.{length}
 use borrow.Author.Tests.{eq-eqb, ne-eqb, eqb-true, ltb-false}
-use Rattle.lists.specs.Choice.{pick, firstOf}
+use Rattle.lists.specs.Choice.{firstOf}
 use Rattle.lists.proofs.Choice.{pick-yes, pick-no, either}
 use Rattle.card_data.proofs.Lines.{line-clear}
 use Rattle.terminal.specs.Start.{validStart}

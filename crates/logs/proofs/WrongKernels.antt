@@ -36,9 +36,8 @@ use Rattle.logs.specs.Log.{start, Call, call, entryOf, plays, allBytes, 
 use Rattle.logs.specs.Replay.{callsIn, givenAfter}
 use Rattle.logs.specs.Table.{refusalOf}
 use Rattle.logs.specs.Saying.{Gives}
-use Rattle.logs.proofs.Later.{later}
 use Rattle.logs.proofs.Turning.{takenBy, call-taken}
-use Rattle.logs.proofs.Giving.{step-gives}
+use Rattle.logs.proofs.Giving.{opened-due, step-gives}
 use Rattle.logs.proofs.Admitting.{start-free}
 use Rattle.logs.proofs.Complete.{session-logged, right}
 use Rattle.logs.proofs.Deciding.{decision-last}
@@ -94,33 +93,35 @@ not-every-outcome-3 wrong =
     omega arith
 
 -- a START that is valid, and a buffer that begins with no command
-abbrev b : List ℕ
-b = startOf 2
+abbrev begin : List ℕ
+begin = startOf 2
 
-b-valid : validStart b ≡ true
+valid : validStart begin ≡ true
 unfolding validStart every pick between validKind validDigits digitsOnly decimalByte validStartDate monthAndDay validRandom validPercentages validThreshold validAid zerosOnly readingOf decimal decimalFrom
-b-valid = refl
+valid = refl
 
-b-payload : isPayload b ≡ true
+held : isPayload begin ≡ true
 unfolding isPayload
-b-payload = refl
+held = refl
 
-abbrev buf : List ℕ
-buf = 1 ∷ zeros 260
+abbrev lent : List ℕ
+lent = 1 ∷ zeros 260
 
-buf-room : longest ≤ length buf
-buf-room = let size = zeros-length 260 in omega arith
+also-room : longest ≤ length lent
+also-room = let size = zeros-length 260 in omega arith
 
 -- it writes the command into the buffer: SELECT stands there after START
 pub not-left-alone : ((s : Session) (c : Call) → call s c .buffer ≡ c .buffer) → ⊥
-unfolding call freshSession fresh stateAt refusalOf takenBy accepted opened later Gives commandOf selectCommand entryOf
+unfolding call freshSession fresh stateAt refusalOf takenBy accepted opened Gives commandOf selectCommand entryOf
 not-left-alone wrong =
-    let same = call-taken freshSession buf (start b) (start-free freshSession buf buf-room b refl b-valid) in
+    let same = call-taken freshSession lent (start begin) (start-free freshSession lent also-room begin refl valid) in
+    let steps = start-step begin lent valid held in
     let gives =
-    step-gives (at opens) (entry startKind b) buf (started b buf) buf-room (opened (readingOf b)) (start-step b buf b-valid b-payload) refl
+    step-gives (at opens) (entry startKind begin) lent (started begin lent) also-room (opened (readingOf begin)) steps
+    (opened-due (length lent) (readingOf begin))
     in
-    let left : started b buf .buffer ≡ buf = ap (λ (r : Called). r .buffer) (sym same) ∙ wrong freshSession (record { event = start b; buffer = buf }) in
-    let select = commandOf (selecting (begun (readingOf b))) in
-    let there : take (length select) buf ≡ select = ap (take (length select)) (sym left) ∙ gives .1 in
+    let left : started begin lent .buffer ≡ lent = ap (λ (r : Called). r .buffer) (sym same) ∙ wrong freshSession (record { event = start begin; buffer = lent }) in
+    let select = commandOf (selecting (begun (readingOf begin))) in
+    let there : take (length select) lent ≡ select = ap (take (length select)) (sym left) ∙ gives .1 in
     let first : _≡_ {A = ℕ} 1 0 = ap (λ (l : List ℕ). getD l 0 0) there in
     omega arith

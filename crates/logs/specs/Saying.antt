@@ -1,7 +1,7 @@
 -- What is said of a session after any calls, and of the last of them.
 -- Assumes nothing.
 use mathlib.Core.Path.{_≡_}
-use mathlib.Core.Bool.{Bool, true, false}
+use mathlib.Core.Bool.{true, false}
 use mathlib.Core.List.{List, [], _∷_, _++_}
 use mathlib.Core.Option.{some}
 use Prim.Native.Nat.{ℕ}
@@ -16,7 +16,6 @@ use Rattle.state.specs.declared.Phase.the-variants.{Closed}
 use Rattle.dialogue.specs.Moves.{keptAs}
 use Rattle.refinement.specs.Logging.{logged, landing}
 use Rattle.kernel.specs.declared.Session.{Session}
-use Rattle.kernel.specs.declared.Reply.{Reply}
 use Rattle.kernel.specs.declared.Reply.the-variants.{Command, Host, Decided, Closed as ClosedReply, Refused}
 use Rattle.kernel.specs.Calls.{Called}
 use Rattle.logs.specs.Log.{Event, silence as silent, Call, call, entryOf, loggedBy, Played, isDecided}

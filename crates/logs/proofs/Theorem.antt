@@ -1,0 +1,66 @@
+-- What holds of the kernel, in one place. The calls are any, taken and turned away, on a fresh session; what they hand in are bytes.
+-- Assumes nothing.
+use mathlib.Core.Path.{_≡_}
+use mathlib.Core.Bool.{true}
+use mathlib.Core.List.{List, _++_}
+use Prim.Native.Nat.{ℕ, _+_, _≤_}
+use lib.ListN.{length}
+use lib.Pow.{areBytes}
+use Rattle.commands.specs.Commands.{longest}
+use Rattle.tape.specs.Entries.{Entry}
+use Rattle.rulebook.specs.Session.{Session as WholeSession, Open}
+use Rattle.rulebook.proofs.Roles.{RightKernel}
+use Rattle.refinement.proofs.Clearing.{Keeps}
+use Rattle.kernel.specs.declared.Session.{Session}
+use Rattle.kernel.specs.declared.Reply.the-variants.{Refused}
+use Rattle.logs.specs.Log.{Call, call, payloadOf, plays, allBytes, isDecided, isClosed}
+use Rattle.logs.specs.Replay.{givenAfter}
+use Rattle.logs.specs.Table.{tableOf, FirstLine}
+use Rattle.logs.specs.Saying.{Lawfully, Says, Replies, Unchanged}
+use Rattle.logs.proofs.Lawful.{any-calls}
+use Rattle.logs.proofs.Refusing.{refused-unchanged}
+use Rattle.logs.proofs.Ending.{Ended, decided-ended, closed-ended, silence-is-open, silence-is-no-session}
+use Rattle.logs.proofs.Holding.{plays-keeps}
+use Rattle.logs.proofs.Telling.{plays-says, plays-replies}
+use Rattle.logs.proofs.Deciding.{Ends, decision-last}
+use Rattle.logs.proofs.Complete.{Reproduces, session-logged, right}
+use Rattle.logs.proofs.Numbers.{NoLine, number-line, line-number, none-taken, taken-none}
+
+pub record Kernel : Type 0 where
+  pub lawful : (cs : List Call) → allBytes cs ≡ true → Lawfully (plays cs .session) (plays cs .log)
+  pub says : (cs : List Call) → allBytes cs ≡ true → Says (plays cs .session) (plays cs .log)
+  pub replies : (cs : List Call) (c : Call) → allBytes cs ≡ true → areBytes (payloadOf (c .event)) ≡ true → Replies (plays cs) c
+  pub ends : (cs : List Call) → allBytes cs ≡ true → Ends (plays cs .session) (plays cs .log)
+  pub complete : (buf : List ℕ) → longest ≤ length buf → (es : List Entry) → WholeSession es → Reproduces buf es
+  pub rightly : (buf : List ℕ) → longest ≤ length buf → RightKernel (givenAfter buf)
+  pub keeps : (cs more : List Call) → allBytes cs ≡ true → allBytes more ≡ true → Keeps (plays cs .session .state) (plays (cs ++ more) .session .state)
+  pub decided : (cs : List Call) → isDecided (plays cs .session .state .phase) ≡ true → Ended cs
+  pub closed : (cs : List Call) → isClosed (plays cs .session .state .phase) ≡ true → Ended cs
+  pub silent : (cs : List Call) → allBytes cs ≡ true → isClosed (plays cs .session .state .phase) ≡ true → Open (plays cs .log)
+  pub no-session : (cs : List Call) → allBytes cs ≡ true → isClosed (plays cs .session .state .phase) ≡ true → WholeSession (plays cs .log) → ⊥
+  pub unchanged : (s : Session) (c : Call) (n : ℕ) → call s c .reply ≡ Refused n → Unchanged s c
+  pub number : (s : Session) (c : Call) (line : ℕ) → call s c .reply ≡ Refused (1 + line) → FirstLine (tableOf (c .event) s (c .buffer)) line
+  pub line : (s : Session) (c : Call) (line : ℕ) → FirstLine (tableOf (c .event) s (c .buffer)) line → call s c .reply ≡ Refused (1 + line)
+  pub free : (s : Session) (c : Call) → NoLine (tableOf (c .event) s (c .buffer)) → (n : ℕ) → call s c .reply ≡ Refused n → ⊥
+  pub taken : (s : Session) (c : Call) → ((n : ℕ) → call s c .reply ≡ Refused n → ⊥) → NoLine (tableOf (c .event) s (c .buffer))
+
+pub kernel : Kernel
+kernel =
+    record {
+      lawful = any-calls;
+      says = plays-says;
+      replies = plays-replies;
+      ends = decision-last;
+      complete = session-logged;
+      rightly = right;
+      keeps = plays-keeps;
+      decided = decided-ended;
+      closed = closed-ended;
+      silent = silence-is-open;
+      no-session = silence-is-no-session;
+      unchanged = refused-unchanged;
+      number = number-line;
+      line = line-number;
+      free = none-taken;
+      taken = taken-none;
+    }
