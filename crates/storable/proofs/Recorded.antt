@@ -36,7 +36,7 @@ module _ (number : ℕ) (known : number < 2 ^ 32) (es : List Entry) where
     pub session-cut : (k : ℕ) → k < length es → Judged (take (k * blockSize) (written 0 number es)) (says Inconclusive k 0)
     session-cut = cut-judged number known es fit session
 
-    -- with one entry more, whatever that is, it fails at that entry
+    -- with any one entry more that can be stored, it fails at that entry
     pub session-exceeded : (e : Entry) → storable e ≡ true → Judged (written 0 number (es ++ (e ∷ []))) (says Fail (length es) 0)
     unfolding allStorable
     session-exceeded e h =

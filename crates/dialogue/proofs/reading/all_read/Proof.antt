@@ -18,7 +18,7 @@ use Rattle.dialogue.specs.Moves.{moved}
 use Rattle.dialogue.specs.Storing.{managedState}
 use Rattle.dialogue.proofs.Moving.{late-decided}
 use Rattle.dialogue.proofs.Bits.{late-managed, managed-moved, expiry-told}
-use Rattle.dialogue.proofs.Reasons.{after-small}
+use Rattle.answers.proofs.Reasons.{after-small}
 use Rattle.dialogue.proofs.reading.all_read.Statement.{statement}
 use Rattle.dialogue.proofs.reading.all_read.Tie as tie
 

@@ -16,7 +16,7 @@ use Rattle.dialogue.specs.Moves.{moved}
 use Rattle.dialogue.specs.Storing.{answeredState}
 use Rattle.dialogue.proofs.Moving.{late-decided, reason-ended, reason-next}
 use Rattle.dialogue.proofs.Bits.{late-answered, answered-moved}
-use Rattle.dialogue.proofs.Reasons.{cryptogram-small}
+use Rattle.answers.proofs.Reasons.{cryptogram-small}
 use Rattle.dialogue.proofs.turns.on_first.Statement.{statement}
 use Rattle.dialogue.proofs.turns.on_first.Tie as tie
 

@@ -18,7 +18,7 @@ use Rattle.state.specs.Keeping.{withOptions}
 use Rattle.state.proofs.Starting.{late-options, left-options}
 use Rattle.dialogue.specs.Moves.{keeping, moved}
 use Rattle.dialogue.proofs.Moving.{early-decided, reason-ended, reason-next}
-use Rattle.dialogue.proofs.Reasons.{options-small}
+use Rattle.answers.proofs.Reasons.{options-small}
 use Rattle.dialogue.proofs.turns.on_options.Statement.{statement}
 use Rattle.dialogue.proofs.turns.on_options.Tie as tie
 

@@ -21,7 +21,7 @@ use Rattle.state.specs.Keeping.{withRecord, withTold}
 use Rattle.state.proofs.Telling.{late-told}
 use Rattle.dialogue.specs.Moves.{keeping, moved}
 use Rattle.dialogue.proofs.Moving.{late-decided, reason-ended, reason-next}
-use Rattle.dialogue.proofs.Reasons.{record-small}
+use Rattle.answers.proofs.Reasons.{record-small}
 use Rattle.dialogue.proofs.turns.on_record.Statement.{statement}
 use Rattle.dialogue.proofs.turns.on_record.Tie as tie
 

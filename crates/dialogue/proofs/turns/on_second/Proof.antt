@@ -16,7 +16,7 @@ use Rattle.rulebook.specs.Turn.{goesOn, secondAllows, secondAnswered, turn}
 use Rattle.state.specs.Reading.{late}
 use Rattle.dialogue.specs.Moves.{moved}
 use Rattle.dialogue.proofs.Moving.{late-decided, reason-ended, reason-next}
-use Rattle.dialogue.proofs.Reasons.{cryptogram-small}
+use Rattle.answers.proofs.Reasons.{cryptogram-small}
 use Rattle.dialogue.proofs.turns.on_second.Statement.{statement}
 use Rattle.dialogue.proofs.turns.on_second.Tie as tie
 

@@ -16,7 +16,7 @@ use Rattle.rulebook.specs.Turn.{selected, turn}
 use Rattle.state.specs.Reading.{situationWith, early}
 use Rattle.dialogue.specs.Moves.{awaiting, cursorAsking, keeping}
 use Rattle.dialogue.proofs.Moving.{early-decided, asking-on, reason-ended, reason-next}
-use Rattle.dialogue.proofs.Reasons.{select-small}
+use Rattle.answers.proofs.Reasons.{select-small}
 use Rattle.dialogue.proofs.turns.on_select.Statement.{statement}
 use Rattle.dialogue.proofs.turns.on_select.Tie as tie
 

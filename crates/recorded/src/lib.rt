@@ -1,0 +1,1 @@
+// Kernel sessions recorded and judged: laws only, see proofs/.
