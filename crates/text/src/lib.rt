@@ -3,6 +3,7 @@ mod digits;
 mod lines;
 mod numbers;
 
+pub use digits::digit_of;
 pub use digits::hex;
 pub use digits::unhex;
 pub use lines::after_word;

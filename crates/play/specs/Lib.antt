@@ -1,0 +1,2 @@
+-- The lines of `play`.
+pub mod Lines

@@ -1,0 +1,56 @@
+-- What a line of `play` asks, and what is wrong with one that asks nothing.
+-- Assumes nothing.
+use mathlib.Core.Bool.{Bool, true, false, _&&_}
+use mathlib.Core.List.{List, [], _∷_}
+use Prim.Native.Nat.{ℕ, _+_, _*_, _%_}
+use lib.Dec.{eqb, ltb}
+use lib.ListN.{length}
+use Rattle.lists.specs.Choice.{pick}
+use Rattle.text.specs.Digits.{digit}
+use Rattle.tape.specs.Entries.{start, answer, silence, host}
+
+-- whether w is the first word of a line: a space follows it, or nothing
+unfoldable pub named : List ℕ → List ℕ → Bool
+named [] [] = true
+named [] (b ∷ s) = eqb b 0x20
+named (x ∷ w) [] = false
+named (x ∷ w) (b ∷ s) = pick (eqb b x) (named w s) false
+
+-- the kind of the event that the first word names, START, ANSWER, SILENCE or HOST; 0 for any other word
+unfoldable pub kindOf : List ℕ → ℕ
+kindOf s =
+    pick (named (0x53 ∷ 0x54 ∷ 0x41 ∷ 0x52 ∷ 0x54 ∷ []) s) start
+    (pick (named (0x41 ∷ 0x4E ∷ 0x53 ∷ 0x57 ∷ 0x45 ∷ 0x52 ∷ []) s) answer
+    (pick (named (0x53 ∷ 0x49 ∷ 0x4C ∷ 0x45 ∷ 0x4E ∷ 0x43 ∷ 0x45 ∷ []) s) silence
+    (pick (named (0x48 ∷ 0x4F ∷ 0x53 ∷ 0x54 ∷ []) s) host 0)))
+
+-- nothing but hexadecimal digits
+unfoldable pub allDigits : List ℕ → Bool
+allDigits [] = true
+allDigits (b ∷ s) = pick (ltb (digit b) 16) (allDigits s) false
+
+-- an empty payload: none is owed by SILENCE, and an answer may be empty
+unfoldable pub faultOfNone : ℕ → ℕ
+faultOfNone kind = pick (eqb kind start) 3 (pick (eqb kind host) 3 0)
+
+-- what is wrong: 1 unknown word, 2 text after SILENCE, 3 missing payload, 4 not hexadecimal, 5 odd number of digits; 0 nothing
+unfoldable pub faultOf : ℕ → List ℕ → ℕ
+faultOf kind rest =
+    pick (eqb kind 0) 1
+    (pick (eqb (length rest) 0) (faultOfNone kind)
+    (pick (eqb kind silence) 2
+    (pick (allDigits rest) (pick (eqb (length rest % 2) 0) 0 5) 4)))
+
+-- what is no session number, since those have four bytes
+abbrev pub noNumber : ℕ
+noNumber = 0x100000000
+
+-- the number n with the decimal digits that follow it
+unfoldable pub numberFrom : ℕ → List ℕ → ℕ
+numberFrom n [] = n
+numberFrom n (b ∷ s) =
+    pick (ltb (digit b) 10 && ltb (10 * n + digit b) noNumber) (numberFrom (10 * n + digit b) s) noNumber
+
+-- a session number: at least one digit, and nothing else
+unfoldable pub sessionNumber : List ℕ → ℕ
+sessionNumber s = pick (eqb (length s) 0) noNumber (numberFrom 0 s)

@@ -1,0 +1,128 @@
+// What a line asks, and what is wrong with one that asks nothing.
+use lists::byte;
+use tape::ANSWER;
+use tape::HOST;
+use tape::SILENCE;
+use tape::START;
+use text::digit_of;
+ghost use mathlib.Core.Path.{_≡_};
+ghost use Prim.Native.Nat.{_≤_};
+ghost use Rattle.play.specs.Lines.{named, kindOf, allDigits, faultOf, faultOfNone, sessionNumber};
+
+// What can be wrong.
+pub const UNKNOWN: u8 = 1;
+
+pub const TEXT_AFTER: u8 = 2;
+
+pub const MISSING: u8 = 3;
+
+pub const NO_DIGITS: u8 = 4;
+
+pub const ODD: u8 = 5;
+
+const SPACE: usize = 0x20;
+
+// What is no session number.
+pub const NO_NUMBER: usize = 0x1_0000_0000;
+
+// The kind of the event that the first word names; 0 for any other word.
+pub fn kind_of(line: &[u8]) -> u8
+    ensures { λ r. ⌜ r ≡ kindOf (now (line .entry)) ⌝ }
+{
+    if is_named(line, b"START") {
+        return START;
+    }
+    if is_named(line, b"ANSWER") {
+        return ANSWER;
+    }
+    if is_named(line, b"SILENCE") {
+        return SILENCE;
+    }
+    if is_named(line, b"HOST") { HOST } else { 0 }
+}
+
+// Whether this is a line's first word.
+fn is_named(line: &[u8], word: &[u8]) -> bool
+    ensures { λ r. ⌜ r ≡ named (now (word .entry)) (now (line .entry)) ⌝ }
+{
+    let mut i = 0;
+    while i < word.len() {
+        if line.len() <= i {
+            return false;
+        }
+        if line[i] != word[i] {
+            return false;
+        }
+        i += 1;
+    }
+    if line.len() == i {
+        true
+    } else {
+        byte(line, i) == SPACE
+    }
+}
+
+// What is wrong with the text behind the word of an event; 0 for nothing.
+pub fn fault_of(kind: u8, rest: &[u8]) -> u8
+    ensures { λ r. ⌜ r ≡ faultOf kind (now (rest .entry)) ⌝ }
+{
+    if kind == 0 {
+        return UNKNOWN;
+    }
+    if rest.len() == 0 {
+        return fault_of_none(kind);
+    }
+    if kind == SILENCE {
+        return TEXT_AFTER;
+    }
+    if all_digits(rest) {
+        return if rest.len() % 2 == 0 { 0 } else { ODD };
+    }
+    NO_DIGITS
+}
+
+fn fault_of_none(kind: u8) -> u8
+    ensures { λ r. ⌜ r ≡ faultOfNone kind ⌝ }
+{
+    if kind == START {
+        return MISSING;
+    }
+    if kind == HOST { MISSING } else { 0 }
+}
+
+fn all_digits(s: &[u8]) -> bool
+    ensures { λ r. ⌜ r ≡ allDigits (now (s .entry)) ⌝ }
+{
+    let mut i = 0;
+    while i < s.len() {
+        if 16 <= digit_of(byte(s, i)) {
+            return false;
+        }
+        i += 1;
+    }
+    true
+}
+
+// The decimal number that a text is, or NO_NUMBER.
+pub fn session_number(s: &[u8]) -> usize
+    ensures { λ r. ⌜ (r ≡ sessionNumber (now (s .entry))) × (r ≤ 0x100000000) ⌝ }
+{
+    if s.len() == 0 {
+        return NO_NUMBER;
+    }
+    let mut n = 0;
+    let mut i = 0;
+    while i < s.len() {
+        let d = digit_of(byte(s, i));
+        if 10 <= d {
+            return NO_NUMBER;
+        }
+        let more = 10 * n + d;
+        if NO_NUMBER <= more {
+            return NO_NUMBER;
+        }
+        n = more;
+        i += 1;
+    }
+    n
+}

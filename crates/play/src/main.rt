@@ -1,0 +1,100 @@
+// The kernel over standard input and output, a line each way. In, with bytes in hexadecimal of either case:
+//
+//     START bytes      terminal data
+//     ANSWER bytes     the card's answer, status bytes included; it may be empty
+//     SILENCE          the card says nothing
+//     HOST bytes       the issuer's reply
+//
+// Out, at once for each line:
+//
+//     COMMAND bytes    the card's next command
+//     HOST             the issuer's reply is due
+//     DECISION bytes   the nine bytes of DECISION
+//     CLOSED           the session was closed by silence
+//     REFUSED n        the call was turned away
+//     ERROR why        the line is none of these; nothing changed
+//
+// The first argument names a file for the tape, the second is the session number (0 where there is none).
+mod call;
+mod line;
+mod store;
+
+use call::next;
+use kernel::Session;
+use libc::STDERR_FILENO;
+use line::NO_NUMBER;
+use line::session_number;
+use tape::Writer;
+ghost use Prim.Native.Nat.{_≤_};
+
+// A line of the longest word and the longest payload: seven bytes, and the digits of 4,096.
+const LONGEST: usize = 8199;
+
+fn main() {
+    if os::arg_count() < 2 {
+        play(store::NONE, 0);
+        return;
+    }
+    let number = number_asked();
+    if number == NO_NUMBER {
+        io::write_all(
+            STDERR_FILENO,
+            b"session number: not a number from 0 to 4294967295\n",
+        );
+        return;
+    }
+    let file = open_tape();
+    if 0 <= file {
+        play(file, number as u32);
+        libc::close(file);
+    }
+}
+
+// The session number that was asked for; NO_NUMBER where it is none.
+fn number_asked() -> usize
+    ensures { λ r. ⌜ r ≤ 0x100000000 ⌝ }
+{
+    if os::arg_count() < 3 {
+        return 0;
+    }
+    let mut digits = io::buffer();
+    let n = os::arg(2, &mut digits);
+    session_number(&digits[..n])
+}
+
+// The tape's file, or below 0 where it cannot be opened for writing.
+fn open_tape() -> i32 {
+    let mut name = io::buffer();
+    let n = os::arg(1, &mut name);
+    if os::errno() != 0 {
+        os::fail(b"tape");
+        return store::NONE;
+    }
+    let file = os::open_overwrite(&name[..n]);
+    if file < 0 {
+        os::fail(&name[..n]);
+    }
+    file
+}
+
+fn play(file: i32, number: u32) {
+    let mut line = [0u8; LONGEST];
+    let mut tape = io::large_buffer();
+    play_lines(file, number, &mut line, &mut tape);
+}
+
+// Lines are counted down from more than there can be, since nothing says that the input ends.
+fn play_lines(file: i32, number: u32, line: &mut [u8], tape: &mut [u8]) {
+    let mut session = Session::fresh();
+    let mut writer = Writer::new(number);
+    let mut left: usize = 0x7FFF_FFFF_FFFF_FFFF;
+    while 0 < left {
+        let t = next(session, writer, file, line, tape);
+        if !t.goes_on {
+            return;
+        }
+        session = t.session;
+        writer = t.writer;
+        left -= 1;
+    }
+}
