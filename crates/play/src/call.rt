@@ -86,7 +86,7 @@ fn play(s: Session, writer: Writer, file: i32, kind: u8, payload: &[u8], tape: &
     let reply = step.reply;
     let kept = record(writer, kind, payload, reply, &command, session, tape);
     let next = kept.writer;
-    let stored = store(file, tape, writer.used, next.used);
+    let stored = store(file, tape, writer.used, kept);
     if stored {
         print_reply(session, reply, &command);
     }

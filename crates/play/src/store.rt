@@ -1,22 +1,42 @@
 // The tape's file. A descriptor below 0 stands for no file.
+use libc::STDERR_FILENO;
+use tape::Appended;
 use tape::block_at;
 
 // No file.
 pub const NONE: i32 = -1;
 
-// Stores the blocks from one number up to another, in order, and answers whether the file took them.
-pub fn store(file: i32, tape: &[u8], from: usize, to: usize) -> bool {
+// Stores the blocks that an append has added to those before it, and answers whether all that was due is stored.
+pub fn store(file: i32, tape: &[u8], before: usize, kept: Appended) -> bool {
     if file < 0 {
         return true;
     }
+    let writer = kept.writer;
+    if store_blocks(file, tape, before, writer.used) {
+        is_all_kept(kept.refusal)
+    } else {
+        os::fail(b"tape");
+        false
+    }
+}
+
+fn is_all_kept(refusal: u8) -> bool {
+    if refusal == 0 {
+        true
+    } else {
+        io::write_all(STDERR_FILENO, b"tape: full\n");
+        false
+    }
+}
+
+// The blocks from one number up to another, in order, as far as the file takes them.
+fn store_blocks(file: i32, tape: &[u8], from: usize, to: usize) -> bool {
     let mut i = from;
     while i < to {
-        if io::write_all(file, block_at(tape, i)) {
-            i += 1;
-        } else {
-            os::fail(b"tape");
+        if !io::write_all(file, block_at(tape, i)) {
             return false;
         }
+        i += 1;
     }
     true
 }
