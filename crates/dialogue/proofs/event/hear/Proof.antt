@@ -14,11 +14,27 @@ use Rattle.dialogue.proofs.event.hear.Tie as tie
 
 returns : tie.Need-returns
 unfolding heardAs heard
-returns c = let s = c .before .before .before .before .before .before .before .before .before .before .before .args .s in let h = c .before .before .before .before .before .before .before .before .before .before .before .args .h .now in let buf = c .before .before .before .before .before .before .before .before .before .before .before .args .buf .now in let reply = c .before .before .before .before .before .before .reply .given .0 .0 in c .before .before .request-second .ensures ∙ (ap (λ (x : List ℕ). moved (replied (late s) reply x) s buf) (c .before .before .before .before .code-in .ensures) ∙ sym (ap (λ (x : Heard). heardAs x s h buf) (sym (c .before .before .before .before .before .before .before .before .reply-of .ensures) ∙ c .before .before .before .before .before .before .reply .given .1)))
+returns c =
+    let args = c .before .before .before .before .before .before .before .before .before .before .before .args in
+    let s = args .s in
+    let h = args .h .now in
+    let buf = args .buf .now in
+    let reply = c .before .before .before .before .before .before .reply .given .0 .0 in
+    c .before .before .request-second .ensures
+    ∙ (ap (λ (x : List ℕ). moved (replied (late s) reply x) s buf) (c .before .before .before .before .code-in .ensures)
+    ∙ sym
+    (ap (λ (x : Heard). heardAs x s h buf) (sym (c .before .before .before .before .before .before .before .before .reply-of .ensures)
+    ∙ c .before .before .before .before .before .before .reply .given .1)))
 
 returns-2 : tie.Need-returns-2
 unfolding heardAs
-returns-2 c = let s = c .before .before .before .before .before .before .args .s in let h = c .before .before .before .before .before .before .args .h .now in let buf = c .before .before .before .before .before .before .args .buf .now in stays s buf (c .stay .ensures) ∙ sym (ap (λ (x : Heard). heardAs x s h buf) (sym (c .before .before .before .reply-of .ensures) ∙ c .before .enum-told .given .1))
+returns-2 c =
+    let args = c .before .before .before .before .before .before .args in
+    let s = args .s in
+    let h = args .h .now in
+    let buf = args .buf .now in
+    stays s buf (c .stay .ensures)
+    ∙ sym (ap (λ (x : Heard). heardAs x s h buf) (sym (c .before .before .before .reply-of .ensures) ∙ c .before .enum-told .given .1))
 
 pub hear-spec : {M : Type 1} → statement M
 hear-spec =

@@ -16,7 +16,12 @@ use Rattle.dialogue.proofs.event.start.Tie as tie
 
 returns : tie.Need-returns
 unfolding started opened commandOf situationOf situationBegun awaiting cursorAsking begun stateAt changed
-returns c = let b = c .before .before .before .before .before .before .before .args .terminal .now in let buf = c .before .before .before .before .before .before .before .args .buf .now in asking (begun b) buf (selecting (situationBegun (readingOf b))) refl (c .before .before .before .select .ensures .0) (c .before .before .before .select .ensures .1) refl (zeros 5) (zeros 2) start (c .begun .ensures) refl refl refl
+returns c =
+    let args = c .before .before .before .before .before .before .before .args in
+    let b = args .terminal .now in
+    let buf = args .buf .now in
+    asking (begun b) buf (selecting (situationBegun (readingOf b))) refl (c .before .before .before .select .ensures .0)
+    (c .before .before .before .select .ensures .1) refl (zeros 5) (zeros 2) start (c .begun .ensures) refl refl refl
 
 pub start-spec : {M : Type 1} → statement M
 start-spec = tie.close (tie.spec (λ c κs. search needs) (λ c κs. search needs) (λ c. search needs) returns)

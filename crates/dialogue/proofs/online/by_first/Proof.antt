@@ -16,15 +16,36 @@ use Rattle.dialogue.proofs.online.by_first.Tie as tie
 
 returns : tie.Need-returns
 unfolding byFirst decided
-returns c = let s = c .before .before .before .args .s in let buf = c .before .before .before .args .buf .now in late-decided s buf 1 0 (c .decide .ensures) ∙ sym (ap (λ (p : Phase). moved p s buf) (pick-yes _ _ _ (eq-eqb (c .before .before .before .args .kind) 1 (c .before .if1 .taken))))
+returns c =
+    let args = c .before .before .before .args in
+    let s = args .s in
+    let buf = args .buf .now in
+    late-decided s buf 1 0 (c .decide .ensures)
+    ∙ sym (ap (λ (p : Phase). moved p s buf) (pick-yes _ _ _ (eq-eqb (args .kind) 1 (c .before .if1 .taken))))
 
 returns-2 : tie.Need-returns-2
 unfolding byFirst decided
-returns-2 c = let s = c .before .before .before .before .args .s in let buf = c .before .before .before .before .args .buf .now in let k = c .before .before .before .before .args .kind in late-decided s buf 2 0 (c .decide2 .ensures) ∙ sym (ap (λ (p : Phase). moved p s buf) (pick-no _ _ _ (ne-eqb k 1 (c .before .before .if1 .left)) ∙ pick-yes _ _ _ (eq-eqb k 0 (c .before .if2 .taken))))
+returns-2 c =
+    let args = c .before .before .before .before .args in
+    let s = args .s in
+    let buf = args .buf .now in
+    let k = args .kind in
+    late-decided s buf 2 0 (c .decide2 .ensures)
+    ∙ sym
+    (ap (λ (p : Phase). moved p s buf) (pick-no _ _ _ (ne-eqb k 1 (c .before .before .if1 .left))
+    ∙ pick-yes _ _ _ (eq-eqb k 0 (c .before .if2 .taken))))
 
 returns-3 : tie.Need-returns-3
 unfolding byFirst decided
-returns-3 c = let s = c .before .before .before .before .before .before .before .args .s in let buf = c .before .before .before .before .before .before .before .args .buf .now in let k = c .before .before .before .before .before .before .before .args .kind in c .before .before .go-online .ensures ∙ sym (ap (λ (p : Phase). moved p s buf) (pick-no _ _ _ (ne-eqb k 1 (c .before .before .before .before .before .if1 .left)) ∙ pick-no _ _ _ (ne-eqb k 0 (c .before .before .before .before .if2 .left))))
+returns-3 c =
+    let args = c .before .before .before .before .before .before .before .args in
+    let s = args .s in
+    let buf = args .buf .now in
+    let k = args .kind in
+    c .before .before .go-online .ensures
+    ∙ sym
+    (ap (λ (p : Phase). moved p s buf) (pick-no _ _ _ (ne-eqb k 1 (c .before .before .before .before .before .if1 .left))
+    ∙ pick-no _ _ _ (ne-eqb k 0 (c .before .before .before .before .if2 .left))))
 
 pub by-first-spec : {M : Type 1} → statement M
 by-first-spec =

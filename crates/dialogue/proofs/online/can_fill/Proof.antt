@@ -8,10 +8,17 @@ use Rattle.dialogue.proofs.online.can_fill.Statement.{statement}
 use Rattle.dialogue.proofs.online.can_fill.Tie as tie
 
 slice-aggregate-is-fillable : tie.Need-slice-aggregate-is-fillable
-slice-aggregate-is-fillable c = run-count (c .before .before .before .args .list) (c .before .before .size-of .result) (c .before .bytes-of .result) (c .before .bytes-of .ensures .0) (c .before .before .size-of .ensures .0) (c .before .before .size-of .ensures .1) (c .before .before .size-of .ensures .2)
+slice-aggregate-is-fillable c =
+    run-count (c .before .before .before .args .list) (c .before .before .size-of .result) (c .before .bytes-of .result)
+    (c .before .bytes-of .ensures .0) (c .before .before .size-of .ensures .0) (c .before .before .size-of .ensures .1)
+    (c .before .before .size-of .ensures .2)
 
 returns : tie.Need-returns
-returns c = c .is-fillable .ensures ∙ ap fillable (run-part (c .before .before .before .before .args .list) (c .before .before .before .size-of .result) (c .before .before .bytes-of .result) (c .before .before .bytes-of .ensures .0) (c .before .before .before .size-of .ensures .0))
+returns c =
+    c .is-fillable .ensures
+    ∙ ap fillable
+    (run-part (c .before .before .before .before .args .list) (c .before .before .before .size-of .result)
+    (c .before .before .bytes-of .result) (c .before .before .bytes-of .ensures .0) (c .before .before .before .size-of .ensures .0))
 
 pub can-fill-spec : {M : Type 1} → statement M
 can-fill-spec =

@@ -23,11 +23,30 @@ use Rattle.dialogue.proofs.online.go_online.Tie as tie
 
 returns : tie.Need-returns
 unfolding online replied late situationWith
-returns c = let s = c .before .before .before .before .before .before .before .before .before .args .s in let buf = c .before .before .before .before .before .before .before .before .before .args .buf .now in let z = late s in let q = secondRequest Unable (readingOf (s .start)) (issuerCodes z) (s .tvr) in let same = ap (λ (x : List ℕ). pick (fillable (listIn z 0x8D)) (asks (second z q x)) (ended 9 z)) (unable-code q (0 ∷ 0 ∷ []) []) in c .before .before .request-second .ensures ∙ ap (λ (p : Phase). moved p s buf) (same ∙ sym (pick-yes _ _ _ (eq-eqb (readingOf (s .start) .kind) 0 (sym (c .before .before .before .before .before .kind .ensures) ∙ c .before .before .before .before .if1 .taken))))
+returns c =
+    let args = c .before .before .before .before .before .before .before .before .before .args in
+    let s = args .s in
+    let buf = args .buf .now in
+    let z = late s in
+    let q = secondRequest Unable (readingOf (s .start)) (issuerCodes z) (s .tvr) in
+    let same = ap (λ (x : List ℕ). pick (fillable (listIn z 0x8D)) (asks (second z q x)) (ended 9 z)) (unable-code q (0 ∷ 0 ∷ []) []) in
+    c .before .before .request-second .ensures
+    ∙ ap (λ (p : Phase). moved p s buf) (same
+    ∙ sym
+    (pick-yes _ _ _
+    (eq-eqb (readingOf (s .start) .kind) 0
+    (sym (c .before .before .before .before .before .kind .ensures) ∙ c .before .before .before .before .if1 .taken))))
 
 returns-2 : tie.Need-returns-2
 unfolding online late situationWith
-returns-2 c = let s = c .before .before .before .before .before .before .args .s in let buf = c .before .before .before .before .before .before .args .buf .now in late-hears s buf (c .wait .ensures) ∙ sym (ap (λ (p : Phase). moved p s buf) (pick-no _ _ _ (ne-eqb (readingOf (s .start) .kind) 0 (λ e. c .before .if1 .left (c .before .before .kind .ensures ∙ e)))))
+returns-2 c =
+    let args = c .before .before .before .before .before .before .args in
+    let s = args .s in
+    let buf = args .buf .now in
+    late-hears s buf (c .wait .ensures)
+    ∙ sym
+    (ap (λ (p : Phase). moved p s buf)
+    (pick-no _ _ _ (ne-eqb (readingOf (s .start) .kind) 0 (λ e. c .before .if1 .left (c .before .before .kind .ensures ∙ e)))))
 
 pub go-online-spec : {M : Type 1} → statement M
 go-online-spec =

@@ -26,11 +26,34 @@ use Rattle.dialogue.proofs.online.request_second.Tie as tie
 
 returns : tie.Need-returns
 unfolding replied late situationWith commandOf situationOf awaiting cursorAsking listIn factsIn toldLines beside pick inRun
-returns c = let s = c .before .before .before .before .before .before .before .before .before .before .before .before .before .args .s in let buf = c .before .before .before .before .before .before .before .before .before .before .before .before .before .args .buf .now in let reply = c .before .before .before .before .before .before .before .before .before .before .before .before .before .args .reply in let code = c .before .before .before .before .before .before .before .before .before .before .before .before .before .args .code in let q = c .before .before .before .before .before .before .before .second .result in let known = c .before .before .before .before .before .at-second .ensures ∙ ap (λ (x : List ℕ). knownIn (late s) (some x)) (c .before .before .before .before .before .before .response-code .ensures) in let same = ap (λ (k : Known). cryptogramCommand (p1Of q) (filling (readingOf (s .start)) k (inRun (s .told .«second_list»)))) known in asking-on s buf (second (late s) q (responseCode reply q code)) same (c .before .before .before .generate .ensures .0) (c .before .before .before .generate .ensures .1) (c .wait .ensures) refl refl refl ∙ (ap (λ (x : Cryptogram). moved (asks (second (late s) x (responseCode reply x code))) s buf) (c .before .before .before .before .before .before .before .second .ensures) ∙ sym (ap (λ (p : Phase). moved p s buf) (pick-yes _ _ _ (sym (c .before .before .before .before .before .before .before .before .before .can-fill .ensures) ∙ c .before .before .before .before .before .before .before .before .if1 .taken))))
+returns c =
+    let args = c .before .before .before .before .before .before .before .before .before .before .before .before .before .args in
+    let s = args .s in
+    let buf = args .buf .now in
+    let reply = args .reply in
+    let code = args .code in
+    let q = c .before .before .before .before .before .before .before .second .result in
+    let known = c .before .before .before .before .before .at-second .ensures ∙ ap (λ (x : List ℕ). knownIn (late s) (some x))
+    (c .before .before .before .before .before .before .response-code .ensures) in
+    let same = ap (λ (k : Known). cryptogramCommand (p1Of q) (filling (readingOf (s .start)) k (inRun (s .told .«second_list»)))) known in
+    asking-on s buf (second (late s) q (responseCode reply q code)) same (c .before .before .before .generate .ensures .0)
+    (c .before .before .before .generate .ensures .1) (c .wait .ensures) refl refl refl
+    ∙ (ap (λ (x : Cryptogram). moved (asks (second (late s) x (responseCode reply x code))) s buf)
+    (c .before .before .before .before .before .before .before .second .ensures)
+    ∙ sym
+    (ap (λ (p : Phase). moved p s buf)
+    (pick-yes _ _ _
+    (sym (c .before .before .before .before .before .before .before .before .before .can-fill .ensures)
+    ∙ c .before .before .before .before .before .before .before .before .if1 .taken))))
 
 returns-2 : tie.Need-returns-2
 unfolding replied ended late situationWith listIn factsIn toldLines beside pick inRun
-returns-2 c = let s = c .before .before .before .before .before .before .args .s in let buf = c .before .before .before .before .before .before .args .buf .now in late-decided s buf 3 9 (c .end .ensures) ∙ sym (ap (λ (p : Phase). moved p s buf) (pick-no _ _ _ (sym (c .before .before .can-fill .ensures) ∙ c .before .if1 .left)))
+returns-2 c =
+    let args = c .before .before .before .before .before .before .args in
+    let s = args .s in
+    let buf = args .buf .now in
+    late-decided s buf 3 9 (c .end .ensures)
+    ∙ sym (ap (λ (p : Phase). moved p s buf) (pick-no _ _ _ (sym (c .before .before .can-fill .ensures) ∙ c .before .if1 .left)))
 
 pub request-second-spec : {M : Type 1} → statement M
 request-second-spec =

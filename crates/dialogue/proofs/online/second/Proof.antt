@@ -9,7 +9,10 @@ use Rattle.dialogue.proofs.online.second.Statement.{statement}
 use Rattle.dialogue.proofs.online.second.Tie as tie
 
 returns : tie.Need-returns
-returns c = let a = c .before .before .before .before .before .args in c .second-request .ensures ∙ ap (λ (x : IssuerCodes). secondRequest (a .reply) (readingOf (a .s .start)) x (a .s .tvr)) (c .before .codes .ensures)
+returns c =
+    let a = c .before .before .before .before .before .args in
+    c .second-request .ensures
+    ∙ ap (λ (x : IssuerCodes). secondRequest (a .reply) (readingOf (a .s .start)) x (a .s .tvr)) (c .before .codes .ensures)
 
 pub second-spec : {M : Type 1} → statement M
 second-spec = tie.close (tie.spec (λ c. search needs) (λ c κs. search needs) (λ c κs. search needs) returns)

@@ -24,14 +24,36 @@ use Rattle.dialogue.proofs.reading.all_read.Tie as tie
 
 returns : tie.Need-returns
 unfolding allRead ended late situationWith
-returns c = let s = c .before .before .before .before .args .s in let buf = c .before .before .before .before .args .buf .now in late-decided s buf 3 8 (c .end .ensures) ∙ sym (ap (λ (p : Phase). moved p s buf) (pick-yes _ _ _ (eq-eqb (afterRecords (factsIn (s .told))) 8 (sym (c .before .before .reason .ensures) ∙ c .before .if1 .taken))))
+returns c =
+    let args = c .before .before .before .before .args in
+    let s = args .s in
+    let buf = args .buf .now in
+    late-decided s buf 3 8 (c .end .ensures)
+    ∙ sym
+    (ap (λ (p : Phase). moved p s buf)
+    (pick-yes _ _ _ (eq-eqb (afterRecords (factsIn (s .told))) 8 (sym (c .before .before .reason .ensures) ∙ c .before .if1 .taken))))
 
 request-first-requires : tie.Need-request-first-requires
-request-first-requires c κs = omega (arith, c .before .before .before .reason .ensures, after-small (factsIn (c .before .before .before .before .before .args .s .told)))
+request-first-requires c κs =
+    omega
+    (arith, c .before .before .before .reason .ensures, after-small (factsIn (c .before .before .before .before .before .args .s .told)))
 
 returns-2 : tie.Need-returns-2
 unfolding allRead late situationWith
-returns-2 c = let s = c .before .before .before .before .before .before .before .before .args .s in let buf = c .before .before .before .before .before .before .before .before .args .buf .now in let n = afterRecords (factsIn (s .told)) in let e = c .before .before .before .before .before .before .reason .ensures in let h : n ≡ 8 → ⊥ = λ x. c .before .before .before .before .before .if1 .left (e ∙ x) in c .before .before .request-first .ensures ∙ (ap (λ (t : State). moved (requested (c .before .before .before .before .before .before .reason .result) (late t)) t buf) (c .before .before .before .before .managed .ensures) ∙ (ap (λ (k : ℕ). moved (requested k (late (managedState s))) (managedState s) buf) e ∙ (managed-moved (requested n (late (managedState s))) s buf ∙ (ap (λ (z : Situation). moved (requested n z) s buf) (late-managed s (expiry-told s h)) ∙ sym (ap (λ (p : Phase). moved p s buf) (pick-no _ _ _ (ne-eqb n 8 h)))))))
+returns-2 c =
+    let args = c .before .before .before .before .before .before .before .before .args in
+    let s = args .s in
+    let buf = args .buf .now in
+    let n = afterRecords (factsIn (s .told)) in
+    let e = c .before .before .before .before .before .before .reason .ensures in
+    let h : n ≡ 8 → ⊥ = λ x. c .before .before .before .before .before .if1 .left (e ∙ x) in
+    c .before .before .request-first .ensures
+    ∙ (ap (λ (t : State). moved (requested (c .before .before .before .before .before .before .reason .result) (late t)) t buf)
+    (c .before .before .before .before .managed .ensures)
+    ∙ (ap (λ (k : ℕ). moved (requested k (late (managedState s))) (managedState s) buf) e
+    ∙ (managed-moved (requested n (late (managedState s))) s buf
+    ∙ (ap (λ (z : Situation). moved (requested n z) s buf) (late-managed s (expiry-told s h))
+    ∙ sym (ap (λ (p : Phase). moved p s buf) (pick-no _ _ _ (ne-eqb n 8 h)))))))
 
 pub all-read-spec : {M : Type 1} → statement M
 all-read-spec =

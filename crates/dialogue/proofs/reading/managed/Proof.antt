@@ -13,7 +13,13 @@ use Rattle.dialogue.proofs.reading.managed.Tie as tie
 
 returns : tie.Need-returns
 unfolding managedState
-returns c = let s = c .before .before .before .before .before .before .before .before .before .args .s in let tvr = c .before .before .tvr-after-records .ensures ∙ ap (λ (x : Facts). tvrAfterRecords (readingOf (s .start)) (factsOf x) (s .tvr)) (c .before .before .before .before .facts .ensures) in let tsi = c .before .tsi-after-records .ensures ∙ ap (λ (x : Facts). tsiAfterRecords (factsOf x) (s .tsi)) (c .before .before .before .before .facts .ensures) in c .change .ensures ∙ (λ i. changed (s .phase) (tvr i) (tsi i) (s .cursor) s)
+returns c =
+    let s = c .before .before .before .before .before .before .before .before .before .args .s in
+    let tvr = c .before .before .tvr-after-records .ensures ∙ ap
+    (λ (x : Facts). tvrAfterRecords (readingOf (s .start)) (factsOf x) (s .tvr)) (c .before .before .before .before .facts .ensures) in
+    let tsi = c .before .tsi-after-records .ensures ∙ ap (λ (x : Facts). tsiAfterRecords (factsOf x) (s .tsi))
+    (c .before .before .before .before .facts .ensures) in
+    c .change .ensures ∙ (λ i. changed (s .phase) (tvr i) (tsi i) (s .cursor) s)
 
 pub managed-spec : {M : Type 1} → statement M
 managed-spec =

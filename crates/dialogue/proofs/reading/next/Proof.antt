@@ -10,10 +10,18 @@ use Rattle.dialogue.proofs.reading.next.Statement.{statement}
 use Rattle.dialogue.proofs.reading.next.Tie as tie
 
 slice-aggregate-step : tie.Need-slice-aggregate-step
-slice-aggregate-step c = run-count (c .before .before .before .before .before .args .s .locator) (c .before .before .size-of .result) (c .before .bytes-of .result) (c .before .bytes-of .ensures .0) (c .before .before .size-of .ensures .0) (c .before .before .size-of .ensures .1) (c .before .before .size-of .ensures .2)
+slice-aggregate-step c =
+    run-count (c .before .before .before .before .before .args .s .locator) (c .before .before .size-of .result)
+    (c .before .bytes-of .result) (c .before .bytes-of .ensures .0) (c .before .before .size-of .ensures .0)
+    (c .before .before .size-of .ensures .1) (c .before .before .size-of .ensures .2)
 
 returns : tie.Need-returns
-returns c = let s = c .before .before .before .before .before .before .args .s in c .step .ensures ∙ ap (λ (v : List ℕ). stepped v (s .cursor)) (run-part (s .locator) (c .before .before .before .size-of .result) (c .before .before .bytes-of .result) (c .before .before .bytes-of .ensures .0) (c .before .before .before .size-of .ensures .0))
+returns c =
+    let s = c .before .before .before .before .before .before .args .s in
+    c .step .ensures
+    ∙ ap (λ (v : List ℕ). stepped v (s .cursor))
+    (run-part (s .locator) (c .before .before .before .size-of .result) (c .before .before .bytes-of .result)
+    (c .before .before .bytes-of .ensures .0) (c .before .before .before .size-of .ensures .0))
 
 pub next-spec : {M : Type 1} → statement M
 next-spec =

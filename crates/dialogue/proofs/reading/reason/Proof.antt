@@ -14,11 +14,19 @@ use Rattle.dialogue.proofs.reading.reason.Statement.{statement}
 use Rattle.dialogue.proofs.reading.reason.Tie as tie
 
 slice-aggregate-complete-reason : tie.Need-slice-aggregate-complete-reason
-slice-aggregate-complete-reason c = run-count (c .before .before .before .before .before .before .args .s .told .«first_list») (c .before .before .before .size-of .result) (c .before .before .bytes-of .result) (c .before .before .bytes-of .ensures .0) (c .before .before .before .size-of .ensures .0) (c .before .before .before .size-of .ensures .1) (c .before .before .before .size-of .ensures .2)
+slice-aggregate-complete-reason c =
+    run-count (c .before .before .before .before .before .before .args .s .told .«first_list») (c .before .before .before .size-of .result)
+    (c .before .before .bytes-of .result) (c .before .before .bytes-of .ensures .0) (c .before .before .before .size-of .ensures .0)
+    (c .before .before .before .size-of .ensures .1) (c .before .before .before .size-of .ensures .2)
 
 returns : tie.Need-returns
 unfolding afterRecords factsIn toldLines beside pick inRun
-returns c = let s = c .before .before .before .before .before .before .before .args .s in let list = run-part (s .told .«first_list») (c .before .before .before .before .size-of .result) (c .before .before .before .bytes-of .result) (c .before .before .before .bytes-of .ensures .0) (c .before .before .before .before .size-of .ensures .0) in c .complete-reason .ensures ∙ (λ i. completeReason (c .before .before .seen .ensures i) (list i))
+returns c =
+    let s = c .before .before .before .before .before .before .before .args .s in
+    let list = run-part (s .told .«first_list») (c .before .before .before .before .size-of .result)
+    (c .before .before .before .bytes-of .result) (c .before .before .before .bytes-of .ensures .0)
+    (c .before .before .before .before .size-of .ensures .0) in
+    c .complete-reason .ensures ∙ (λ i. completeReason (c .before .before .seen .ensures i) (list i))
 
 pub reason-spec : {M : Type 1} → statement M
 reason-spec =

@@ -25,11 +25,36 @@ use Rattle.dialogue.proofs.reading.request_first.Tie as tie
 
 returns : tie.Need-returns
 unfolding requested late situationWith
-returns c = let why = c .before .before .before .args .why in let s = c .before .before .before .args .s in let buf = c .before .before .before .args .buf .now in late-decided s buf 3 why (c .end .ensures) ∙ sym (reason-ended why why (late s) (asks (first (late s) (firstRequest (readingOf (s .start)) (issuerCodes (late s)) (s .tvr)))) s buf refl (c .before .if1 .taken))
+returns c =
+    let args = c .before .before .before .args in
+    let why = args .why in
+    let s = args .s in
+    let buf = args .buf .now in
+    late-decided s buf 3 why (c .end .ensures)
+    ∙ sym
+    (reason-ended why why (late s) (asks (first (late s) (firstRequest (readingOf (s .start)) (issuerCodes (late s)) (s .tvr)))) s buf refl
+    (c .before .if1 .taken))
 
 returns-2 : tie.Need-returns-2
 unfolding requested late situationWith commandOf situationOf awaiting cursorAsking listIn factsIn toldLines beside pick inRun
-returns-2 c = let why = c .before .before .before .before .before .before .before .before .before .before .before .before .before .before .before .args .why in let s = c .before .before .before .before .before .before .before .before .before .before .before .before .before .before .before .args .s in let buf = c .before .before .before .before .before .before .before .before .before .before .before .before .before .before .before .args .buf .now in let q = c .before .before .before .before .before .before .first-request .result in let asked = c .before .before .before .before .before .before .first-request .ensures ∙ ap (λ (x : IssuerCodes). firstRequest (readingOf (s .start)) x (s .tvr)) (c .before .before .before .before .before .before .before .codes .ensures) in let same = ap (λ (k : Known). cryptogramCommand (p1Of q) (filling (readingOf (s .start)) k (inRun (s .told .«first_list»)))) (c .before .before .before .before .before .at-first .ensures) in asking-on s buf (first (late s) q) same (c .before .before .before .generate .ensures .0) (c .before .before .before .generate .ensures .1) (c .wait .ensures) refl refl refl ∙ (ap (λ (x : Cryptogram). moved (asks (first (late s) x)) s buf) asked ∙ sym (reason-next why why (late s) (asks (first (late s) (firstRequest (readingOf (s .start)) (issuerCodes (late s)) (s .tvr)))) s buf refl (c .before .before .before .before .before .before .before .before .before .before .before .before .before .if1 .left)))
+returns-2 c =
+    let args = c .before .before .before .before .before .before .before .before .before .before .before .before .before .before .before
+    .args in
+    let why = args .why in
+    let s = args .s in
+    let buf = args .buf .now in
+    let q = c .before .before .before .before .before .before .first-request .result in
+    let asked = c .before .before .before .before .before .before .first-request .ensures ∙ ap
+    (λ (x : IssuerCodes). firstRequest (readingOf (s .start)) x (s .tvr))
+    (c .before .before .before .before .before .before .before .codes .ensures) in
+    let same = ap (λ (k : Known). cryptogramCommand (p1Of q) (filling (readingOf (s .start)) k (inRun (s .told .«first_list»))))
+    (c .before .before .before .before .before .at-first .ensures) in
+    asking-on s buf (first (late s) q) same (c .before .before .before .generate .ensures .0)
+    (c .before .before .before .generate .ensures .1) (c .wait .ensures) refl refl refl
+    ∙ (ap (λ (x : Cryptogram). moved (asks (first (late s) x)) s buf) asked
+    ∙ sym
+    (reason-next why why (late s) (asks (first (late s) (firstRequest (readingOf (s .start)) (issuerCodes (late s)) (s .tvr)))) s buf refl
+    (c .before .before .before .before .before .before .before .before .before .before .before .before .before .if1 .left)))
 
 pub request-first-spec : {M : Type 1} → statement M
 request-first-spec =

@@ -27,11 +27,35 @@ end-requires c κs = omega (arith, c .before .options-reason .ensures, options-s
 
 returns : tie.Need-returns
 unfolding turn optioned keeping
-returns c = let s = c .before .before .before .before .before .args .s in let a = c .before .before .before .before .before .args .a .now in let buf = c .before .before .before .before .before .args .buf .now in let why = c .before .before .options-reason .result in let e = c .before .before .options-reason .ensures in let next = readOn (withProfile (early s) (profileOf a)) (toRead (locatorOf a)) in early-decided s buf 3 why (c .end .ensures) ∙ sym (ap (λ (t : State). moved (optioned (early s) a) t buf) (pick-no _ _ _ (ne-eqb (optionsReason a) 0 (λ z. c .before .if1 .taken (e ∙ z)))) ∙ reason-ended why (optionsReason a) (early s) next s buf e (c .before .if1 .taken))
+returns c =
+    let args = c .before .before .before .before .before .args in
+    let s = args .s in
+    let a = args .a .now in
+    let buf = args .buf .now in
+    let why = c .before .before .options-reason .result in
+    let e = c .before .before .options-reason .ensures in
+    let next = readOn (withProfile (early s) (profileOf a)) (toRead (locatorOf a)) in
+    early-decided s buf 3 why (c .end .ensures)
+    ∙ sym (ap (λ (t : State). moved (optioned (early s) a) t buf) (pick-no _ _ _ (ne-eqb (optionsReason a) 0 (λ z. c .before .if1 .taken (e ∙ z))))
+    ∙ reason-ended why (optionsReason a) (early s) next s buf e (c .before .if1 .taken))
 
 returns-2 : tie.Need-returns-2
 unfolding turn optioned keeping
-returns-2 c = let s = c .before .before .before .before .before .before .before .before .before .args .s in let a = c .before .before .before .before .before .before .before .before .before .args .a .now in let buf = c .before .before .before .before .before .before .before .before .before .args .buf .now in let why = c .before .before .before .before .before .before .options-reason .result in let e = c .before .before .before .before .before .before .options-reason .ensures in let good = sym e ∙ c .before .before .before .before .before .if1 .left in let next = readOn (withProfile (early s) (profileOf a)) (toRead (locatorOf a)) in let t = withOptions a s in c .before .before .read-on .ensures ∙ (ap (λ (x : State). moved (readOn (late x) (recordsLeft x)) x buf) (c .before .before .before .before .with-options .ensures) ∙ ((λ i. moved (readOn (late-options s a good i) (left-options s a good i)) t buf) ∙ sym (ap (λ (x : State). moved (optioned (early s) a) x buf) (pick-yes _ _ _ (eq-eqb (optionsReason a) 0 good)) ∙ reason-next why (optionsReason a) (early s) next t buf e (c .before .before .before .before .before .if1 .left))))
+returns-2 c =
+    let args = c .before .before .before .before .before .before .before .before .before .args in
+    let s = args .s in
+    let a = args .a .now in
+    let buf = args .buf .now in
+    let why = c .before .before .before .before .before .before .options-reason .result in
+    let e = c .before .before .before .before .before .before .options-reason .ensures in
+    let good = sym e ∙ c .before .before .before .before .before .if1 .left in
+    let next = readOn (withProfile (early s) (profileOf a)) (toRead (locatorOf a)) in
+    let t = withOptions a s in
+    c .before .before .read-on .ensures
+    ∙ (ap (λ (x : State). moved (readOn (late x) (recordsLeft x)) x buf) (c .before .before .before .before .with-options .ensures)
+    ∙ ((λ i. moved (readOn (late-options s a good i) (left-options s a good i)) t buf)
+    ∙ sym (ap (λ (x : State). moved (optioned (early s) a) x buf) (pick-yes _ _ _ (eq-eqb (optionsReason a) 0 good))
+    ∙ reason-next why (optionsReason a) (early s) next t buf e (c .before .before .before .before .before .if1 .left))))
 
 pub on-options-spec : {M : Type 1} → statement M
 on-options-spec =

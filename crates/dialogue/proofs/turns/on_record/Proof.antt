@@ -26,15 +26,54 @@ use Rattle.dialogue.proofs.turns.on_record.Statement.{statement}
 use Rattle.dialogue.proofs.turns.on_record.Tie as tie
 
 end-requires : tie.Need-end-requires
-end-requires c κs = omega (arith, c .before .record-reason .ensures, record-small (toldBy (c .before .before .seen .result)) (c .before .before .before .before .before .before .args .a .now))
+end-requires c κs =
+    omega (
+      arith,
+      c .before .record-reason .ensures,
+      record-small (toldBy (c .before .before .seen .result))
+          (c .before .before .before .before .before .before .args .a .now),
+    )
 
 returns : tie.Need-returns
 unfolding turn recorded keeping late situationWith
-returns c = let s = c .before .before .before .before .before .before .before .args .s in let a = c .before .before .before .before .before .before .before .args .a .now in let buf = c .before .before .before .before .before .before .before .args .buf .now in let why = c .before .before .record-reason .result in let e = (c .before .before .record-reason .ensures ∙ ap (λ (x : ℕ → Bool). recordReason x a) (c .before .before .before .seen .ensures)) in let next = readOn (recordAdded (late s) a) (recordsLeft s) in late-decided s buf 3 why (c .end .ensures) ∙ sym (ap (λ (t : State). moved (recorded (late s) (recordsLeft s) a) t buf) (pick-no _ _ _ (ne-eqb (recordReason (λ name. isSome (factsIn (s .told) name)) a) 0 (λ z. c .before .if1 .taken (e ∙ z)))) ∙ reason-ended why (recordReason (λ name. isSome (factsIn (s .told) name)) a) (late s) next s buf e (c .before .if1 .taken))
+returns c =
+    let args = c .before .before .before .before .before .before .before .args in
+    let s = args .s in
+    let a = args .a .now in
+    let buf = args .buf .now in
+    let why = c .before .before .record-reason .result in
+    let e = (c .before .before .record-reason .ensures ∙ ap (λ (x : ℕ → Bool). recordReason x a) (c .before .before .before .seen .ensures))
+    in
+    let next = readOn (recordAdded (late s) a) (recordsLeft s) in
+    late-decided s buf 3 why (c .end .ensures)
+    ∙ sym (ap (λ (t : State). moved (recorded (late s) (recordsLeft s) a) t buf)
+    (pick-no _ _ _ (ne-eqb (recordReason (λ name. isSome (factsIn (s .told) name)) a) 0 (λ z. c .before .if1 .taken (e ∙ z))))
+    ∙ reason-ended why (recordReason (λ name. isSome (factsIn (s .told) name)) a) (late s) next s buf e (c .before .if1 .taken))
 
 returns-2 : tie.Need-returns-2
 unfolding turn recorded keeping late situationWith recordsLeft withTold
-returns-2 c = let s = c .before .before .before .before .before .before .before .before .before .before .before .before .args .s in let a = c .before .before .before .before .before .before .before .before .before .before .before .before .args .a .now in let buf = c .before .before .before .before .before .before .before .before .before .before .before .before .args .buf .now in let why = c .before .before .before .before .before .before .before .record-reason .result in let e = (c .before .before .before .before .before .before .before .record-reason .ensures ∙ ap (λ (x : ℕ → Bool). recordReason x a) (c .before .before .before .before .before .before .before .before .seen .ensures)) in let good = sym e ∙ c .before .before .before .before .before .before .if1 .left in let next = readOn (recordAdded (late s) a) (recordsLeft s) in let t = withTold (withRecord a (s .told)) s in c .before .before .read-on .ensures ∙ (ap (λ (x : State). moved (readOn (late x) (recordsLeft x)) x buf) (c .before .before .before .before .with-told .ensures ∙ ap (λ (x : Told). withTold x s) (c .before .before .before .before .before .with-record .ensures)) ∙ (ap (λ (z : Situation). moved (readOn z (recordsLeft s)) t buf) (late-told s a good) ∙ sym (ap (λ (x : State). moved (recorded (late s) (recordsLeft s) a) x buf) (pick-yes _ _ _ (eq-eqb (recordReason (λ name. isSome (factsIn (s .told) name)) a) 0 good)) ∙ reason-next why (recordReason (λ name. isSome (factsIn (s .told) name)) a) (late s) next t buf e (c .before .before .before .before .before .before .if1 .left))))
+returns-2 c =
+    let args = c .before .before .before .before .before .before .before .before .before .before .before .before .args in
+    let s = args .s in
+    let a = args .a .now in
+    let buf = args .buf .now in
+    let why = c .before .before .before .before .before .before .before .record-reason .result in
+    let e =
+    (c .before .before .before .before .before .before .before .record-reason .ensures
+    ∙ ap (λ (x : ℕ → Bool). recordReason x a) (c .before .before .before .before .before .before .before .before .seen .ensures))
+    in
+    let good = sym e ∙ c .before .before .before .before .before .before .if1 .left in
+    let next = readOn (recordAdded (late s) a) (recordsLeft s) in
+    let t = withTold (withRecord a (s .told)) s in
+    c .before .before .read-on .ensures
+    ∙ (ap (λ (x : State). moved (readOn (late x) (recordsLeft x)) x buf)
+    (c .before .before .before .before .with-told .ensures
+    ∙ ap (λ (x : Told). withTold x s) (c .before .before .before .before .before .with-record .ensures))
+    ∙ (ap (λ (z : Situation). moved (readOn z (recordsLeft s)) t buf) (late-told s a good)
+    ∙ sym (ap (λ (x : State). moved (recorded (late s) (recordsLeft s) a) x buf)
+    (pick-yes _ _ _ (eq-eqb (recordReason (λ name. isSome (factsIn (s .told) name)) a) 0 good))
+    ∙ reason-next why (recordReason (λ name. isSome (factsIn (s .told) name)) a) (late s) next t buf e
+    (c .before .before .before .before .before .before .if1 .left))))
 
 pub on-record-spec : {M : Type 1} → statement M
 on-record-spec =

@@ -21,19 +21,70 @@ use Rattle.dialogue.proofs.turns.on_second.Statement.{statement}
 use Rattle.dialogue.proofs.turns.on_second.Tie as tie
 
 end-requires : tie.Need-end-requires
-end-requires c κs = omega (arith, c .before .cryptogram-reason .ensures, cryptogram-small (allows (c .before .before .allowed-second .result)) (c .before .before .before .before .before .args .a .now))
+end-requires c κs =
+    omega (
+      arith,
+      c .before .cryptogram-reason .ensures,
+      cryptogram-small (allows (c .before .before .allowed-second .result))
+          (c .before .before .before .before .before .args .a .now),
+    )
 
 returns : tie.Need-returns
 unfolding turn secondAnswered
-returns c = let q = c .before .before .before .before .before .before .args .request in let s = c .before .before .before .before .before .before .args .s in let a = c .before .before .before .before .before .before .args .a .now in let buf = c .before .before .before .before .before .before .args .buf .now in let why = c .before .before .cryptogram-reason .result in late-decided s buf 3 why (c .end .ensures) ∙ sym (reason-ended why (cryptogramReason (secondAllows q) a) (late s) (decided (pick (eqb (cryptogramOf a) 1) approved declined) (late s)) s buf (c .before .before .cryptogram-reason .ensures ∙ ap (λ (x : ℕ → Bool). cryptogramReason x a) (c .before .before .before .allowed-second .ensures)) (c .before .if1 .taken))
+returns c =
+    let args = c .before .before .before .before .before .before .args in
+    let q = args .request in
+    let s = args .s in
+    let a = args .a .now in
+    let buf = args .buf .now in
+    let why = c .before .before .cryptogram-reason .result in
+    late-decided s buf 3 why (c .end .ensures)
+    ∙ sym
+    (reason-ended why (cryptogramReason (secondAllows q) a) (late s) (decided (pick (eqb (cryptogramOf a) 1) approved declined) (late s)) s
+    buf
+    (c .before .before .cryptogram-reason .ensures
+    ∙ ap (λ (x : ℕ → Bool). cryptogramReason x a) (c .before .before .before .allowed-second .ensures))
+    (c .before .if1 .taken))
 
 returns-2 : tie.Need-returns-2
 unfolding turn secondAnswered decided
-returns-2 c = let q = c .before .before .before .before .before .before .before .before .args .request in let s = c .before .before .before .before .before .before .before .before .args .s in let a = c .before .before .before .before .before .before .before .before .args .a .now in let buf = c .before .before .before .before .before .before .before .before .args .buf .now in let why = c .before .before .before .before .cryptogram-reason .result in late-decided s buf 1 0 (c .decide .ensures) ∙ sym (reason-next why (cryptogramReason (secondAllows q) a) (late s) (decided (pick (eqb (cryptogramOf a) 1) approved declined) (late s)) s buf (c .before .before .before .before .cryptogram-reason .ensures ∙ ap (λ (x : ℕ → Bool). cryptogramReason x a) (c .before .before .before .before .before .allowed-second .ensures)) (c .before .before .before .if1 .left) ∙ ap (λ (n : ℕ). moved (decides n 0 (late s)) s buf) (pick-yes _ _ _ (ap (λ (n : ℕ). eqb n 1) (sym (c .before .before .cryptogram .ensures)) ∙ eq-eqb (c .before .before .cryptogram .result) 1 (c .before .if2 .taken))))
+returns-2 c =
+    let args = c .before .before .before .before .before .before .before .before .args in
+    let q = args .request in
+    let s = args .s in
+    let a = args .a .now in
+    let buf = args .buf .now in
+    let why = c .before .before .before .before .cryptogram-reason .result in
+    late-decided s buf 1 0 (c .decide .ensures)
+    ∙ sym (reason-next why (cryptogramReason (secondAllows q) a) (late s) (decided (pick (eqb (cryptogramOf a) 1) approved declined) (late s)) s
+    buf
+    (c .before .before .before .before .cryptogram-reason .ensures
+    ∙ ap (λ (x : ℕ → Bool). cryptogramReason x a) (c .before .before .before .before .before .allowed-second .ensures))
+    (c .before .before .before .if1 .left)
+    ∙ ap (λ (n : ℕ). moved (decides n 0 (late s)) s buf)
+    (pick-yes _ _ _
+    (ap (λ (n : ℕ). eqb n 1) (sym (c .before .before .cryptogram .ensures))
+    ∙ eq-eqb (c .before .before .cryptogram .result) 1 (c .before .if2 .taken))))
 
 returns-3 : tie.Need-returns-3
 unfolding turn secondAnswered decided
-returns-3 c = let q = c .before .before .before .before .before .before .before .before .args .request in let s = c .before .before .before .before .before .before .before .before .args .s in let a = c .before .before .before .before .before .before .before .before .args .a .now in let buf = c .before .before .before .before .before .before .before .before .args .buf .now in let why = c .before .before .before .before .cryptogram-reason .result in late-decided s buf 2 0 (c .decide2 .ensures) ∙ sym (reason-next why (cryptogramReason (secondAllows q) a) (late s) (decided (pick (eqb (cryptogramOf a) 1) approved declined) (late s)) s buf (c .before .before .before .before .cryptogram-reason .ensures ∙ ap (λ (x : ℕ → Bool). cryptogramReason x a) (c .before .before .before .before .before .allowed-second .ensures)) (c .before .before .before .if1 .left) ∙ ap (λ (n : ℕ). moved (decides n 0 (late s)) s buf) (pick-no _ _ _ (ap (λ (n : ℕ). eqb n 1) (sym (c .before .before .cryptogram .ensures)) ∙ ne-eqb (c .before .before .cryptogram .result) 1 (c .before .if2 .left))))
+returns-3 c =
+    let args = c .before .before .before .before .before .before .before .before .args in
+    let q = args .request in
+    let s = args .s in
+    let a = args .a .now in
+    let buf = args .buf .now in
+    let why = c .before .before .before .before .cryptogram-reason .result in
+    late-decided s buf 2 0 (c .decide2 .ensures)
+    ∙ sym (reason-next why (cryptogramReason (secondAllows q) a) (late s) (decided (pick (eqb (cryptogramOf a) 1) approved declined) (late s)) s
+    buf
+    (c .before .before .before .before .cryptogram-reason .ensures
+    ∙ ap (λ (x : ℕ → Bool). cryptogramReason x a) (c .before .before .before .before .before .allowed-second .ensures))
+    (c .before .before .before .if1 .left)
+    ∙ ap (λ (n : ℕ). moved (decides n 0 (late s)) s buf)
+    (pick-no _ _ _
+    (ap (λ (n : ℕ). eqb n 1) (sym (c .before .before .cryptogram .ensures))
+    ∙ ne-eqb (c .before .before .cryptogram .result) 1 (c .before .if2 .left))))
 
 pub on-second-spec : {M : Type 1} → statement M
 on-second-spec =

@@ -21,15 +21,40 @@ use Rattle.dialogue.proofs.turns.on_select.Statement.{statement}
 use Rattle.dialogue.proofs.turns.on_select.Tie as tie
 
 end-requires : tie.Need-end-requires
-end-requires c κs = omega (arith, c .before .select-reason .ensures, select-small (readingOf (c .before .before .before .before .before .before .args .s .start)) (c .before .before .before .before .before .before .args .a .now))
+end-requires c κs =
+    let args = c .before .before .before .before .before .before .args in
+    omega (arith, c .before .select-reason .ensures, select-small (readingOf (args .s .start)) (args .a .now))
 
 returns : tie.Need-returns
 unfolding turn selected keeping early situationWith
-returns c = let s = c .before .before .before .before .before .before .before .args .s in let a = c .before .before .before .before .before .before .before .args .a .now in let buf = c .before .before .before .before .before .before .before .args .buf .now in let why = c .before .before .select-reason .result in early-decided s buf 3 why (c .end .ensures) ∙ sym (reason-ended why (selectReason (readingOf (s .start)) a) (early s) (asks (optioning (early s) (pdolOf a))) s buf (c .before .before .select-reason .ensures) (c .before .if1 .taken))
+returns c =
+    let args = c .before .before .before .before .before .before .before .args in
+    let s = args .s in
+    let a = args .a .now in
+    let buf = args .buf .now in
+    let why = c .before .before .select-reason .result in
+    early-decided s buf 3 why (c .end .ensures)
+    ∙ sym
+    (reason-ended why (selectReason (readingOf (s .start)) a) (early s) (asks (optioning (early s) (pdolOf a))) s buf
+    (c .before .before .select-reason .ensures) (c .before .if1 .taken))
 
 returns-2 : tie.Need-returns-2
 unfolding turn selected keeping early situationWith commandOf situationOf awaiting cursorAsking
-returns-2 c = let s = c .before .before .before .before .before .before .before .before .before .before .before .before .before .before .args .s in let a = c .before .before .before .before .before .before .before .before .before .before .before .before .before .before .args .a .now in let buf = c .before .before .before .before .before .before .before .before .before .before .before .before .before .before .args .buf .now in let why = c .before .before .before .before .before .before .before .before .before .select-reason .result in let same = ap₂ (λ (k : Known) (l : List ℕ). optionsCommand (filling (readingOf (s .start)) k l)) (c .before .before .before .before .before .at-options .ensures) (c .before .before .before .before .before .before .before .pdol .ensures) in asking-on s buf (optioning (early s) (pdolOf a)) same (c .before .before .before .options .ensures .0) (c .before .before .before .options .ensures .1) (c .wait .ensures) refl refl refl ∙ sym (reason-next why (selectReason (readingOf (s .start)) a) (early s) (asks (optioning (early s) (pdolOf a))) s buf (c .before .before .before .before .before .before .before .before .before .select-reason .ensures) (c .before .before .before .before .before .before .before .before .if1 .left))
+returns-2 c =
+    let args = c .before .before .before .before .before .before .before .before .before .before .before .before .before .before .args in
+    let s = args .s in
+    let a = args .a .now in
+    let buf = args .buf .now in
+    let why = c .before .before .before .before .before .before .before .before .before .select-reason .result in
+    let same = ap₂ (λ (k : Known) (l : List ℕ). optionsCommand (filling (readingOf (s .start)) k l))
+    (c .before .before .before .before .before .at-options .ensures)
+    (c .before .before .before .before .before .before .before .pdol .ensures) in
+    asking-on s buf (optioning (early s) (pdolOf a)) same (c .before .before .before .options .ensures .0)
+    (c .before .before .before .options .ensures .1) (c .wait .ensures) refl refl refl
+    ∙ sym
+    (reason-next why (selectReason (readingOf (s .start)) a) (early s) (asks (optioning (early s) (pdolOf a))) s buf
+    (c .before .before .before .before .before .before .before .before .before .select-reason .ensures)
+    (c .before .before .before .before .before .before .before .before .if1 .left))
 
 pub on-select-spec : {M : Type 1} → statement M
 on-select-spec =

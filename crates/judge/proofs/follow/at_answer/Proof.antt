@@ -16,11 +16,25 @@ use Rattle.judge.proofs.follow.at_answer.Tie as tie
 
 returns : tie.Need-returns
 unfolding atAnswer
-returns c = let j = c .before .before .before .args .j in let i = c .before .before .before .args .index in let kind = c .before .before .before .args .kind in let p = c .before .before .before .args .payload .now in c .at-silence .ensures ∙ sym (pick-no _ _ _ (ne-eqb kind answer (c .before .if1 .taken)))
+returns c =
+    let args = c .before .before .before .args in
+    let j = args .j in
+    let i = args .index in
+    let kind = args .kind in
+    let p = args .payload .now in
+    c .at-silence .ensures ∙ sym (pick-no _ _ _ (ne-eqb kind answer (c .before .if1 .taken)))
 
 returns-2 : tie.Need-returns-2
 unfolding atAnswer
-returns-2 c = let j = c .before .before .before .before .before .before .before .before .before .args .j in let i = c .before .before .before .before .before .before .before .before .before .args .index in let kind = c .before .before .before .before .before .before .before .before .before .args .kind in let p = c .before .before .before .before .before .before .before .before .before .args .payload .now in as-moving (c .before .before .before .answer .result) (c .stage-of .result) (c .before .before .before .answer .last .1 .1 .0) (answered (j .state) p (j .command)) (c .stage-of .ensures) (c .before .before .before .answer .ensures) ∙ sym (pick-yes _ _ _ (eq-eqb kind answer (c .before .before .before .before .before .before .before .if1 .left)))
+returns-2 c =
+    let args = c .before .before .before .before .before .before .before .before .before .args in
+    let j = args .j in
+    let i = args .index in
+    let kind = args .kind in
+    let p = args .payload .now in
+    as-moving (c .before .before .before .answer .result) (c .stage-of .result) (c .before .before .before .answer .last .1 .1 .0)
+    (answered (j .state) p (j .command)) (c .stage-of .ensures) (c .before .before .before .answer .ensures)
+    ∙ sym (pick-yes _ _ _ (eq-eqb kind answer (c .before .before .before .before .before .before .before .if1 .left)))
 
 pub at-answer-spec : {M : Type 1} → statement M
 at-answer-spec =

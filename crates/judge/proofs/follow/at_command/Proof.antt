@@ -15,15 +15,46 @@ use Rattle.judge.proofs.follow.at_command.Tie as tie
 
 returns : tie.Need-returns
 unfolding atCommand
-returns c = let j = c .before .before .before .args .j in let i = c .before .before .before .args .index in let kind = c .before .before .before .args .kind in let p = c .before .before .before .args .payload .now in c .stage .ensures ∙ other-kind kind command (same p (take (c .before .before .before .args .n) (j .command))) (staged Answer j) (staged (Broken i) j) (c .before .if1 .taken)
+returns c =
+    let args = c .before .before .before .args in
+    let j = args .j in
+    let i = args .index in
+    let kind = args .kind in
+    let p = args .payload .now in
+    c .stage .ensures
+    ∙ other-kind kind command (same p (take (args .n) (j .command))) (staged Answer j) (staged (Broken i) j) (c .before .if1 .taken)
 
 returns-2 : tie.Need-returns-2
 unfolding atCommand
-returns-2 c = let j = c .before .before .before .before .before .before .before .before .args .j in let i = c .before .before .before .before .before .before .before .before .args .index in let kind = c .before .before .before .before .before .before .before .before .args .kind in let p = c .before .before .before .before .before .before .before .before .args .payload .now in c .stage2 .ensures ∙ test-holds kind command (same p (take (c .before .before .before .before .before .before .before .before .args .n) (j .command))) (staged Answer j) (staged (Broken i) j) (c .before .before .before .before .before .before .if1 .left) (sym (c .before .before .same .ensures ∙ ap (same p) (c .before .before .before .part .ensures ∙ ap (take (c .before .before .before .before .before .before .before .before .args .n)) (c .before .before .before .before .before .command-of .ensures .0))) ∙ c .before .if2 .taken)
+returns-2 c =
+    let args = c .before .before .before .before .before .before .before .before .args in
+    let j = args .j in
+    let i = args .index in
+    let kind = args .kind in
+    let p = args .payload .now in
+    c .stage2 .ensures
+    ∙ test-holds kind command (same p (take (args .n) (j .command))) (staged Answer j) (staged (Broken i) j)
+    (c .before .before .before .before .before .before .if1 .left)
+    (sym (c .before .before .same .ensures
+    ∙ ap (same p) (c .before .before .before .part .ensures
+    ∙ ap (take (args .n)) (c .before .before .before .before .before .command-of .ensures .0)))
+    ∙ c .before .if2 .taken)
 
 returns-3 : tie.Need-returns-3
 unfolding atCommand
-returns-3 c = let j = c .before .before .before .before .before .before .before .before .args .j in let i = c .before .before .before .before .before .before .before .before .args .index in let kind = c .before .before .before .before .before .before .before .before .args .kind in let p = c .before .before .before .before .before .before .before .before .args .payload .now in c .stage3 .ensures ∙ test-fails kind command (same p (take (c .before .before .before .before .before .before .before .before .args .n) (j .command))) (staged Answer j) (staged (Broken i) j) (c .before .before .before .before .before .before .if1 .left) (sym (c .before .before .same .ensures ∙ ap (same p) (c .before .before .before .part .ensures ∙ ap (take (c .before .before .before .before .before .before .before .before .args .n)) (c .before .before .before .before .before .command-of .ensures .0))) ∙ c .before .if2 .left)
+returns-3 c =
+    let args = c .before .before .before .before .before .before .before .before .args in
+    let j = args .j in
+    let i = args .index in
+    let kind = args .kind in
+    let p = args .payload .now in
+    c .stage3 .ensures
+    ∙ test-fails kind command (same p (take (args .n) (j .command))) (staged Answer j) (staged (Broken i) j)
+    (c .before .before .before .before .before .before .if1 .left)
+    (sym (c .before .before .same .ensures
+    ∙ ap (same p) (c .before .before .before .part .ensures
+    ∙ ap (take (args .n)) (c .before .before .before .before .before .command-of .ensures .0)))
+    ∙ c .before .if2 .left)
 
 pub at-command-spec : {M : Type 1} → statement M
 at-command-spec =

@@ -16,15 +16,37 @@ use Rattle.judge.proofs.follow.at_silence.Tie as tie
 
 returns : tie.Need-returns
 unfolding atSilence
-returns c = let j = c .before .before .before .args .j in let i = c .before .before .before .args .index in let kind = c .before .before .before .args .kind in let p = c .before .before .before .args .payload .now in c .stage .ensures ∙ other-kind kind silence (eqb (length p) 0) (staged Closed j) (staged (Broken i) j) (c .before .if1 .taken)
+returns c =
+    let args = c .before .before .before .args in
+    let j = args .j in
+    let i = args .index in
+    let kind = args .kind in
+    let p = args .payload .now in
+    c .stage .ensures ∙ other-kind kind silence (eqb (length p) 0) (staged Closed j) (staged (Broken i) j) (c .before .if1 .taken)
 
 returns-2 : tie.Need-returns-2
 unfolding atSilence
-returns-2 c = let j = c .before .before .before .before .args .j in let i = c .before .before .before .before .args .index in let kind = c .before .before .before .before .args .kind in let p = c .before .before .before .before .args .payload .now in c .stage2 .ensures ∙ test-fails kind silence (eqb (length p) 0) (staged Closed j) (staged (Broken i) j) (c .before .before .if1 .left) (ne-eqb (length p) 0 (c .before .if2 .taken))
+returns-2 c =
+    let args = c .before .before .before .before .args in
+    let j = args .j in
+    let i = args .index in
+    let kind = args .kind in
+    let p = args .payload .now in
+    c .stage2 .ensures
+    ∙ test-fails kind silence (eqb (length p) 0) (staged Closed j) (staged (Broken i) j) (c .before .before .if1 .left)
+    (ne-eqb (length p) 0 (c .before .if2 .taken))
 
 returns-3 : tie.Need-returns-3
 unfolding atSilence
-returns-3 c = let j = c .before .before .before .before .args .j in let i = c .before .before .before .before .args .index in let kind = c .before .before .before .before .args .kind in let p = c .before .before .before .before .args .payload .now in c .stage3 .ensures ∙ test-holds kind silence (eqb (length p) 0) (staged Closed j) (staged (Broken i) j) (c .before .before .if1 .left) (eq-eqb (length p) 0 (c .before .if2 .left))
+returns-3 c =
+    let args = c .before .before .before .before .args in
+    let j = args .j in
+    let i = args .index in
+    let kind = args .kind in
+    let p = args .payload .now in
+    c .stage3 .ensures
+    ∙ test-holds kind silence (eqb (length p) 0) (staged Closed j) (staged (Broken i) j) (c .before .before .if1 .left)
+    (eq-eqb (length p) 0 (c .before .if2 .left))
 
 pub at-silence-spec : {M : Type 1} → statement M
 at-silence-spec =

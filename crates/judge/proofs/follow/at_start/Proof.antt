@@ -16,15 +16,40 @@ use Rattle.judge.proofs.follow.at_start.Tie as tie
 
 returns : tie.Need-returns
 unfolding atStart
-returns c = let j = c .before .before .before .args .j in let i = c .before .before .before .args .index in let kind = c .before .before .before .args .kind in let p = c .before .before .before .args .payload .now in c .stage .ensures ∙ other-kind kind start (validStart p) (moving (started p (j .command))) (staged (Broken i) j) (c .before .if1 .taken)
+returns c =
+    let args = c .before .before .before .args in
+    let j = args .j in
+    let i = args .index in
+    let kind = args .kind in
+    let p = args .payload .now in
+    c .stage .ensures ∙ other-kind kind start (validStart p) (moving (started p (j .command))) (staged (Broken i) j) (c .before .if1 .taken)
 
 returns-2 : tie.Need-returns-2
 unfolding atStart
-returns-2 c = let j = c .before .before .before .before .before .args .j in let i = c .before .before .before .before .before .args .index in let kind = c .before .before .before .before .before .args .kind in let p = c .before .before .before .before .before .args .payload .now in c .stage2 .ensures ∙ test-fails kind start (validStart p) (moving (started p (j .command))) (staged (Broken i) j) (c .before .before .before .if1 .left) (sym (c .before .before .valid-start .ensures) ∙ not-yes _ (c .before .if2 .taken))
+returns-2 c =
+    let args = c .before .before .before .before .before .args in
+    let j = args .j in
+    let i = args .index in
+    let kind = args .kind in
+    let p = args .payload .now in
+    c .stage2 .ensures
+    ∙ test-fails kind start (validStart p) (moving (started p (j .command))) (staged (Broken i) j) (c .before .before .before .if1 .left)
+    (sym (c .before .before .valid-start .ensures) ∙ not-yes _ (c .before .if2 .taken))
 
 returns-3 : tie.Need-returns-3
 unfolding atStart
-returns-3 c = let j = c .before .before .before .before .before .before .before .before .before .before .args .j in let i = c .before .before .before .before .before .before .before .before .before .before .args .index in let kind = c .before .before .before .before .before .before .before .before .before .before .args .kind in let p = c .before .before .before .before .before .before .before .before .before .before .args .payload .now in as-moving (c .before .before .before .start .result) (c .stage-of .result) (c .before .before .before .start .last .1 .0) (started p (j .command)) (c .stage-of .ensures) (c .before .before .before .start .ensures) ∙ test-holds kind start (validStart p) (moving (started p (j .command))) (staged (Broken i) j) (c .before .before .before .before .before .before .before .before .if1 .left) (sym (c .before .before .before .before .before .before .before .valid-start .ensures) ∙ not-no _ (c .before .before .before .before .before .before .if2 .left))
+returns-3 c =
+    let args = c .before .before .before .before .before .before .before .before .before .before .args in
+    let j = args .j in
+    let i = args .index in
+    let kind = args .kind in
+    let p = args .payload .now in
+    as-moving (c .before .before .before .start .result) (c .stage-of .result) (c .before .before .before .start .last .1 .0)
+    (started p (j .command)) (c .stage-of .ensures) (c .before .before .before .start .ensures)
+    ∙ test-holds kind start (validStart p) (moving (started p (j .command))) (staged (Broken i) j)
+    (c .before .before .before .before .before .before .before .before .if1 .left)
+    (sym (c .before .before .before .before .before .before .before .valid-start .ensures)
+    ∙ not-no _ (c .before .before .before .before .before .before .if2 .left))
 
 pub at-start-spec : {M : Type 1} → statement M
 at-start-spec =

@@ -10,11 +10,25 @@ use Rattle.kernel.proofs.Session.answer.Tie as tie
 
 returns : tie.Need-returns
 unfolding answerCall
-returns c = let s = c .before .before .before .before .before .before .args .self in let x = c .before .before .before .before .before .before .args .a .now in let buf = c .before .before .before .before .before .before .args .command .now in away s buf (accepted (answered (s .state) x buf)) (c .before .before .answer .ensures) (c .turn-away .result) (c .before .if1 .taken) (c .turn-away .ensures)
+returns c =
+    let args = c .before .before .before .before .before .before .args in
+    let s = args .self in
+    let x = args .a .now in
+    let buf = args .command .now in
+    away s buf (accepted (answered (s .state) x buf)) (c .before .before .answer .ensures) (c .turn-away .result) (c .before .if1 .taken)
+    (c .turn-away .ensures)
 
 returns-2 : tie.Need-returns-2
 unfolding answerCall
-returns-2 c = let s = c .before .before .before .before .before .before .before .before .before .before .before .args .self in let x = c .before .before .before .before .before .before .before .before .before .before .before .args .a .now in let buf = c .before .before .before .before .before .before .before .before .before .before .before .args .command .now in took s buf (accepted (answered (s .state) x buf)) (c .before .before .before .before .before .before .before .answer .ensures) (c .accept .result) _ (c .before .before .before .before .before .before .if1 .left) (as-played (c .accept .result) (c .before .before .before .answer2 .result) _ (answered (s .state) x buf) (c .accept .ensures) (c .before .before .before .answer2 .ensures))
+returns-2 c =
+    let args = c .before .before .before .before .before .before .before .before .before .before .before .args in
+    let s = args .self in
+    let x = args .a .now in
+    let buf = args .command .now in
+    took s buf (accepted (answered (s .state) x buf)) (c .before .before .before .before .before .before .before .answer .ensures)
+    (c .accept .result) _ (c .before .before .before .before .before .before .if1 .left)
+    (as-played (c .accept .result) (c .before .before .before .answer2 .result) _ (answered (s .state) x buf) (c .accept .ensures)
+    (c .before .before .before .answer2 .ensures))
 
 pub answer-spec : {M : Type 1} → statement M
 answer-spec =

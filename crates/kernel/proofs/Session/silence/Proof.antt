@@ -11,7 +11,12 @@ use Rattle.kernel.proofs.Session.silence.Tie as tie
 
 returns : tie.Need-returns
 unfolding silenceCall
-returns c = let s = c .before .before .before .before .before .args .self in let buf = c .before .before .before .before .before .args .command .now in away s buf (closedAfter s buf) (c .before .before .silence .ensures) (c .turn-away .result) (c .before .if1 .taken) (c .turn-away .ensures)
+returns c =
+    let args = c .before .before .before .before .before .args in
+    let s = args .self in
+    let buf = args .command .now in
+    away s buf (closedAfter s buf) (c .before .before .silence .ensures) (c .turn-away .result) (c .before .if1 .taken)
+    (c .turn-away .ensures)
 
 returns-2 : tie.Need-returns-2
 unfolding silenceCall closedAfter called

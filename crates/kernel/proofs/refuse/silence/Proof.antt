@@ -11,15 +11,25 @@ use Rattle.kernel.proofs.refuse.silence.Tie as tie
 
 returns : tie.Need-returns
 unfolding silenceRefusal
-returns c = first-decides (c .before .before .before .args .s) (c .before .before .before .args .command .now) _ (c .before .first .ensures) (c .if1 .taken)
+returns c =
+    let args = c .before .before .before .args in
+    first-decides (args .s) (args .command .now) _ (c .before .first .ensures) (c .if1 .taken)
 
 returns-2 : tie.Need-returns-2
 unfolding silenceRefusal
-returns-2 c = sym (first-clear (c .before .before .before .before .before .before .args .s) (c .before .before .before .before .before .before .args .command .now) _ (c .before .before .before .before .first .ensures) (c .before .before .before .if1 .left) ∙ last-no (ap not (c .before .awaits-card .ensures)) 4 (ap not (c .if2 .taken)))
+returns-2 c =
+    let args = c .before .before .before .before .before .before .args in
+    sym (first-clear (args .s) (args .command .now) _ (c .before .before .before .before .first .ensures)
+    (c .before .before .before .if1 .left)
+    ∙ last-no (ap not (c .before .awaits-card .ensures)) 4 (ap not (c .if2 .taken)))
 
 returns-3 : tie.Need-returns-3
 unfolding silenceRefusal
-returns-3 c = sym (first-clear (c .before .before .before .before .before .before .args .s) (c .before .before .before .before .before .before .args .command .now) _ (c .before .before .before .before .first .ensures) (c .before .before .before .if1 .left) ∙ line-yes (ap not (c .before .awaits-card .ensures)) 4 _ (ap not (c .if2 .left)))
+returns-3 c =
+    let args = c .before .before .before .before .before .before .args in
+    sym (first-clear (args .s) (args .command .now) _ (c .before .before .before .before .first .ensures)
+    (c .before .before .before .if1 .left)
+    ∙ line-yes (ap not (c .before .awaits-card .ensures)) 4 _ (ap not (c .if2 .left)))
 
 pub silence-spec : {M : Type 1} → statement M
 silence-spec = tie.close (tie.spec (λ c κs. search needs) returns (λ c κs. search needs) returns-2 returns-3)

@@ -11,19 +11,34 @@ use Rattle.kernel.proofs.refuse.start.Tie as tie
 
 returns : tie.Need-returns
 unfolding startRefusal
-returns c = first-decides (c .before .before .before .before .args .s) (c .before .before .before .before .args .command .now) _ (c .before .first .ensures) (c .if1 .taken)
+returns c =
+    let args = c .before .before .before .before .args in
+    first-decides (args .s) (args .command .now) _ (c .before .first .ensures) (c .if1 .taken)
 
 returns-2 : tie.Need-returns-2
 unfolding startRefusal
-returns-2 c = sym (first-clear (c .before .before .before .before .before .before .args .s) (c .before .before .before .before .before .before .args .command .now) _ (c .before .before .before .first .ensures) (c .before .before .if1 .left) ∙ line-yes (ap not (c .before .valid-start .ensures)) 3 _ (c .if2 .taken))
+returns-2 c =
+    let args = c .before .before .before .before .before .before .args in
+    sym (first-clear (args .s) (args .command .now) _ (c .before .before .before .first .ensures) (c .before .before .if1 .left)
+    ∙ line-yes (ap not (c .before .valid-start .ensures)) 3 _ (c .if2 .taken))
 
 returns-3 : tie.Need-returns-3
 unfolding startRefusal
-returns-3 c = sym (first-clear (c .before .before .before .before .before .before .before .before .before .args .s) (c .before .before .before .before .before .before .before .before .before .args .command .now) _ (c .before .before .before .before .before .before .first .ensures) (c .before .before .before .before .before .if1 .left) ∙ (line-no (ap not (c .before .before .before .before .valid-start .ensures)) 3 _ (c .before .before .before .if2 .left) ∙ last-no (ap not (c .before .awaits-start .ensures)) 4 (ap not (c .if3 .taken))))
+returns-3 c =
+    let args = c .before .before .before .before .before .before .before .before .before .args in
+    sym (first-clear (args .s) (args .command .now) _ (c .before .before .before .before .before .before .first .ensures)
+    (c .before .before .before .before .before .if1 .left)
+    ∙ (line-no (ap not (c .before .before .before .before .valid-start .ensures)) 3 _ (c .before .before .before .if2 .left)
+    ∙ last-no (ap not (c .before .awaits-start .ensures)) 4 (ap not (c .if3 .taken))))
 
 returns-4 : tie.Need-returns-4
 unfolding startRefusal
-returns-4 c = sym (first-clear (c .before .before .before .before .before .before .before .before .before .args .s) (c .before .before .before .before .before .before .before .before .before .args .command .now) _ (c .before .before .before .before .before .before .first .ensures) (c .before .before .before .before .before .if1 .left) ∙ (line-no (ap not (c .before .before .before .before .valid-start .ensures)) 3 _ (c .before .before .before .if2 .left) ∙ line-yes (ap not (c .before .awaits-start .ensures)) 4 _ (ap not (c .if3 .left))))
+returns-4 c =
+    let args = c .before .before .before .before .before .before .before .before .before .args in
+    sym (first-clear (args .s) (args .command .now) _ (c .before .before .before .before .before .before .first .ensures)
+    (c .before .before .before .before .before .if1 .left)
+    ∙ (line-no (ap not (c .before .before .before .before .valid-start .ensures)) 3 _ (c .before .before .before .if2 .left)
+    ∙ line-yes (ap not (c .before .awaits-start .ensures)) 4 _ (ap not (c .if3 .left))))
 
 pub start-spec : {M : Type 1} → statement M
 start-spec =

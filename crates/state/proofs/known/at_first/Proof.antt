@@ -12,7 +12,12 @@ use Rattle.state.proofs.known.at_first.Tie as tie
 
 returns : tie.Need-returns
 unfolding perhaps
-returns c = let s = c .before .before .before .before .before .args .s in c .known-with .ensures ∙ ((λ i. knownWith ((c .before .before .keep .ensures ∙ ap kept (c .before .before .before .before .profile-of .ensures .0)) i) (c .before .absent .ensures i) s) ∙ late-known s none (c .before .before .before .before .profile-of .ensures .1))
+returns c =
+    let s = c .before .before .before .before .before .args .s in
+    c .known-with .ensures
+    ∙
+    ((λ i. knownWith ((c .before .before .keep .ensures ∙ ap kept (c .before .before .before .before .profile-of .ensures .0)) i) (c .before .absent .ensures i) s)
+    ∙ late-known s none (c .before .before .before .before .profile-of .ensures .1))
 
 pub at-first-spec : {M : Type 1} → statement M
 at-first-spec =

@@ -12,7 +12,9 @@ use Rattle.state.proofs.known.at_options.Tie as tie
 
 returns : tie.Need-returns
 unfolding pick beside perhaps profileKnown knownIn toldLines factsIn situationWith early knownWith
-returns c = let s = c .before .before .before .args .s in c .known-with .ensures ∙ (λ i. knownWith (c .before .before .absent .ensures i) (c .before .absent2 .ensures i) s)
+returns c =
+    let s = c .before .before .before .args .s in
+    c .known-with .ensures ∙ (λ i. knownWith (c .before .before .absent .ensures i) (c .before .absent2 .ensures i) s)
 
 pub at-options-spec : {M : Type 1} → statement M
 at-options-spec = tie.close (tie.spec (λ c κs. search needs) (λ c κs. search needs) (λ c κs. search needs) returns)

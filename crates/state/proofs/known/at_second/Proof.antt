@@ -12,7 +12,14 @@ use Rattle.state.proofs.known.at_second.Tie as tie
 
 returns : tie.Need-returns
 unfolding perhaps
-returns c = let s = c .before .before .before .before .before .before .args .s in let r = c .before .before .before .before .before .before .args .t2 in c .known-with .ensures ∙ ((λ i. knownWith ((c .before .before .before .keep .ensures ∙ ap kept (c .before .before .before .before .before .profile-of .ensures .0)) i) (c .before .keep2 .ensures i) s) ∙ late-known s (some r) (c .before .before .before .before .before .profile-of .ensures .1))
+returns c =
+    let args = c .before .before .before .before .before .before .args in
+    let s = args .s in
+    let r = args .t2 in
+    c .known-with .ensures
+    ∙
+    ((λ i. knownWith ((c .before .before .before .keep .ensures ∙ ap kept (c .before .before .before .before .before .profile-of .ensures .0)) i) (c .before .keep2 .ensures i) s)
+    ∙ late-known s (some r) (c .before .before .before .before .before .profile-of .ensures .1))
 
 pub at-second-spec : {M : Type 1} → statement M
 at-second-spec =

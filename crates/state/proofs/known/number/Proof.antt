@@ -11,11 +11,21 @@ use Rattle.state.proofs.known.number.Statement.{statement}
 use Rattle.state.proofs.known.number.Tie as tie
 
 slice-aggregate-keep : tie.Need-slice-aggregate-keep
-slice-aggregate-keep c = let v = c .before .before .before .before .args .v in let n = c .before .size-of in let b = c .before .before .bytes-of in n .ensures .0 ∙ sym (ap length (counting v (n .result) (b .result) (b .ensures .0) (n .ensures .0)))
+slice-aggregate-keep c =
+    let v = c .before .before .before .before .args .v in
+    let n = c .before .size-of in
+    let b = c .before .before .bytes-of in
+    n .ensures .0 ∙ sym (ap length (counting v (n .result) (b .result) (b .ensures .0) (n .ensures .0)))
 
 returns : tie.Need-returns
 unfolding perhaps held
-returns c = let v = c .before .before .before .before .before .args .v in let n = c .before .before .size-of in let b = c .before .before .before .bytes-of in c .keep .ensures ∙ (ap kept (counting v (n .result) (b .result) (b .ensures .0) (n .ensures .0)) ∙ sym (ap perhaps (pick-yes _ _ _ (c .before .before .before .before .if1 .taken))))
+returns c =
+    let v = c .before .before .before .before .before .args .v in
+    let n = c .before .before .size-of in
+    let b = c .before .before .before .bytes-of in
+    c .keep .ensures
+    ∙ (ap kept (counting v (n .result) (b .result) (b .ensures .0) (n .ensures .0))
+    ∙ sym (ap perhaps (pick-yes _ _ _ (c .before .before .before .before .if1 .taken))))
 
 returns-2 : tie.Need-returns-2
 unfolding perhaps held

@@ -16,7 +16,9 @@ unfolding keptVersion zeros
 returns c = let h = c .before .before .before .before .before in let a = h .before .before .args in ap (λ b. record { present = true; bytes = b }) (c .before .lay .ensures) ∙ over-yes keptVersion (a .old) (valueIn (a .name) (a .a .now)) (h .has-value .ensures) (c .before .before .record-value .result .now) (c .before .before .before .before .if1 .taken) (c .before .before .record-value .ensures)
 
 returns-2 : tie.Need-returns-2
-returns-2 c = let a = c .before .before .before .args in over-no keptVersion (a .old) (valueIn (a .name) (a .a .now)) (c .before .has-value .ensures) (c .if1 .left)
+returns-2 c =
+    let a = c .before .before .before .args in
+    over-no keptVersion (a .old) (valueIn (a .name) (a .a .now)) (c .before .has-value .ensures) (c .if1 .left)
 
 pub version-spec : {M : Type 1} → statement M
 version-spec =
