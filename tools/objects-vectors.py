@@ -93,7 +93,7 @@ def text(data):
 def ask_list(data):
     answer = "refused 9"
     if len(data) <= MOST and is_list(data):
-        answer = " ".join(f"{tag_bytes(tag).hex()}:{value.hex()}".upper() for tag, value in walk(data)[0]) or "-"
+        answer = " ".join(member(*found) for found in walk(data)[0]) or "-"
     return f"LIST {text(data)}", answer
 
 
@@ -101,6 +101,19 @@ def ask_find(tag, data):
     values = [value for t, value in walk(data)[0] if t == tag]
     answer = "absent" if not values else "once " + text(values[0]) if len(values) == 1 else "twice"
     return f"FIND {tag:X} {text(data)}", answer
+
+
+def member(tag, value):
+    return f"{tag_bytes(tag).hex()}:{value.hex()}".upper()
+
+
+def ask_held(data):
+    return f"HELD {text(data)}", " ".join(["held"] + [member(*found) for found in walk(data)[0]])
+
+
+def ask_nth(n, data):
+    found = walk(data)[0]
+    return f"NTH {n} {text(data)}", member(*found[n]) if n < len(found) else "-"
 
 
 def ask_data(answer):
@@ -303,7 +316,22 @@ def spellings():
     yield "FIND 9f02 9f0201ff", ask_find(0x9F02, hexed("9F0201FF"))[1]
 
 
-PARTS = (worked_cases, first_length_bytes, depths, sizes, tags, fillers, truncated_heads, random_lists, writes, finds, data_fields, spellings)
+def held_reader():
+    """The reader that holds the bytes: on lists, and up to the break on bytes that are none; each object by its count, and past
+    the last."""
+    chance = Chance(20240602)
+    asked = [hexed(s) for s in ("", "00", "5A", "5A81021234", "5A0212", "0000005A0112000000", "5A01129F80005A0134", "70025A015A0112")]
+    asked += [any_list(chance, 2) for _ in range(60)]
+    asked += [mutated(chance, any_list(chance, 2)) for _ in range(60)]
+    for data in asked:
+        yield ask_held(data)
+        for n in range(len(walk(data)[0]) + 1):
+            yield ask_nth(n, data)
+    yield ask_nth(10 ** 9, hexed("5A0112820219805A0134"))
+
+
+PARTS = (worked_cases, first_length_bytes, depths, sizes, tags, fillers, truncated_heads, random_lists, writes, finds, data_fields, spellings,
+         held_reader)
 
 
 def main():

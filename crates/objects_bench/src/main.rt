@@ -2,8 +2,11 @@
 //
 //     LIST bytes             the direct members as TAG:VALUE, or the refusal
 //     FIND tag bytes         whether the tag stands among them: absent, once with its value, or twice
+//     HELD bytes             the objects that a held reader gives, to the end or to the first bytes that are none
+//     NTH n bytes            the one of them with n others before it
 //     DATA answer            the data field of a card's answer
 //     WRITE tag value room   the object written into a buffer of so many bytes, or the refusal
+mod holding;
 mod read;
 mod write;
 
@@ -33,6 +36,8 @@ fn answer(question: &[u8]) {
     match byte(question, 0) as u8 {
         b'L' => read::list(words),
         b'F' => read::find(words),
+        b'H' => holding::list(words),
+        b'N' => holding::nth(words),
         b'D' => read::data(words),
         b'W' => write::write(words),
         _ => printing::text(b"?"),

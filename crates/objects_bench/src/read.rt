@@ -42,12 +42,12 @@ fn print_others(s: &[u8], from: usize) {
     }
 }
 
-fn print_other(tag: usize, value: &[u8]) {
+pub fn print_other(tag: usize, value: &[u8]) {
     printing::text(b" ");
     print_member(tag, value);
 }
 
-fn print_member(tag: usize, value: &[u8]) {
+pub fn print_member(tag: usize, value: &[u8]) {
     printing::tag(tag);
     printing::text(b":");
     printing::bytes(value);
