@@ -12,14 +12,14 @@ use Rattle.lists.specs.Choice.{pick, firstOf}
 use Rattle.lists.proofs.Choice.{pick-yes, pick-no, picked, either}
 use Rattle.objects.specs.Lookup.{Lookup, absent, once, twice}
 use Rattle.terminal.specs.Reading.{Terminal}
-use Rattle.terminal.proofs.Tests.{first-held}
+use Rattle.lists.proofs.Tests.{first-held}
 use Rattle.object_lists.specs.Wanted.{fillable}
 use Rattle.locator.specs.Entries.{mostRecords, wholeEntries, entriesRight, recordCount, tooMany}
-use Rattle.card_data.specs.Tables.{anyOf, beside}
+use Rattle.lists.specs.Tables.{anyOf, beside}
 use Rattle.card_data.specs.Content.{rules, ruleFor, rightValue, meets}
 use Rattle.card_data.specs.Answer.{isOne, inside, frame}
 use Rattle.card_data.specs.Named.{listed, direct, times, told, valueOf, anyTimes, anyWrong}
-use Rattle.card_data.proofs.Tables.{and-yes}
+use Rattle.lists.proofs.Tables.{and-yes}
 use Rattle.card_data.proofs.Lines.{Numbered}
 use Rattle.card_data.proofs.Accepted.{AllClear, none-applies, or-clear, any-clear, Framed, frame-accepted, named-once, named-right}
 use Rattle.card_data.proofs.Sizes.{sized}

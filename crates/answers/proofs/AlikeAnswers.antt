@@ -13,10 +13,10 @@ use Rattle.lists.proofs.Choice.{pick-yes, pick-no, either}
 use Rattle.objects.specs.Objects.{Object}
 use Rattle.objects.specs.Lookup.{Lookup, absent, once, twice}
 use Rattle.terminal.specs.Reading.{Terminal}
-use Rattle.terminal.specs.Tests.{between}
+use Rattle.lists.specs.Tests.{between}
 use Rattle.object_lists.specs.Wanted.{fillable}
 use Rattle.locator.specs.Entries.{wholeEntries, entriesRight, tooMany}
-use Rattle.card_data.specs.Tables.{anyOf, beside}
+use Rattle.lists.specs.Tables.{anyOf, beside}
 use Rattle.card_data.specs.Content.{meets, rules, ruleFor, rightValue}
 use Rattle.card_data.specs.Answer.{isOne, inside}
 use Rattle.card_data.specs.Named.{membersIn, listed, named, among, direct, times, told, valueOf, wrongValue, anyTimes, anyWrong}

@@ -12,13 +12,13 @@ use lib.ListN.{length, getD, length-append, List·getD-append}
 use borrow.Author.Tests.{ltb-true, ltb-false}
 use Rattle.lists.specs.Choice.{pick}
 use Rattle.lists.proofs.Choice.{pick-yes, pick-no, either}
-use Rattle.terminal.specs.Tests.{between}
+use Rattle.lists.specs.Tests.{between}
 use Rattle.objects.specs.Lookup.{Lookup, absent, once}
-use Rattle.card_data.specs.Tables.{anyOf, beside}
+use Rattle.lists.specs.Tables.{anyOf, beside}
 use Rattle.card_data.specs.Content.{meets, rules, ruleFor, rightValue}
 use Rattle.card_data.specs.Answer.{isOne, inside}
 use Rattle.card_data.specs.Named.{direct, times, told, valueOf, wrongValue, anyTimes, anyWrong}
-use Rattle.card_data.proofs.Tables.{or-no, and-yes, and-no}
+use Rattle.lists.proofs.Tables.{or-no, and-yes, and-no}
 use Rattle.card_data.proofs.Lines.{one-more}
 use Rattle.card_data.proofs.Present.{of-size}
 use Rattle.card_data.proofs.Limits.{between-in, between-above}

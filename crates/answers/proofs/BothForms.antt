@@ -11,14 +11,14 @@ use lib.ListN.{take, drop, length, getD, length-append, List·getD-append}
 use lib.Seq.{take-at, drop-at}
 use Rattle.lists.specs.Choice.{pick, firstOf}
 use Rattle.lists.proofs.Choice.{pick-yes, pick-no}
-use Rattle.terminal.specs.Tests.{every, between}
+use Rattle.lists.specs.Tests.{every, between}
 use Rattle.locator.specs.Entries.{wholeEntries, entriesRight, tooMany}
 use Rattle.objects.specs.Lookup.{Lookup, absent, once, twice}
-use Rattle.card_data.specs.Tables.{anyOf, beside}
+use Rattle.lists.specs.Tables.{anyOf, beside}
 use Rattle.card_data.specs.Content.{meets, rules, ruleFor, rightValue}
 use Rattle.card_data.specs.Answer.{isOne, inside}
 use Rattle.card_data.specs.Named.{direct, times, told, valueOf, wrongValue, anyTimes, anyWrong}
-use Rattle.card_data.proofs.Tables.{or-no, and-yes, and-no}
+use Rattle.lists.proofs.Tables.{or-no, and-yes, and-no}
 use Rattle.card_data.proofs.Lines.{one-more}
 use Rattle.card_data.proofs.Alike.{Alike, frame-alike}
 use Rattle.answers.specs.Forms.{template, joined, bothForms, lacks}

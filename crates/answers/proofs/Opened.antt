@@ -9,9 +9,9 @@ use Rattle.objects.specs.Head.{firstByte, constructed, twoBytes, tagSize, tagOf
 use Rattle.objects.specs.Objects.{between as part, firstObject, isSome, before, rightInside, listed, objects}
 use Rattle.objects.specs.Place.{dataField}
 use Rattle.objects.specs.Lookup.{Lookup, met, lookup}
-use Rattle.terminal.specs.Tests.{every, between}
+use Rattle.lists.specs.Tests.{every, between}
 use Rattle.locator.specs.Entries.{wholeEntries}
-use Rattle.card_data.specs.Tables.{anyOf, beside}
+use Rattle.lists.specs.Tables.{anyOf, beside}
 use Rattle.card_data.specs.CardNumber.{halves, digits, onlyF, cardNumber}
 use Rattle.card_data.specs.Content.{meets, rules, ruleFor, rightValue}
 use Rattle.card_data.specs.Answer.{sizeBad, statusBad, only, outer, tagged, valueUnder, isOne, inside, outerBad, frame}

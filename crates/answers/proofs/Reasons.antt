@@ -12,7 +12,7 @@ use Rattle.lists.specs.Choice.{pick, firstOf}
 use Rattle.lists.proofs.Choice.{picked, either, pick-yes, pick-no}
 use Rattle.terminal.specs.Reading.{Terminal}
 use Rattle.card_data.specs.Answer.{frame}
-use Rattle.card_data.specs.Tables.{anyOf}
+use Rattle.lists.specs.Tables.{anyOf}
 use Rattle.answers.specs.Select.{selectLines, selectReason}
 use Rattle.answers.specs.Options.{optionsLines, optionsReason}
 use Rattle.answers.specs.Records.{recordLines, recordReason, incomplete, completeReason, afterRecords}

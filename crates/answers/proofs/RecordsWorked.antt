@@ -11,7 +11,7 @@ use Rattle.terminal.specs.Decimal.{digitsOnly, decimalByte}
 use Rattle.terminal.specs.Dates.{monthAndDay, validCardDate}
 use Rattle.object_lists.specs.Wanted.{andThen, sizeAt, firstWanted, asks, wantedStep, entriesOf, total, fits, fillable}
 use Rattle.card_data.specs.CardNumber.{halves, digits, onlyF, cardNumber}
-use Rattle.card_data.specs.Tables.{beside}
+use Rattle.lists.specs.Tables.{beside}
 use Rattle.answers.specs.Records.{recordNames, again, anyAgain, recordTwice, recordLines, recordReason, valueIn, incomplete, completeReason, afterRecords}
 use Rattle.answers.proofs.Opened.{one, two, good, joinedAll, opened}
 

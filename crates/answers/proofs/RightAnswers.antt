@@ -11,11 +11,11 @@ use Rattle.lists.specs.Shorter.{counted, shorter}
 use Rattle.objects.specs.Lookup.{Lookup, once}
 use Rattle.terminal.specs.Reading.{Terminal}
 use Rattle.object_lists.specs.Wanted.{wantedStep, entriesOf, total, fits, fillable}
-use Rattle.card_data.specs.Tables.{anyOf, beside}
+use Rattle.lists.specs.Tables.{anyOf, beside}
 use Rattle.card_data.specs.Content.{meets, rules, ruleFor, rightValue}
 use Rattle.card_data.specs.Answer.{frame}
 use Rattle.card_data.specs.Named.{listed, direct, times, told, valueOf, anyTimes, anyWrong}
-use Rattle.card_data.proofs.Tables.{or-no, and-no}
+use Rattle.lists.proofs.Tables.{or-no, and-no}
 use Rattle.card_data.proofs.Sizes.{sized}
 use Rattle.card_data.proofs.Accepted.{AllClear, no-reason, or-clear, any-none, Framed, frame-right}
 use Rattle.card_data.proofs.Present.{There, MayBe, Right, Sized, of-size, there-so, may-be-so, may-be, none-twice, none-wrong, none-missing, by-name}

@@ -14,11 +14,11 @@ use Rattle.lists.specs.Choice.{pick}
 use Rattle.lists.proofs.Choice.{pick-yes, either}
 use Rattle.locator.specs.Entries.{entriesRight, mostRecords, recordCount, tooMany}
 use Rattle.locator.proofs.Counting.{AndEntries, whole-exactly}
-use Rattle.card_data.specs.Tables.{anyOf, beside}
+use Rattle.lists.specs.Tables.{anyOf, beside}
 use Rattle.card_data.specs.Content.{meets, rules, ruleFor, rightValue}
 use Rattle.card_data.specs.Answer.{isOne, inside}
 use Rattle.card_data.specs.Named.{listed, direct, anyTimes, anyWrong}
-use Rattle.card_data.proofs.Tables.{or-no, and-yes, and-no}
+use Rattle.lists.proofs.Tables.{or-no, and-yes, and-no}
 use Rattle.card_data.proofs.Limits.{between-in, bounds}
 use Rattle.card_data.proofs.Sizes.{sized}
 use Rattle.card_data.proofs.Accepted.{or-clear, Framed}

@@ -6,8 +6,8 @@ use mathlib.Core.List.{List, [], _∷_, _++_}
 use Prim.Native.Nat.{ℕ, _/_}
 use lib.ListN.{length, getD}
 use Rattle.lists.specs.Choice.{pick, firstOf}
-use Rattle.terminal.specs.Tests.{between}
-use Rattle.card_data.specs.Tables.{beside}
+use Rattle.lists.specs.Tests.{between}
+use Rattle.lists.specs.Tables.{beside}
 use Rattle.card_data.specs.Answer.{isOne, inside, frame}
 use Rattle.card_data.specs.Named.{direct, valueOf, anyTwice, anyWrong}
 use Rattle.answers.specs.Forms.{template, joined, bothForms, lacks}

@@ -9,7 +9,7 @@ use Rattle.lists.specs.Choice.{pick, firstOf}
 use Rattle.objects.specs.Objects.{isSome}
 use Rattle.objects.specs.Lookup.{Lookup}
 use Rattle.object_lists.specs.Wanted.{fillable}
-use Rattle.card_data.specs.Tables.{anyOf, beside}
+use Rattle.lists.specs.Tables.{anyOf, beside}
 use Rattle.card_data.specs.Answer.{frame}
 use Rattle.card_data.specs.Named.{listed, direct, times, told, anyTwice, anyWrong}
 use Rattle.answers.specs.declared.records.Seen.{Seen}

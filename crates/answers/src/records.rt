@@ -12,7 +12,7 @@ ghost use mathlib.Core.List.{[], map};
 ghost use mathlib.Core.Option.{Option·getD};
 ghost use Rattle.lists.specs.Choice.{firstOf};
 ghost use Rattle.objects.specs.Objects.{isSome};
-ghost use Rattle.card_data.specs.Tables.{anyOf};
+ghost use Rattle.lists.specs.Tables.{anyOf};
 ghost use Rattle.card_data.specs.Named.{standing};
 ghost use Rattle.answers.specs.Records.{again, anyAgain, recordTwice, recordLines, recordReason, valueIn, completeReason, toldBy};
 

@@ -11,11 +11,11 @@ use borrow.Author.Tests.{eqb-true, eqb-false, eq-eqb, ne-eqb, not-false, le-ltb}
 use Rattle.lists.specs.Choice.{pick, firstOf}
 use Rattle.lists.proofs.Choice.{pick-yes, pick-no, either}
 use Rattle.objects.specs.Lookup.{Lookup, absent, once, twice}
-use Rattle.card_data.specs.Tables.{anyOf}
+use Rattle.lists.specs.Tables.{anyOf}
 use Rattle.card_data.specs.Content.{rightValue}
 use Rattle.card_data.specs.Answer.{sizeBad, statusBad, isOne, outerBad, frame}
 use Rattle.card_data.specs.Named.{listed, times, wrongValue, anyTimes, anyWrong}
-use Rattle.card_data.proofs.Tables.{or-no}
+use Rattle.lists.proofs.Tables.{or-no}
 use Rattle.card_data.proofs.Alike.{listed-first, listed-also}
 use Rattle.card_data.proofs.Lines.{Numbered, line-clear}
 use Rattle.card_data.proofs.Outer.{size-right}

@@ -11,7 +11,7 @@ use Rattle.lists.specs.Choice.{pick, firstOf}
 use Rattle.lists.proofs.Choice.{pick-yes, pick-no, pick-same, pick-ap, either}
 use Rattle.objects.specs.Objects.{Object}
 use Rattle.objects.specs.Lookup.{Lookup, absent, once, twice, met, lookup}
-use Rattle.card_data.specs.Tables.{anyOf}
+use Rattle.lists.specs.Tables.{anyOf}
 use Rattle.card_data.specs.Answer.{sizeBad, statusBad, outerBad, frame}
 use Rattle.card_data.specs.Named.{membersIn, listed, named, among, times, wrongValue, anyTimes, anyWrong}
 

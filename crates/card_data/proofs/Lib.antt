@@ -1,4 +1,3 @@
-pub mod Tables
 mod CardNumber
 pub mod Limits
 pub mod Lines

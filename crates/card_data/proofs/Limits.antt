@@ -6,8 +6,8 @@ use Prim.Native.Nat.{ℕ, _≤_, _<_}
 use lib.Dec.{leb, ltb}
 use borrow.Author.Tests.{le-leb, lt-leb, leb-true, lt-ltb, ltb-true, ltb-false}
 use Rattle.lists.proofs.Choice.{either}
-use Rattle.terminal.specs.Tests.{between}
-use Rattle.terminal.proofs.Tests.{held, failed, last, first-held}
+use Rattle.lists.specs.Tests.{between}
+use Rattle.lists.proofs.Tests.{held, failed, last, first-held}
 
 module _ (low high n : ℕ) where
   pub between-in : low ≤ n → n ≤ high → between low high n ≡ true

@@ -18,7 +18,7 @@ use Rattle.objects.specs.declared.Next.{Next}
 use Rattle.objects.specs.declared.Next.the-variants.{Member, End, Broken}
 use Rattle.objects.proofs.Reading.{following, objects-next}
 use Rattle.card_data.specs.Answer.{sizeBad, only, outer, theOne, tagged, valueUnder, isOne, inside}
-use Rattle.card_data.proofs.Tables.{or-yes, or-no}
+use Rattle.lists.proofs.Tables.{or-yes, or-no}
 
 none-of : (o : Option (List Object)) → isSome o ≡ false → o ≡ none
 unfolding isSome

@@ -12,7 +12,7 @@ use lib.ListN.{length}
 use borrow.Author.Tests.{eqb-true}
 use Rattle.lists.proofs.Choice.{pick-no, either}
 use Rattle.objects.specs.Lookup.{Lookup, absent, once, twice}
-use Rattle.card_data.specs.Tables.{anyOf}
+use Rattle.lists.specs.Tables.{anyOf}
 use Rattle.card_data.specs.Content.{meets, ruleFor, rightValue}
 use Rattle.card_data.specs.Named.{listed, times, anyTimes, anyWrong}
 use Rattle.card_data.specs.declared.content.Rule.{Rule}

@@ -8,8 +8,8 @@ use lib.ListN.{length}
 use borrow.Author.Tests.{eqb-true}
 use Rattle.lists.specs.Choice.{pick}
 use Rattle.terminal.specs.Dates.{validCardDate}
-use Rattle.terminal.proofs.Tests.{first-held}
-use Rattle.card_data.specs.Tables.{beside}
+use Rattle.lists.proofs.Tests.{first-held}
+use Rattle.lists.specs.Tables.{beside}
 use Rattle.card_data.specs.CardNumber.{cardNumber}
 use Rattle.card_data.specs.Content.{meets, rules, ruleFor, rightValue}
 use Rattle.card_data.specs.declared.content.Rule.{Rule}

@@ -12,7 +12,7 @@ use Rattle.objects.specs.Objects.{Object, between, objects}
 use Rattle.objects.specs.Place.{dataField}
 use Rattle.objects.specs.declared.Next.{Next}
 use Rattle.objects.specs.declared.Next.the-variants.{Member, End, Broken}
-use Rattle.card_data.specs.Tables.{anyOf}
+use Rattle.lists.specs.Tables.{anyOf}
 
 -- the fewest and the most bytes of an answer
 abbrev pub fewest : ℕ

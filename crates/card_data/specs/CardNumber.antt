@@ -6,7 +6,7 @@ use Prim.Native.Nat.{ℕ, suc, _/_, _%_}
 use lib.Dec.{leb, eqb}
 use lib.ListN.{length, drop}
 use Rattle.lists.specs.Choice.{pick}
-use Rattle.terminal.specs.Tests.{every, between}
+use Rattle.lists.specs.Tests.{every, between}
 
 -- each byte's upper half, then its lower half
 unfoldable pub halves : List ℕ → List ℕ

@@ -5,10 +5,10 @@ use mathlib.Core.Bool.{Bool, true, false}
 use mathlib.Core.List.{List, [], _∷_}
 use Prim.Native.Nat.{ℕ}
 use lib.ListN.{length}
-use Rattle.terminal.specs.Tests.{between}
+use Rattle.lists.specs.Tests.{between}
 use Rattle.terminal.specs.Dates.{validCardDate}
 use Rattle.locator.specs.Entries.{wholeEntries}
-use Rattle.card_data.specs.Tables.{beside}
+use Rattle.lists.specs.Tables.{beside}
 use Rattle.card_data.specs.CardNumber.{cardNumber}
 use Rattle.card_data.specs.declared.content.Rule.{Rule}
 use Rattle.card_data.specs.declared.content.Rule.the-variants.{Sizes, Entries, Number, Date, Anything}

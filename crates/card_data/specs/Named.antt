@@ -9,7 +9,7 @@ use lib.Dec.{eqb}
 use Rattle.lists.specs.Choice.{pick}
 use Rattle.objects.specs.Objects.{Object, objects}
 use Rattle.objects.specs.Lookup.{Lookup, absent, once, twice, lookup, findIn, foundValue}
-use Rattle.card_data.specs.Tables.{anyOf}
+use Rattle.lists.specs.Tables.{anyOf}
 use Rattle.card_data.specs.Answer.{inside}
 use Rattle.card_data.specs.Content.{rightValue}
 

@@ -8,11 +8,11 @@ use Rattle.objects.specs.Head.{firstByte, constructed, twoBytes, tagSize, tagOf
 use Rattle.objects.specs.Objects.{between, firstObject, isSome, before, rightInside, listed, objects}
 use Rattle.objects.specs.Place.{dataField}
 use Rattle.objects.specs.Lookup.{met, lookup}
-use Rattle.terminal.specs.Tests.{every}
-use Rattle.terminal.specs.Tests.{between as within}
+use Rattle.lists.specs.Tests.{every}
+use Rattle.lists.specs.Tests.{between as within}
 use Rattle.object_lists.specs.Shape.{shaped, numeric, formatOf}
 use Rattle.commands.specs.Commands.{recordCommand}
-use Rattle.card_data.specs.Tables.{anyOf, beside}
+use Rattle.lists.specs.Tables.{anyOf, beside}
 use Rattle.card_data.specs.Answer.{sizeBad, statusBad, only, outer, tagged, valueUnder, isOne, inside, outerBad, frame}
 use Rattle.card_data.specs.Content.{meets, rules, ruleFor, rightValue}
 use Rattle.card_data.specs.Named.{membersIn, named, among, direct, standing, times, told, valueOf, wrongValue, anyTimes, anyWrong}

@@ -9,6 +9,7 @@ use Rattle.objects.specs.Objects.{Object, objects}
 use Rattle.object_lists.specs.Shape.{shaped, formatOf}
 use Rattle.lists.specs.Writing.{zeros}
 use Rattle.terminal.specs.Reading.{Terminal}
+use Rattle.terminal.specs.Bare.{bare}
 use Rattle.commands.specs.Commands.{recordCommand}
 use Rattle.locator.specs.Entries.{toRead, recordCount}
 use Rattle.answers.specs.Options.{optionsReason}
@@ -20,27 +21,7 @@ use Rattle.decide.specs.declared.requests.Cryptogram.the-variants.{Tc, Arqc}
 
 -- a terminal of a type whose action codes are all zero, and an issuer's codes that are
 unfoldable pub plain : ℕ → Terminal
-plain kind =
-    record {
-      kind = kind;
-      amount = [];
-      otherAmount = [];
-      country = [];
-      currency = [];
-      date = [];
-      transactionType = [];
-      unpredictable = [];
-      floorLimit = [];
-      random = 0;
-      target = 0;
-      threshold = [];
-      maximum = 0;
-      version = [];
-      denial = zeros 5;
-      online = zeros 5;
-      default = zeros 5;
-      aid = [];
-    }
+plain kind = bare kind (zeros 5) (zeros 5) (zeros 5)
 
 unfoldable pub noCodes : IssuerCodes
 noCodes = record { denial = some (zeros 5); online = some (zeros 5); default = some (zeros 5) }

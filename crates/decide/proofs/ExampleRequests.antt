@@ -6,8 +6,9 @@ use mathlib.Core.List.{List, [], _∷_, map}
 use mathlib.Core.Option.{Option, some, none}
 use Prim.Native.Nat.{ℕ}
 use Rattle.lists.specs.Choice.{pick}
-use Rattle.terminal.specs.Tests.{every}
+use Rattle.lists.specs.Tests.{every}
 use Rattle.terminal.specs.Decimal.{zerosOnly}
+use Rattle.terminal.specs.Bare.{bare}
 use Rattle.terminal.specs.Reading.{Terminal}
 use Rattle.decide.specs.declared.reply.Reply.{Reply}
 use Rattle.decide.specs.declared.reply.Reply.the-variants.{Approve, Decline, Unable}
@@ -31,32 +32,8 @@ none-set = 0 ∷ 0 ∷ 0 ∷ 0 ∷ 0 ∷ []
 abbrev first-bit : List ℕ
 first-bit = 0x80 ∷ 0 ∷ 0 ∷ 0 ∷ 0 ∷ []
 
--- a terminal of a type with its three action codes
-abbrev terminal : ℕ → List ℕ → List ℕ → List ℕ → Terminal
-terminal kind denial online default =
-    record {
-      kind = kind;
-      amount = [];
-      otherAmount = [];
-      country = [];
-      currency = [];
-      date = [];
-      transactionType = [];
-      unpredictable = [];
-      floorLimit = [];
-      random = 0;
-      target = 0;
-      threshold = [];
-      maximum = 0;
-      version = [];
-      denial = denial;
-      online = online;
-      default = default;
-      aid = [];
-    }
-
 abbrev plain : ℕ → Terminal
-plain kind = terminal kind none-set none-set none-set
+plain kind = bare kind none-set none-set none-set
 
 abbrev codes : Option (List ℕ) → Option (List ℕ) → Option (List ℕ) → IssuerCodes
 codes denial online default = record { denial = denial; online = online; default = default }
@@ -78,10 +55,10 @@ firsts =
     ∷ (plain 0, no-codes, none-set, Tc) ∷ (plain 2, no-codes, none-set, Tc)
     -- a denial match gives AAC for every type, be it the issuer's code or the terminal's
     ∷ (plain 0, codes (some first-bit) none none, first-bit, Aac) ∷ (plain 1, codes (some first-bit) none none, first-bit, Aac) ∷ (plain 2, codes (some first-bit) none none, first-bit, Aac)
-    ∷ (terminal 1 first-bit none-set none-set, zero-codes, first-bit, Aac) ∷ (terminal 2 first-bit none-set none-set, zero-codes, first-bit, Aac)
+    ∷ (bare 1 first-bit none-set none-set, zero-codes, first-bit, Aac) ∷ (bare 2 first-bit none-set none-set, zero-codes, first-bit, Aac)
     -- type 0 looks at the default codes, type 2 at the online codes
-    ∷ (terminal 0 none-set first-bit none-set, zero-codes, first-bit, Tc) ∷ (terminal 0 none-set none-set first-bit, zero-codes, first-bit, Aac)
-    ∷ (terminal 2 none-set none-set first-bit, zero-codes, first-bit, Tc) ∷ (terminal 2 none-set first-bit none-set, zero-codes, first-bit, Arqc)
+    ∷ (bare 0 none-set first-bit none-set, zero-codes, first-bit, Tc) ∷ (bare 0 none-set none-set first-bit, zero-codes, first-bit, Aac)
+    ∷ (bare 2 none-set none-set first-bit, zero-codes, first-bit, Tc) ∷ (bare 2 none-set first-bit none-set, zero-codes, first-bit, Arqc)
     ∷ (plain 2, codes (some none-set) (some (0 ∷ 0 ∷ 0 ∷ 0x10 ∷ 0 ∷ [])) (some none-set), 0x80 ∷ 0 ∷ 0 ∷ 0x10 ∷ 0 ∷ [], Arqc)
     ∷ (plain 2, codes (some none-set) (some (0 ∷ 0 ∷ 0 ∷ 0 ∷ 0x10 ∷ [])) (some none-set), 0x80 ∷ 0 ∷ 0 ∷ 0x10 ∷ 0 ∷ [], Tc)
     ∷ []
@@ -97,7 +74,7 @@ seconds =
     ∷ (Unable, plain 1, zero-codes, first-bit, Aac) ∷ (Unable, plain 1, zero-codes, none-set, Aac)
     ∷ (Unable, plain 0, zero-codes, first-bit, Tc) ∷ (Unable, plain 0, no-codes, first-bit, Aac)
     ∷ (Unable, plain 2, zero-codes, first-bit, Tc) ∷ (Unable, plain 2, no-codes, first-bit, Aac)
-    ∷ (Unable, terminal 2 none-set first-bit none-set, zero-codes, first-bit, Tc) ∷ (Unable, terminal 2 none-set none-set first-bit, zero-codes, first-bit, Aac)
+    ∷ (Unable, bare 2 none-set first-bit none-set, zero-codes, first-bit, Tc) ∷ (Unable, bare 2 none-set none-set first-bit, zero-codes, first-bit, Aac)
     ∷ []
 
 seconds-right : map (λ row. secondRequest (row .0) (row .1) (row .2) (row .3)) seconds ≡ map (λ row. row .4) seconds

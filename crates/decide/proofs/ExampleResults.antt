@@ -7,11 +7,11 @@ use mathlib.Core.Option.{Option, some, none}
 use Prim.Native.Nat.{ℕ, _+_, _-_, _*_, _/_}
 use lib.Dec.{leb}
 use Rattle.lists.specs.Choice.{pick}
-use Rattle.terminal.specs.Tests.{every}
+use Rattle.lists.specs.Tests.{every, alike}
 use Rattle.terminal.specs.Decimal.{decimal, decimalFrom}
 use Rattle.terminal.specs.Dates.{dateKey}
 use Rattle.terminal.specs.Reading.{Terminal}
-use Rattle.decide.specs.Bits.{joined, same, flag}
+use Rattle.decide.specs.Bits.{joined, flag}
 use Rattle.decide.specs.Card.{CardFacts}
 use Rattle.decide.specs.Selection.{biased, chosen, selected}
 use Rattle.decide.specs.Results.{differentVersions, expired, notYetEffective, riskManaged, atFloorLimit, drawn, restrictions, risks, tvrAfterRecords, tsiAfterRecords, tsiAfterFirstAnswer}
@@ -97,7 +97,7 @@ facts =
     ∷ []
 
 facts-right : map (λ row. tvrAfterRecords (row .0) (row .1) (0 ∷ 0 ∷ 0 ∷ 0 ∷ 0 ∷ [])) facts ≡ map (λ row. row .2) facts
-unfolding tvrAfterRecords joined restrictions risks flag differentVersions same expired notYetEffective dateKey riskManaged atFloorLimit drawn every selected chosen biased decimal decimalFrom pick
+unfolding tvrAfterRecords joined restrictions risks flag differentVersions alike expired notYetEffective dateKey riskManaged atFloorLimit drawn every selected chosen biased decimal decimalFrom pick
 facts-right = refl
 
 -- bits that stand are left standing

@@ -1,8 +1,7 @@
--- Rows of bits: what was joined to a row stays in it, a bit is shared with two joined rows where it is shared with one of
--- them, and rows are compared from a place on as they are from the start.
+-- Rows of bits: what was joined to a row stays in it, and a bit is shared with two joined rows where it is shared with one of them.
 -- Assumes nothing.
 use mathlib.Core.Path.{_≡_, refl, sym, ap, ap₂, _∙_}
-use mathlib.Core.Bool.{Bool, true, false, _&&_, _||_, or-true, or-false, false≢true}
+use mathlib.Core.Bool.{Bool, true, false, _&&_, _||_, or-true, or-false}
 use mathlib.Core.List.{List, [], _∷_}
 use Prim.Native.Nat.{ℕ, zero, suc, _+_, _<_, _≤_}
 use native.Mathlib.Numerals.{add-one}
@@ -13,8 +12,8 @@ use lib.ListN.{length, drop, getD, drop-of-length-le}
 use lib.Seq.{drop-cons}
 use borrow.Author.Tests.{eq-eqb, ne-eqb, eqb-true, eqb-false}
 use Rattle.lists.specs.Choice.{pick}
-use Rattle.lists.proofs.Choice.{pick-yes, pick-no, picked}
-use Rattle.decide.specs.Bits.{joined, meet, same}
+use Rattle.lists.proofs.Choice.{pick-yes, pick-no}
+use Rattle.decide.specs.Bits.{joined, meet}
 use Rattle.decide.proofs.Words.{or-assoc, and-over-or, or-zero}
 
 pub joined-nil : (a : List ℕ) → joined a [] ≡ a
@@ -109,16 +108,6 @@ module _ (a b : List ℕ) (i : ℕ) (p : i < length a) (q : i < length b) where
   unfolding meet
   meet-here e = ap₂ meet (drop-cons a i 0 p) (drop-cons b i 0 q) ∙ pick-no _ _ _ (ne-eqb _ 0 e)
 
-  pub same-on : getD a i 0 ≡ getD b i 0 → same (drop i a) (drop i b) ≡ same (drop (i + 1) a) (drop (i + 1) b)
-  unfolding same
-  same-on e =
-      ap₂ same (drop-cons a i 0 p) (drop-cons b i 0 q)
-      ∙ (pick-yes _ _ _ (eq-eqb _ _ e) ∙ ap (λ (n : ℕ). same (drop n a) (drop n b)) (sym (add-one i)))
-
-  pub same-not : (getD a i 0 ≡ getD b i 0 → ⊥) → same (drop i a) (drop i b) ≡ false
-  unfolding same
-  same-not e = ap₂ same (drop-cons a i 0 p) (drop-cons b i 0 q) ∙ pick-no _ _ _ (ne-eqb _ _ e)
-
 -- past the end of either row
 pub meet-past : (a b : List ℕ) (i : ℕ) → length a ≤ i → meet (drop i a) (drop i b) ≡ false
 unfolding meet
@@ -126,35 +115,3 @@ meet-past a b i h = ap (λ (l : List ℕ). meet l (drop i b)) (drop-of-length-le
 
 pub meet-short : (a b : List ℕ) (i : ℕ) → length b ≤ i → meet (drop i a) (drop i b) ≡ false
 meet-short a b i h = ap (meet (drop i a)) (drop-of-length-le b h) ∙ meet-nil (drop i a)
-
-pub same-past : (a b : List ℕ) (i : ℕ) → length a ≤ i → length b ≤ i → same (drop i a) (drop i b) ≡ true
-unfolding same
-same-past a b i p q = ap₂ same (drop-of-length-le a p) (drop-of-length-le b q)
-
--- rows that are the same are equal, and a row is the same as itself
-pub same-equal : (a b : List ℕ) → same a b ≡ true → a ≡ b
-unfolding same
-same-equal [] [] e = refl
-same-equal [] (y ∷ b) e = absurd (false≢true e)
-same-equal (x ∷ a) [] e = absurd (false≢true e)
-same-equal (x ∷ a) (y ∷ b) e =
-    picked
-    (λ t. t ≡ true → x ∷ a ≡ y ∷ b)
-    (eqb x y)
-    (same a b)
-    false
-    (λ p f. ap₂ _∷_ (eqb-true x y p) (same-equal a b f))
-    (λ p f. absurd (false≢true f))
-    e
-
-pub same-itself : (a : List ℕ) → same a a ≡ true
-unfolding same
-same-itself [] = refl
-same-itself (x ∷ a) = pick-yes _ _ _ (eq-eqb x x refl) ∙ same-itself a
-
-pub same-lengths : (a b : List ℕ) → (length a ≡ length b → ⊥) → same a b ≡ false
-same-lengths a b h = at-most (same a b) (λ e. h (ap length (same-equal a b e)))
-  where
-    at-most : (t : Bool) → (t ≡ true → ⊥) → t ≡ false
-    at-most true k = absurd (k refl)
-    at-most false k = refl

@@ -19,13 +19,6 @@ meet [] bs = false
 meet (a ∷ as′) [] = false
 meet (a ∷ as′) (b ∷ bs) = pick (eqb (bitAnd a b) 0) (meet as′ bs) true
 
--- whether two rows are the same
-unfoldable pub same : List ℕ → List ℕ → Bool
-same [] [] = true
-same [] (b ∷ bs) = false
-same (a ∷ as′) [] = false
-same (a ∷ as′) (b ∷ bs) = pick (eqb a b) (same as′ bs) false
-
 -- a bit of a byte, set where the test holds
 unfoldable pub flag : Bool → ℕ → ℕ
 flag test bit = pick test bit 0

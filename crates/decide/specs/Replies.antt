@@ -1,5 +1,6 @@
 -- The issuer's reply HOST, three bytes, and the response code 8A: 01, "From facts to a decision".
 -- Assumes nothing.
+use mathlib.Core.Bool.{Bool, true, false}
 use mathlib.Core.List.{List, [], _∷_}
 use Prim.Native.Nat.{ℕ}
 use lib.Dec.{eqb}
@@ -26,6 +27,11 @@ saidBy first code =
 
 unfoldable pub replyOf : List ℕ → Heard
 replyOf s = pick (eqb (length s) 3) (saidBy (getD s 0 0) (codeIn s)) Nothing
+
+-- whether that is a reply
+unfoldable pub isReply : Heard → Bool
+isReply (Said reply) = true
+isReply Nothing = false
 
 -- the issuer's code; when unable, 'Y3' beside a TC and 'Z3' beside any other request (house)
 unfoldable pub responseCode : Reply → Cryptogram → List ℕ → List ℕ

@@ -9,17 +9,17 @@ use lib.Bits.{bitAnd}
 use lib.Dec.{leb, ltb, eqb}
 use lib.ListN.{getD}
 use Rattle.lists.specs.Choice.{pick}
-use Rattle.terminal.specs.Tests.{every}
+use Rattle.lists.specs.Tests.{every, alike}
 use Rattle.terminal.specs.Dates.{dateKey}
 use Rattle.terminal.specs.Reading.{Terminal, amountOf, floorLimitOf}
-use Rattle.decide.specs.Bits.{joined, same, flag}
+use Rattle.decide.specs.Bits.{joined, flag}
 use Rattle.decide.specs.Card.{CardFacts}
 use Rattle.decide.specs.Selection.{selected}
 
 -- 9F08 is there and differs from the terminal's version (003, 7.4.1)
 unfoldable pub differentVersions : Terminal → Option (List ℕ) → Bool
 differentVersions t none = false
-differentVersions t (some version) = not (same version (t .version))
+differentVersions t (some version) = not (alike version (t .version))
 
 -- 5F24 lies before the transaction date (003, 7.4.3)
 unfoldable pub expired : Terminal → List ℕ → Bool

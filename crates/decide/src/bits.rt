@@ -1,28 +1,12 @@
 // Bytes compared as rows of bits.
 ghost use mathlib.Core.Path.{_≡_};
 ghost use Prim.Native.Nat.{_≤_};
-ghost use Rattle.decide.specs.Bits.{joined, meet, same as sameOf, flag as flagOf};
+ghost use Rattle.decide.specs.Bits.{joined, meet, flag as flagOf};
 
 pub fn flag(test: bool, bit: u8) -> u8
     ensures { λ r. ⌜ (r ≡ flagOf test bit) × (r ≤ bit) ⌝ }
 {
     if test { bit } else { 0 }
-}
-
-pub fn same(a: &[u8], b: &[u8]) -> bool
-    ensures { λ r. ⌜ r ≡ sameOf (now (a .entry)) (now (b .entry)) ⌝ }
-{
-    if a.len() != b.len() {
-        return false;
-    }
-    let mut i = 0;
-    while i < a.len() {
-        if a[i] != b[i] {
-            return false;
-        }
-        i += 1;
-    }
-    true
 }
 
 // Whether a bit is set in both.

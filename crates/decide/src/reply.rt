@@ -1,7 +1,7 @@
 // The issuer's reply HOST, and the response code.
 ghost use mathlib.Core.Path.{_≡_};
 ghost use Rattle.terminal.specs.Decimal.{zerosOnly};
-ghost use Rattle.decide.specs.Replies.{codeIn, replyOf, responseCode};
+ghost use Rattle.decide.specs.Replies.{codeIn, replyOf, isReply, responseCode};
 use super::requests::Cryptogram;
 
 pub enum Reply {
@@ -39,6 +39,15 @@ pub fn reply_of(s: &[u8]) -> Heard
             }
         }
         _ => Heard::Nothing,
+    }
+}
+
+pub fn is_reply(s: &[u8]) -> bool
+    ensures { λ r. ⌜ r ≡ isReply (replyOf (now (s .entry))) ⌝ }
+{
+    match reply_of(s) {
+        Heard::Said(_) => true,
+        Heard::Nothing => false,
     }
 }
 

@@ -34,7 +34,7 @@ fn different_versions(start: &[u8], version: Version) -> bool
 {
     if version.present {
         let told = version.bytes;
-        !bits::same(&told, fields::bytes(start, Field::Version))
+        !lists::alike(&told, fields::bytes(start, Field::Version))
     } else {
         false
     }

@@ -2,3 +2,6 @@ pub mod Choice
 pub mod Writing
 pub mod Shorter
 pub mod Cutting
+pub mod Tests
+pub mod Tables
+pub mod Comparing

@@ -2,3 +2,5 @@
 pub mod Choice
 pub mod Writing
 pub mod Shorter
+pub mod Tests
+pub mod Tables

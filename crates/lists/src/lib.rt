@@ -2,6 +2,7 @@
 ghost use mathlib.Core.Path.{_≡_};
 ghost use Prim.Native.Nat.{_<_};
 ghost use lib.ListN.{length, getD, take, drop, replicate};
+ghost use Rattle.lists.specs.Tests.{alike as alikeOf};
 ghost use Rattle.lists.specs.Writing.{laid};
 
 // The byte at a place; 0 past the end.
@@ -50,4 +51,21 @@ pub fn blank(buf: &mut [u8], b: u8)
         buf[i] = b;
         i += 1;
     }
+}
+
+// Whether two slices are the same.
+pub fn alike(a: &[u8], b: &[u8]) -> bool
+    ensures { λ r. ⌜ r ≡ alikeOf (now (a .entry)) (now (b .entry)) ⌝ }
+{
+    if a.len() != b.len() {
+        return false;
+    }
+    let mut i = 0;
+    while i < a.len() {
+        if a[i] != b[i] {
+            return false;
+        }
+        i += 1;
+    }
+    true
 }

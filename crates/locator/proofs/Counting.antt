@@ -9,7 +9,7 @@ use Prim.Native.Nat.{ℕ, zero, suc, _+_, _*_, _/_, _%_, _≤_, _<_}
 use native.Mathlib.Omega.{arith}
 use lib.ListN.{length, drop, length-append}
 use borrow.Author.Tests.{leb-true, le-leb, eqb-true, eq-eqb}
-use Rattle.terminal.proofs.Tests.{held, last, first-held}
+use Rattle.lists.proofs.Tests.{held, last, first-held}
 use Rattle.locator.specs.Entries.{Entry, firstEntry, entries, wholeEntries, sfi, records, recordsOf, recordCount, run, readEntry, readAll, toRead}
 
 pub entries-more : (s : List ℕ) → 4 ≤ length s → entries s ≡ firstEntry s ∷ entries (drop 4 s)

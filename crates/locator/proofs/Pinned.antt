@@ -7,7 +7,7 @@ use mathlib.Core.List.{List, [], _∷_, map}
 use Prim.Native.Nat.{ℕ}
 use lib.ListN.{replicate}
 use Rattle.lists.specs.Choice.{pick}
-use Rattle.terminal.specs.Tests.{every, between}
+use Rattle.lists.specs.Tests.{every, between}
 use Rattle.locator.specs.Entries.{firstEntry, entries, wholeEntries, sfi, records, fileRight, entryRight, entriesRight, recordsOf, recordCount, tooMany, run, readEntry, readAll, toRead}
 use Rattle.locator.specs.Cursor.{fromEntry, entryAt, start, isLeft, recordAt, stepped}
 

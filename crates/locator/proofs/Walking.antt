@@ -14,7 +14,7 @@ use lib.Seq.{drop-drop}
 use borrow.Author.Tests.{leb-true, leb-false, ltb-true, ltb-false, le-leb, lt-ltb, le-ltb}
 use Rattle.lists.specs.Choice.{pick}
 use Rattle.lists.proofs.Choice.{pick-yes, pick-no, either}
-use Rattle.terminal.proofs.Tests.{held, failed, last, first-held}
+use Rattle.lists.proofs.Tests.{held, failed, last, first-held}
 use Rattle.locator.specs.Entries.{Entry, firstEntry, sfi, records, run, readEntry, toRead}
 use Rattle.locator.specs.Cursor.{fromEntry, entryAt, start, isLeft, recordAt, stepped, remaining}
 use Rattle.locator.specs.declared.cursor.Cursor.{Cursor}

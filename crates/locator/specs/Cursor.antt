@@ -7,7 +7,7 @@ use Prim.Native.Nat.{ℕ, _+_, _*_}
 use lib.Dec.{leb, ltb}
 use lib.ListN.{length, drop}
 use Rattle.lists.specs.Choice.{pick}
-use Rattle.terminal.specs.Tests.{every}
+use Rattle.lists.specs.Tests.{every}
 use Rattle.locator.specs.Entries.{Entry, firstEntry, sfi, records, readEntry, toRead}
 use Rattle.locator.specs.declared.cursor.Cursor.{Cursor}
 

@@ -1,4 +1,4 @@
--- A table of tags: nothing stands beside a tag that it does not have. And what is kept is what was handed over.
+-- What is kept is what was handed over; and the format of a tag.
 -- Assumes nothing.
 use mathlib.Core.Path.{_≡_, refl, sym, ap, ap₂, _∙_}
 use mathlib.Core.Bool.{Bool, true, false, _||_}
@@ -14,21 +14,12 @@ use Rattle.lists.specs.Choice.{pick}
 use Rattle.lists.specs.Writing.{put, zeros}
 use Rattle.lists.proofs.Choice.{pick-yes, pick-no}
 use Rattle.lists.proofs.Writing.{put-start, zeros-length}
-use Rattle.object_lists.specs.Known.{held, longest, nothing, kept, beside}
+use Rattle.lists.specs.Tables.{beside}
+use Rattle.object_lists.specs.Known.{held, longest, nothing, kept}
 use Rattle.object_lists.specs.Shape.{numeric, formatOf}
 use Rattle.object_lists.specs.declared.Format.{Format}
 use Rattle.object_lists.specs.declared.Value.{Value}
 use Rattle.object_lists.specs.declared.Format.the-variants.{Numeric, CardNumber, Other}
-
--- the tag is none of the table's
-abbrev pub Missing : ℕ → List (ℕ × Option (List ℕ)) → Type 0
-Missing tag [] = Unit {0}
-Missing tag (line ∷ lines) = (tag ≡ line .0 → ⊥) × Missing tag lines
-
-pub beside-none : (tag : ℕ) (lines : List (ℕ × Option (List ℕ))) → Missing tag lines → beside tag lines ≡ none
-unfolding beside
-beside-none tag [] m = refl
-beside-none tag (line ∷ lines) m = pick-no _ _ _ (ne-eqb tag (line .0) (m .0)) ∙ beside-none tag lines (m .1)
 
 pub held-nothing : held nothing ≡ none
 unfolding held nothing

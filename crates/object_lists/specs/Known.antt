@@ -5,9 +5,9 @@ use mathlib.Core.Bool.{Bool, true, false}
 use mathlib.Core.List.{List, [], _∷_}
 use mathlib.Core.Option.{Option, none, some}
 use Prim.Native.Nat.{ℕ}
-use lib.Dec.{eqb}
 use lib.ListN.{length, take}
 use Rattle.lists.specs.Choice.{pick}
+use Rattle.lists.specs.Tables.{beside}
 use Rattle.lists.specs.Writing.{put, zeros}
 use Rattle.terminal.specs.Reading.{Terminal}
 use Rattle.object_lists.specs.Shape.{formatOf}
@@ -29,11 +29,6 @@ nothing = record { bytes = zeros longest; len = 0; there = false }
 
 unfoldable pub kept : List ℕ → Value
 kept s = record { bytes = put (take longest s) 0 (zeros longest); len = length (take longest s); there = true }
-
--- what stands beside a tag in a table; nothing where the tag is not in it
-unfoldable pub beside : ℕ → List (ℕ × Option (List ℕ)) → Option (List ℕ)
-beside tag [] = none
-beside tag (line ∷ lines) = pick (eqb tag (line .0)) (line .1) (beside tag lines)
 
 -- the tags in START
 unfoldable pub ofTerminal : Terminal → List (ℕ × Option (List ℕ))
@@ -69,7 +64,7 @@ orElse none other = other
 orElse (some v) other = some v
 
 unfoldable pub valueFor : Terminal → Known → ℕ → Option (List ℕ)
-valueFor t k tag = orElse (beside tag (ofTerminal t)) (beside tag (ofSession k))
+valueFor t k tag = orElse (beside none tag (ofTerminal t)) (beside none tag (ofSession k))
 
 unfoldable pub withFormat : Format → Option (List ℕ) → Option (Format × List ℕ)
 withFormat f none = none

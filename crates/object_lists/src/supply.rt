@@ -9,7 +9,9 @@ use terminal::fields::bytes;
 ghost use mathlib.Core.Path.{_≡_};
 ghost use Rattle.terminal.specs.Reading.{readingOf};
 ghost use Rattle.object_lists.specs.Shape.{formatOf};
-ghost use Rattle.object_lists.specs.Known.{held, beside, ofTerminal, ofSession, valueFor};
+ghost use mathlib.Core.Option.{none};
+ghost use Rattle.lists.specs.Tables.{beside};
+ghost use Rattle.object_lists.specs.Known.{held, ofTerminal, ofSession, valueFor};
 
 pub fn format_of(tag: usize) -> Format
     ensures { λ r. ⌜ r ≡ formatOf tag ⌝ }
@@ -29,7 +31,7 @@ pub fn format_of(tag: usize) -> Format
 }
 
 fn from_start(start: &[u8], tag: usize) -> Value
-    ensures { λ r. ⌜ held r ≡ beside tag (ofTerminal (readingOf (now (start .entry)))) ⌝ }
+    ensures { λ r. ⌜ held r ≡ beside none tag (ofTerminal (readingOf (now (start .entry)))) ⌝ }
 {
     match tag {
         0x9F02 => keep(bytes(start, Field::Amount)),
@@ -45,7 +47,7 @@ fn from_start(start: &[u8], tag: usize) -> Value
 }
 
 fn from_session(known: Known, tag: usize) -> Value
-    ensures { λ r. ⌜ held r ≡ beside tag (ofSession known) ⌝ }
+    ensures { λ r. ⌜ held r ≡ beside none tag (ofSession known) ⌝ }
 {
     match tag {
         0x95 => known.tvr,

@@ -9,6 +9,7 @@ use native.Mathlib.Omega.{arith}
 use lib.ListN.{length, take, drop, length-drop, take-append-drop}
 use lib.Pow.{areBytes}
 use lib.Seq.{length-take-le}
+use Rattle.lists.proofs.Cutting.{none-left}
 use Rattle.crc.proofs.Bytes.{bytes-take, bytes-drop}
 use Rattle.tape.specs.Entries.{Entry, blockSize, tapeMost}
 use Rattle.tape.specs.Blocks.{block, codeOf, entryIn}
@@ -45,10 +46,6 @@ first n s t es more r = go (ℕ-discrete (codeOf n s (take blockSize t)) 0)
         record { others = un .0; good = good; reads = un .1; split = un .2 }
     go (no bad) = absurd (apart _ es _ _ r (read-bad n s t more bad))
 
-empty : (t : List ℕ) → length t ≡ 0 → t ≡ []
-empty [] h = refl
-empty (x ∷ t) h = absurd (omega arith)
-
 nil-cons : (e : Entry) (es : List Entry) → [] ≡ e ∷ es → ⊥
 nil-cons e es p =
     let z : _≡_ {A = ℕ} 0 1 = cc in
@@ -59,7 +56,7 @@ none-is : (n s : ℕ) (t : List ℕ) → length t % blockSize ≡ 0 → readFrom
 none-is n s t whole r = go (decLt (length t) blockSize)
   where
     go : Dec (length t < blockSize) → t ≡ []
-    go (yes short) = empty t (omega arith)
+    go (yes short) = none-left t (omega arith)
     go (no long) = absurd (nil-cons _ _ (first n s t [] (omega (arith, long)) r .split))
 
 -- a tape that reads as one entry and more, where the rest of it is known to be what it reads as

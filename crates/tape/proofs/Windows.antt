@@ -1,15 +1,20 @@
 -- The bytes at a place: where they are all there they are a part of the list, and two neighbours make a wider one.
 -- Assumes nothing.
 use mathlib.Core.Path.{_≡_, refl, sym, ap, ap₂, _∙_}
+use mathlib.Core.Bool.{Bool, _&&_}
 use mathlib.Core.List.{List, _∷_, _++_}
 use Prim.Native.Nat.{ℕ, zero, suc, _+_, _*_, _≤_}
 use native.Mathlib.Nat.{add-zero, zero-add, suc-add, mul-one}
 use native.Mathlib.Numerals.{add-one}
 use native.Mathlib.Omega.{arith}
-use lib.ListN.{length, getD, take, drop, length-append}
+use lib.Dec.{eqb, ltb}
+use lib.ListN.{length, getD, take, drop, length-append, List·getD-eq-default}
 use lib.Seq.{drop-cons, take-at, drop-at}
+use borrow.Author.Tests.{ltb-true, ltb-false}
+use Rattle.lists.proofs.Choice.{either}
+use Rattle.lists.proofs.Cutting.{past-end}
 use Rattle.tape.specs.Numbers.{numberOf}
-use Rattle.tape.specs.Blocks.{window, field}
+use Rattle.tape.specs.Blocks.{window, field, allZero}
 use Rattle.tape.proofs.Numbers.{number-append}
 
 pub window-length : (w at : ℕ) (b : List ℕ) → length (window w at b) ≡ w
@@ -24,6 +29,22 @@ window-part zero at b h = refl
 window-part (suc w) at b h =
     ap (λ (s : List ℕ). getD b at 0 ∷ s) (window-part w (at + 1) b (omega arith) ∙ ap (λ (k : ℕ). take w (drop k b)) (add-one at))
     ∙ sym (ap (take (suc w)) (drop-cons b at 0 (omega arith)))
+
+-- whether all there is of it is zero: what is past the end counts as zero too
+pub window-zero : (w at : ℕ) (b : List ℕ) → allZero (take w (drop at b)) ≡ allZero (window w at b)
+unfolding allZero window
+window-zero zero at b = refl
+window-zero (suc w) at b =
+    let next : allZero (take w (drop (suc at) b)) ≡ allZero (window w (at + 1) b) = ap (λ (k : ℕ). allZero (take w (drop k b))) (sym (add-one at)) ∙ window-zero w (at + 1) b in
+    either (ltb at (length b))
+    (λ y.
+    ap (λ (s : List ℕ). allZero (take (suc w) s)) (drop-cons b at 0 (ltb-true at (length b) y))
+    ∙ ap (λ (t : Bool). eqb (getD b at 0) 0 && t) next)
+    (λ n.
+    let past : length b ≤ at = ltb-false at (length b) n in
+    ap allZero (past-end (suc w) at b past)
+    ∙ (sym (ap allZero (past-end w (suc at) b (omega arith)))
+    ∙ (next ∙ sym (ap (λ (x : ℕ). eqb x 0 && allZero (window w (at + 1) b)) (List·getD-eq-default b 0 past)))))
 
 -- the middle of three lists
 pub window-middle : (p m r : List ℕ) (at w : ℕ) → length p ≡ at → length m ≡ w → window w at (p ++ (m ++ r)) ≡ m

@@ -101,14 +101,20 @@ fn zeros_from(block: &[u8], from: usize) -> bool
     requires { ⌜ from ≤ covered ⌝ }
     ensures { λ r. ⌜ r ≡ allZero (window (covered - from) from (now (block .entry))) ⌝ }
 {
-    let mut i = from;
-    while i < CHECK_AT {
-        if lists::byte(block, i) != 0 {
-            return false;
-        }
+    is_zero(part(block, from, CHECK_AT - from))
+}
+
+// Whether there are only zeros. Every byte is taken and one test made at the end, which compiles to many bytes at a time.
+fn is_zero(s: &[u8]) -> bool
+    ensures { λ r. ⌜ r ≡ allZero (now (s .entry)) ⌝ }
+{
+    let mut bits = 0u8;
+    let mut i = 0;
+    while i < s.len() {
+        bits |= s[i];
         i += 1;
     }
-    true
+    bits == 0
 }
 
 // Two bytes as a number.

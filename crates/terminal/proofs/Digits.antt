@@ -10,9 +10,9 @@ use lib.Dec.{lit<}
 use lib.ListN.{length, take, drop}
 use lib.Seq.{take-add, drop-drop}
 use borrow.Author.Tests.{leb-true}
-use Rattle.terminal.specs.Tests.{every}
+use Rattle.lists.specs.Tests.{every}
 use Rattle.terminal.specs.Decimal.{twoDigits, decimalFrom, decimal, decimalByte, digitsOnly}
-use Rattle.terminal.proofs.Tests.{held, first-held}
+use Rattle.lists.proofs.Tests.{held, first-held}
 
 every-both : (a b : List Bool) → every (a ++ b) ≡ true → (every a ≡ true) × (every b ≡ true)
 unfolding every

@@ -6,7 +6,7 @@ use mathlib.Core.List.{List, [], _∷_, _++_, map}
 use Prim.Native.Nat.{ℕ}
 use lib.ListN.{take, set}
 use Rattle.lists.specs.Choice.{pick}
-use Rattle.terminal.specs.Tests.{every, between}
+use Rattle.lists.specs.Tests.{every, between}
 use Rattle.terminal.specs.Decimal.{decimalFrom, decimal, decimalByte, digitsOnly, zerosOnly}
 use Rattle.terminal.specs.Dates.{dateKey, monthAndDay, validStartDate, validCardDate}
 use Rattle.terminal.specs.Reading.{readingOf, amountOf, otherAmountOf, floorLimitOf, thresholdOf}

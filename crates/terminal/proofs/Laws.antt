@@ -14,11 +14,11 @@ use borrow.Author.Tests.{leb-true, ltb-true, eqb-true}
 use Rattle.lists.proofs.Choice.{pick-yes, pick-no, picked}
 use Rattle.terminal.specs.declared.fields.Field.{Field}
 use Rattle.terminal.specs.declared.fields.Field.the-variants.{Amount, OtherAmount, FloorLimit}
-use Rattle.terminal.specs.Tests.{between}
+use Rattle.lists.specs.Tests.{between}
 use Rattle.terminal.specs.Layout.{sizeOf, startLength}
 use Rattle.terminal.specs.Reading.{Terminal, readingOf, bytesOf, amountOf, otherAmountOf, floorLimitOf, thresholdOf, aidLengthIn}
 use Rattle.terminal.specs.Start.{startTests, validKind, validDigits, validRandom, validPercentages, validThreshold, validAid, validStart, terminalOf}
-use Rattle.terminal.proofs.Tests.{each-held}
+use Rattle.lists.proofs.Tests.{each-held}
 use Rattle.terminal.proofs.Reading.{short-read, whole-read}
 use Rattle.terminal.proofs.Digits.{digits-split, twelve-digits}
 

@@ -1,4 +1,3 @@
-pub mod Tests
 pub mod Reading
 mod Digits
 mod Examples

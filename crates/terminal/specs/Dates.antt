@@ -5,7 +5,7 @@ use mathlib.Core.List.{List, [], _∷_}
 use Prim.Native.Nat.{ℕ, _+_, _*_}
 use lib.Dec.{eqb}
 use lib.ListN.{length, getD}
-use Rattle.terminal.specs.Tests.{every, between}
+use Rattle.lists.specs.Tests.{every, between}
 use Rattle.terminal.specs.Decimal.{twoDigits, digitsOnly}
 
 abbrev pub year : List ℕ → ℕ

@@ -7,7 +7,7 @@ use Prim.Native.Nat.{ℕ}
 use lib.Dec.{leb, ltb, eqb}
 use lib.ListN.{length, drop}
 use Rattle.lists.specs.Choice.{pick}
-use Rattle.terminal.specs.Tests.{every, between}
+use Rattle.lists.specs.Tests.{every, between}
 use Rattle.terminal.specs.Decimal.{digitsOnly, zerosOnly}
 use Rattle.terminal.specs.Dates.{validStartDate}
 use Rattle.terminal.specs.Layout.{startLength, aidRoom}

@@ -3,9 +3,9 @@
 use mathlib.Core.Path.{sym, ap}
 use mathlib.Core.Bool.{false}
 use Rattle.lists.specs.Choice.{pick}
-use Rattle.card_data.specs.Tables.{beside}
+use Rattle.lists.specs.Tables.{beside}
 use Rattle.answers.specs.Cryptogram.{allows}
-use Rattle.card_data.proofs.Tables.{beside-none}
+use Rattle.lists.proofs.Tables.{beside-none}
 use Rattle.answers.proofs.cryptogram.allows.Statement.{statement}
 use Rattle.answers.proofs.cryptogram.allows.Tie as tie
 

@@ -6,12 +6,12 @@ use mathlib.Core.List.{List}
 use Prim.Native.Nat.{ℕ}
 use lib.ListN.{length}
 use borrow.Author.Needs.{needs}
-use Rattle.terminal.specs.Tests.{between}
+use Rattle.lists.specs.Tests.{between}
 use Rattle.card_data.specs.Answer.{isOne, inside}
 use Rattle.card_data.specs.Named.{direct, anyWrong}
 use Rattle.answers.specs.Cryptogram.{cryptogramNames, cryptogramWrong}
 use Rattle.card_data.proofs.Limits.{below-out, above-out}
-use Rattle.card_data.proofs.Tables.{or-yes, or-no, and-yes, and-no}
+use Rattle.lists.proofs.Tables.{or-yes, or-no, and-yes, and-no}
 use Rattle.answers.proofs.Standing.{template-found}
 use Rattle.answers.proofs.cryptogram.is_wrong.Statement.{statement}
 use Rattle.answers.proofs.cryptogram.is_wrong.Tie as tie

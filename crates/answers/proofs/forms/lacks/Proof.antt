@@ -4,7 +4,7 @@ use mathlib.Core.Path.{_≡_, sym, ap, _∙_}
 use borrow.Author.Needs.{needs}
 use Rattle.card_data.specs.Named.{anyTimes}
 use Rattle.answers.specs.Forms.{lacks}
-use Rattle.card_data.proofs.Tables.{and-yes, and-no}
+use Rattle.lists.proofs.Tables.{and-yes, and-no}
 use Rattle.answers.proofs.Standing.{template-found}
 use Rattle.answers.proofs.forms.lacks.Statement.{statement}
 use Rattle.answers.proofs.forms.lacks.Tie as tie

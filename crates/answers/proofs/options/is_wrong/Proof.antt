@@ -6,7 +6,7 @@ use borrow.Author.Needs.{needs}
 use Rattle.locator.specs.Entries.{wholeEntries}
 use Rattle.card_data.specs.Named.{direct, anyWrong}
 use Rattle.answers.specs.Options.{optionNames, optionsWrong}
-use Rattle.card_data.proofs.Tables.{or-yes, or-no, and-yes, and-no}
+use Rattle.lists.proofs.Tables.{or-yes, or-no, and-yes, and-no}
 use Rattle.answers.proofs.Standing.{template-found}
 use Rattle.answers.proofs.options.is_wrong.Statement.{statement}
 use Rattle.answers.proofs.options.is_wrong.Tie as tie

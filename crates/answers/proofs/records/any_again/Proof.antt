@@ -7,11 +7,11 @@ use Prim.Native.Nat.{ℕ, _-_, _≤_, _<_}
 use native.Mathlib.Omega.{arith}
 use lib.ListN.{length, drop}
 use borrow.Author.Needs.{needs}
-use Rattle.card_data.specs.Tables.{anyOf}
+use Rattle.lists.specs.Tables.{anyOf}
 use Rattle.card_data.specs.Named.{standing}
 use Rattle.answers.specs.Records.{again, anyAgain, toldBy}
 use Rattle.answers.specs.declared.records.Seen.{Seen}
-use Rattle.card_data.proofs.Tables.{any-one-on, any-found, any-through}
+use Rattle.lists.proofs.Tables.{any-one-on, any-found, any-through}
 use Rattle.answers.proofs.records.any_again.Statement.{statement}
 use Rattle.answers.proofs.records.any_again.Tie as tie
 

@@ -7,10 +7,10 @@ use Prim.Native.Nat.{ℕ, _-_, _≤_, _<_}
 use native.Mathlib.Omega.{arith}
 use lib.ListN.{length, drop}
 use borrow.Author.Needs.{needs}
-use Rattle.card_data.specs.Tables.{anyOf}
+use Rattle.lists.specs.Tables.{anyOf}
 use Rattle.answers.specs.Records.{toldBy}
 use Rattle.answers.specs.declared.records.Seen.{Seen}
-use Rattle.card_data.proofs.Tables.{any-one-on, any-found, any-through}
+use Rattle.lists.proofs.Tables.{any-one-on, any-found, any-through}
 use Rattle.answers.proofs.records.any_untold.Statement.{statement}
 use Rattle.answers.proofs.records.any_untold.Tie as tie
 

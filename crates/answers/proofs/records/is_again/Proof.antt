@@ -5,7 +5,7 @@ use mathlib.Core.Bool.{not}
 use Prim.Native.Nat.{ℕ}
 use lib.Dec.{eqb}
 use borrow.Author.Needs.{needs}
-use Rattle.card_data.proofs.Tables.{and-yes, and-no}
+use Rattle.lists.proofs.Tables.{and-yes, and-no}
 use Rattle.answers.specs.Records.{again}
 use Rattle.answers.proofs.records.is_again.Statement.{statement}
 use Rattle.answers.proofs.records.is_again.Tie as tie

@@ -3,7 +3,7 @@
 use mathlib.Core.Path.{_≡_, sym, ap, _∙_}
 use borrow.Author.Needs.{needs}
 use Rattle.card_data.specs.Named.{direct, anyTimes}
-use Rattle.card_data.proofs.Tables.{or-yes, or-no}
+use Rattle.lists.proofs.Tables.{or-yes, or-no}
 use Rattle.answers.specs.Records.{recordNames, anyAgain, recordTwice, toldBy}
 use Rattle.answers.proofs.Standing.{record-found}
 use Rattle.answers.proofs.records.is_twice.Statement.{statement}

@@ -3,7 +3,7 @@
 use mathlib.Core.Path.{_≡_, sym, ap, _∙_}
 use borrow.Author.Needs.{needs}
 use Rattle.card_data.specs.Named.{direct, anyWrong}
-use Rattle.card_data.proofs.Tables.{or-yes, or-no}
+use Rattle.lists.proofs.Tables.{or-yes, or-no}
 use Rattle.answers.specs.Select.{selectNames, innerNames, inner, selectWrong}
 use Rattle.answers.proofs.Standing.{select-found, inner-found}
 use Rattle.answers.proofs.select.is_wrong.Statement.{statement}

@@ -7,9 +7,9 @@ use Prim.Native.Nat.{ℕ, _-_, _≤_, _<_}
 use native.Mathlib.Omega.{arith}
 use lib.ListN.{length, drop}
 use borrow.Author.Needs.{needs}
-use Rattle.card_data.specs.Tables.{anyOf}
+use Rattle.lists.specs.Tables.{anyOf}
 use Rattle.card_data.specs.Answer.{isOne, outerBad}
-use Rattle.card_data.proofs.Tables.{any-one-on, any-found, any-through}
+use Rattle.lists.proofs.Tables.{any-one-on, any-found, any-through}
 use Rattle.card_data.proofs.answer.is_outer_bad.Statement.{statement}
 use Rattle.card_data.proofs.answer.is_outer_bad.Tie as tie
 

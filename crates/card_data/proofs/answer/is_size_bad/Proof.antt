@@ -3,7 +3,7 @@
 use mathlib.Core.Path.{refl, sym, _∙_}
 use borrow.Author.Tests.{lt-ltb, le-ltb}
 use Rattle.card_data.specs.Answer.{sizeBad}
-use Rattle.card_data.proofs.Tables.{or-yes, or-no}
+use Rattle.lists.proofs.Tables.{or-yes, or-no}
 use Rattle.card_data.proofs.answer.is_size_bad.Statement.{statement}
 use Rattle.card_data.proofs.answer.is_size_bad.Tie as tie
 

@@ -7,7 +7,7 @@ use lib.Dec.{eqb}
 use borrow.Author.Needs.{needs}
 use borrow.Author.Tests.{eq-eqb, ne-eqb}
 use Rattle.card_data.specs.Answer.{statusBad}
-use Rattle.card_data.proofs.Tables.{or-yes, or-no}
+use Rattle.lists.proofs.Tables.{or-yes, or-no}
 use Rattle.card_data.proofs.answer.is_status_bad.Statement.{statement}
 use Rattle.card_data.proofs.answer.is_status_bad.Tie as tie
 

@@ -5,8 +5,8 @@ use mathlib.Core.List.{List}
 use Prim.Native.Nat.{ℕ}
 use borrow.Author.Needs.{needs}
 use borrow.Author.Tests.{le-leb, lt-leb}
-use Rattle.terminal.specs.Tests.{between}
-use Rattle.terminal.proofs.Tests.{held, failed, last}
+use Rattle.lists.specs.Tests.{between}
+use Rattle.lists.proofs.Tests.{held, failed, last}
 use Rattle.card_data.specs.Content.{meets, ruleFor, rightValue}
 use Rattle.card_data.specs.declared.content.Rule.{Rule}
 use Rattle.card_data.specs.declared.content.Rule.the-variants.{Sizes, Entries, Number, Date, Anything}

@@ -3,11 +3,11 @@
 use mathlib.Core.Path.{_≡_, sym, ap, _∙_}
 use Prim.Native.Nat.{ℕ}
 use Rattle.lists.specs.Choice.{pick}
-use Rattle.card_data.specs.Tables.{beside}
+use Rattle.lists.specs.Tables.{beside}
 use Rattle.card_data.specs.Content.{rules, ruleFor}
 use Rattle.card_data.specs.declared.content.Rule.{Rule}
 use Rattle.card_data.specs.declared.content.Rule.the-variants.{Anything}
-use Rattle.card_data.proofs.Tables.{NoneOf, beside-none}
+use Rattle.lists.proofs.Tables.{NoneOf, beside-none}
 use Rattle.card_data.proofs.content.rule_for.Statement.{statement}
 use Rattle.card_data.proofs.content.rule_for.Tie as tie
 

@@ -9,9 +9,9 @@ use lib.Dec.{eqb}
 use lib.ListN.{length, drop}
 use borrow.Author.Needs.{needs}
 use borrow.Author.Tests.{eq-eqb, ne-eqb}
-use Rattle.card_data.specs.Tables.{anyOf}
+use Rattle.lists.specs.Tables.{anyOf}
 use Rattle.card_data.specs.Named.{standing, times, anyTimes}
-use Rattle.card_data.proofs.Tables.{any-one-on, any-found, any-through}
+use Rattle.lists.proofs.Tables.{any-one-on, any-found, any-through}
 use Rattle.card_data.proofs.named.any_times.Statement.{statement}
 use Rattle.card_data.proofs.named.any_times.Tie as tie
 

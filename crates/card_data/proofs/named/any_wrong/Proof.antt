@@ -7,9 +7,9 @@ use Prim.Native.Nat.{ℕ, _-_, _≤_, _<_}
 use native.Mathlib.Omega.{arith}
 use lib.ListN.{length, drop}
 use borrow.Author.Needs.{needs}
-use Rattle.card_data.specs.Tables.{anyOf}
+use Rattle.lists.specs.Tables.{anyOf}
 use Rattle.card_data.specs.Named.{standing, wrongValue, anyWrong}
-use Rattle.card_data.proofs.Tables.{any-one-on, any-found, any-through}
+use Rattle.lists.proofs.Tables.{any-one-on, any-found, any-through}
 use Rattle.card_data.proofs.named.any_wrong.Statement.{statement}
 use Rattle.card_data.proofs.named.any_wrong.Tie as tie
 

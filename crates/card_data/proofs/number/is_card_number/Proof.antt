@@ -7,7 +7,7 @@ use lib.Dec.{leb}
 use lib.ListN.{length, drop}
 use borrow.Author.Needs.{needs}
 use borrow.Author.Tests.{le-leb, lt-leb}
-use Rattle.terminal.proofs.Tests.{held, failed, last}
+use Rattle.lists.proofs.Tests.{held, failed, last}
 use Rattle.card_data.specs.CardNumber.{halves, onlyF, cardNumber}
 use Rattle.card_data.proofs.Limits.{between-in, between-below, between-above}
 use Rattle.card_data.proofs.number.is_card_number.Statement.{statement}

@@ -6,7 +6,7 @@ use native.Mathlib.Omega.{arith}
 use lib.Dec.{eqb}
 use lib.ListN.{length, getD, drop}
 use borrow.Author.Tests.{eq-eqb, ne-eqb}
-use Rattle.terminal.proofs.Tests.{all-one-on, all-but-one, all-through}
+use Rattle.lists.proofs.Tests.{all-one-on, all-but-one, all-through}
 use Rattle.card_data.specs.CardNumber.{halves, onlyF}
 use Rattle.card_data.proofs.CardNumber.{halves-length}
 use Rattle.card_data.proofs.number.is_only_f.Statement.{statement}

@@ -5,7 +5,7 @@ use mathlib.Core.Bool.{not}
 use borrow.Author.Needs.{needs}
 use Rattle.lists.proofs.Choice.{pick-yes, pick-no}
 use Rattle.terminal.specs.Reading.{readingOf}
-use Rattle.decide.specs.Bits.{same}
+use Rattle.lists.specs.Tests.{alike}
 use Rattle.decide.specs.Results.{differentVersions}
 use Rattle.decide.proofs.results.different_versions.Statement.{statement}
 use Rattle.decide.proofs.results.different_versions.Tie as tie
@@ -16,7 +16,7 @@ returns c =
     let b = c .before .before .before .before in
     let a = b .before .before .args in
     let t = readingOf (a .start .now) in
-    ap not (c .same .ensures ∙ ap (same (a .version .bytes)) (c .before .bytes .ensures))
+    ap not (c .alike .ensures ∙ ap (alike (a .version .bytes)) (c .before .bytes .ensures))
     ∙ sym (ap (differentVersions t) (pick-yes _ _ _ (b .if1 .taken)))
 
 returns-2 : tie.Need-returns-2

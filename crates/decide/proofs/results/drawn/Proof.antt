@@ -5,7 +5,7 @@ use Prim.Native.Nat.{ℕ}
 use borrow.Author.Needs.{needs}
 use borrow.Author.Tests.{eq-eqb, ne-eqb, lt-ltb, le-ltb}
 use lib.Dec.{eqb, ltb}
-use Rattle.terminal.proofs.Tests.{held, failed, last}
+use Rattle.lists.proofs.Tests.{held, failed, last}
 use Rattle.decide.specs.Results.{drawn}
 use Rattle.decide.proofs.results.drawn.Statement.{statement}
 use Rattle.decide.proofs.results.drawn.Tie as tie

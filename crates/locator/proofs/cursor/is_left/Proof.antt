@@ -11,7 +11,7 @@ use borrow.Author.Needs.{needs}
 use borrow.Author.Tests.{le-leb, lt-leb, leb-true, ltb-true}
 use Rattle.locator.specs.Entries.{firstEntry, records}
 use Rattle.locator.specs.Cursor.{entryAt, isLeft}
-use Rattle.terminal.proofs.Tests.{held, failed, last}
+use Rattle.lists.proofs.Tests.{held, failed, last}
 use Rattle.locator.proofs.cursor.is_left.Statement.{statement}
 use Rattle.locator.proofs.cursor.is_left.Tie as tie
 

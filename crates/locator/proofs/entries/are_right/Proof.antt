@@ -6,8 +6,8 @@ use mathlib.Core.List.{List, map}
 use Prim.Native.Nat.{ℕ, _≤_, _<_}
 use native.Mathlib.Omega.{arith}
 use lib.ListN.{length, drop, length-take, length-drop}
-use Rattle.terminal.specs.Tests.{every}
-use Rattle.terminal.proofs.Tests.{held, failed}
+use Rattle.lists.specs.Tests.{every}
+use Rattle.lists.proofs.Tests.{held, failed}
 use Rattle.locator.specs.Entries.{Entry, firstEntry, entries, entryRight, entriesRight}
 use Rattle.lists.proofs.Cutting.{rest-part}
 use Rattle.locator.proofs.Counting.{entries-more, entries-end}

@@ -2,7 +2,7 @@
 -- Assumes nothing.
 use mathlib.Core.Path.{refl, sym, _∙_}
 use borrow.Author.Tests.{le-leb, lt-leb}
-use Rattle.terminal.proofs.Tests.{held, failed, last}
+use Rattle.lists.proofs.Tests.{held, failed, last}
 use Rattle.locator.specs.Entries.{wholeEntries}
 use Rattle.locator.proofs.entries.are_whole.Statement.{statement}
 use Rattle.locator.proofs.entries.are_whole.Tie as tie

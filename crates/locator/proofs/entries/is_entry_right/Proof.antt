@@ -7,8 +7,8 @@ use lib.Dec.{leb}
 use lib.ListN.{drop}
 use borrow.Author.Needs.{needs}
 use borrow.Author.Tests.{le-leb, lt-leb}
-use Rattle.terminal.specs.Tests.{every}
-use Rattle.terminal.proofs.Tests.{held, failed, passed, refused, last}
+use Rattle.lists.specs.Tests.{every}
+use Rattle.lists.proofs.Tests.{held, failed, passed, refused, last}
 use Rattle.locator.specs.Entries.{firstEntry, fileRight, entryRight}
 use Rattle.locator.proofs.entries.is_entry_right.Statement.{statement}
 use Rattle.locator.proofs.entries.is_entry_right.Tie as tie

@@ -2,8 +2,8 @@
 -- Assumes nothing.
 use mathlib.Core.Path.{refl, sym, _∙_}
 use borrow.Author.Tests.{eq-eqb, ne-eqb, le-leb, lt-leb}
-use Rattle.terminal.specs.Tests.{between}
-use Rattle.terminal.proofs.Tests.{held, failed, last}
+use Rattle.lists.specs.Tests.{between}
+use Rattle.lists.proofs.Tests.{held, failed, last}
 use Rattle.locator.specs.Entries.{fileRight}
 use Rattle.locator.proofs.entries.is_file_right.Statement.{statement}
 use Rattle.locator.proofs.entries.is_file_right.Tie as tie

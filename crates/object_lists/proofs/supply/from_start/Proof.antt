@@ -2,16 +2,18 @@
 -- Assumes nothing.
 use mathlib.Core.Path.{_≡_, refl, sym, ap, _∙_}
 use mathlib.Core.List.{List}
-use mathlib.Core.Option.{some}
+use mathlib.Core.Option.{none, some}
 use Prim.Native.Nat.{ℕ, _≤_}
 use lib.ListN.{length, take, drop, length-take}
 use Rattle.lists.specs.Choice.{pick}
 use Rattle.terminal.specs.Layout.{sizeOf, beginOf}
 use Rattle.terminal.specs.Reading.{Terminal, readingOf, bytesOf}
 use Rattle.terminal.specs.declared.fields.Field.the-variants.{Amount, OtherAmount, Country, Currency, Date, TransactionType, Unpredictable, Version}
-use Rattle.object_lists.specs.Known.{longest, held, kept, beside, ofTerminal}
+use Rattle.lists.specs.Tables.{beside}
+use Rattle.object_lists.specs.Known.{longest, held, kept, ofTerminal}
 use Rattle.object_lists.specs.declared.Value.{Value}
-use Rattle.object_lists.proofs.Tables.{beside-none, held-nothing, held-kept}
+use Rattle.lists.proofs.Tables.{beside-none}
+use Rattle.object_lists.proofs.Tables.{held-nothing, held-kept}
 use borrow.Author.Needs.{needs}
 use native.Mathlib.Omega.{arith}
 use Rattle.object_lists.proofs.supply.from_start.Statement.{statement}
@@ -22,9 +24,9 @@ short : (n from : ℕ) (s : List ℕ) → n ≤ 10 → length (take n (drop from
 short n from s h = rw length-take (omega arith)
 
 -- what is kept of a field stands beside its tag
-row : (t : Terminal) (tag key : ℕ) (bytes : List ℕ) (r : Value) → r ≡ kept bytes → length bytes ≤ longest → tag ≡ key → beside key (ofTerminal t) ≡ some bytes
-    → held r ≡ beside tag (ofTerminal t)
-row t tag key bytes r e h k b = ap held e ∙ (held-kept bytes h ∙ sym (ap (λ (x : ℕ). beside x (ofTerminal t)) k ∙ b))
+row : (t : Terminal) (tag key : ℕ) (bytes : List ℕ) (r : Value) → r ≡ kept bytes → length bytes ≤ longest → tag ≡ key → beside none key (ofTerminal t) ≡ some bytes
+    → held r ≡ beside none tag (ofTerminal t)
+row t tag key bytes r e h k b = ap held e ∙ (held-kept bytes h ∙ sym (ap (λ (x : ℕ). beside none x (ofTerminal t)) k ∙ b))
 
 returns : tie.Need-returns
 unfolding beside ofTerminal pick readingOf
@@ -88,8 +90,7 @@ returns-9 c =
     let a = c .before .before .before .args in
     ap held (c .absent .ensures)
     ∙ (held-nothing
-    ∙ sym (beside-none (a .tag) (ofTerminal (readingOf (a .start .now)))
-    ((c .before .match .rest .0 .0 .0 .0 .0 .0 .0 .1), ((c .before .match .rest .0 .0 .0 .0 .0 .0 .1), ((c .before .match .rest .0 .0 .0 .0 .0 .1), ((c .before .match .rest .0 .0 .0 .0 .1), ((c .before .match .rest .0 .0 .0 .1), ((c .before .match .rest .0 .0 .1), ((c .before .match .rest .0 .1), ((c .before .match .rest .1), tt))))))))))
+    ∙ sym (beside-none none (a .tag) (ofTerminal (readingOf (a .start .now))) (c .before .match .rest)))
 
 pub from-start-spec : {M : Type 1} → statement M
 from-start-spec = tie.close (tie.spec (λ c κs. search needs) (λ c κs. search needs) (λ c κs. search needs) (λ c κs. search needs) (λ c κs. search needs) (λ c κs. search needs) (λ c κs. search needs) (λ c κs. search needs) (λ c κs. search needs) (λ c κs. search needs) (λ c κs. search needs) (λ c κs. search needs) (λ c κs. search needs) (λ c κs. search needs) (λ c κs. search needs) (λ c κs. search needs) (λ c κs. search needs) returns returns-2 returns-3 returns-4 returns-5 returns-6 returns-7 returns-8 returns-9)

@@ -7,7 +7,8 @@ use mathlib.Core.List.{List}
 use Prim.Native.Nat.{ℕ}
 use Rattle.lists.proofs.Choice.{pick-yes, pick-no}
 use Rattle.terminal.specs.Reading.{readingOf}
-use Rattle.object_lists.specs.Known.{held, beside, ofTerminal, ofSession, orElse, valueFor}
+use Rattle.lists.specs.Tables.{beside}
+use Rattle.object_lists.specs.Known.{held, ofTerminal, ofSession, orElse, valueFor}
 use Rattle.object_lists.specs.declared.Value.{Value}
 use borrow.Author.Needs.{needs}
 use Rattle.object_lists.proofs.supply.value_for.Statement.{statement}
@@ -27,7 +28,7 @@ unfolding valueFor
 returns c =
     let a = c .before .before .before .args in
     let v = c .before .from-start in
-    first (v .result) (beside (a .tag) (ofTerminal (readingOf (a .start .now)))) (beside (a .tag) (ofSession (a .known))) (v .ensures) (c .if1 .taken)
+    first (v .result) (beside none (a .tag) (ofTerminal (readingOf (a .start .now)))) (beside none (a .tag) (ofSession (a .known))) (v .ensures) (c .if1 .taken)
 
 returns-2 : tie.Need-returns-2
 unfolding valueFor
@@ -35,7 +36,7 @@ returns-2 c =
     let a = c .before .before .before .before .args in
     let v = c .before .before .from-start in
     c .from-session .ensures
-    ∙ second (v .result) (beside (a .tag) (ofTerminal (readingOf (a .start .now)))) (beside (a .tag) (ofSession (a .known))) (v .ensures) (c .before .if1 .left)
+    ∙ second (v .result) (beside none (a .tag) (ofTerminal (readingOf (a .start .now)))) (beside none (a .tag) (ofSession (a .known))) (v .ensures) (c .before .if1 .left)
 
 pub value-for-spec : {M : Type 1} → statement M
 value-for-spec = tie.close (tie.spec (λ c κs. search needs) (λ c κs. search needs) returns returns-2)

@@ -4,7 +4,7 @@ use mathlib.Core.Path.{refl, sym, _∙_}
 use borrow.Author.Needs.{needs}
 use borrow.Author.Tests.{eq-eqb, ne-eqb}
 use Rattle.terminal.specs.Dates.{validCardDate}
-use Rattle.terminal.proofs.Tests.{held, failed, last}
+use Rattle.lists.proofs.Tests.{held, failed, last}
 use Rattle.terminal.proofs.dates.valid_card_date.Statement.{statement}
 use Rattle.terminal.proofs.dates.valid_card_date.Tie as tie
 

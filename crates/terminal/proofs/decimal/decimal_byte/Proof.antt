@@ -3,7 +3,7 @@
 use mathlib.Core.Path.{refl, sym, _∙_}
 use borrow.Author.Tests.{le-leb, lt-leb}
 use Rattle.terminal.specs.Decimal.{decimalByte}
-use Rattle.terminal.proofs.Tests.{held, failed, last}
+use Rattle.lists.proofs.Tests.{held, failed, last}
 use Rattle.terminal.proofs.decimal.decimal_byte.Statement.{statement}
 use Rattle.terminal.proofs.decimal.decimal_byte.Tie as tie
 

@@ -6,7 +6,7 @@ use native.Mathlib.Omega.{arith}
 use borrow.Author.Needs.{needs}
 use lib.ListN.{length, drop}
 use Rattle.terminal.specs.Decimal.{decimalByte, digitsOnly}
-use Rattle.terminal.proofs.Tests.{all-one-on, all-but-one, all-through}
+use Rattle.lists.proofs.Tests.{all-one-on, all-but-one, all-through}
 use Rattle.terminal.proofs.decimal.digits_only.Statement.{statement}
 use Rattle.terminal.proofs.decimal.digits_only.Tie as tie
 

@@ -8,7 +8,7 @@ use lib.Dec.{eqb}
 use lib.ListN.{length, drop}
 use borrow.Author.Tests.{eq-eqb, ne-eqb}
 use Rattle.terminal.specs.Decimal.{zerosOnly}
-use Rattle.terminal.proofs.Tests.{all-one-on, all-but-one, all-through}
+use Rattle.lists.proofs.Tests.{all-one-on, all-but-one, all-through}
 use Rattle.terminal.proofs.decimal.zeros_only.Statement.{statement}
 use Rattle.terminal.proofs.decimal.zeros_only.Tie as tie
 

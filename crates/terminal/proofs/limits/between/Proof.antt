@@ -2,8 +2,8 @@
 -- Assumes nothing.
 use mathlib.Core.Path.{refl, sym, _∙_}
 use borrow.Author.Tests.{le-leb, lt-leb}
-use Rattle.terminal.specs.Tests.{between}
-use Rattle.terminal.proofs.Tests.{held, failed, last}
+use Rattle.lists.specs.Tests.{between}
+use Rattle.lists.proofs.Tests.{held, failed, last}
 use Rattle.terminal.proofs.limits.between.Statement.{statement}
 use Rattle.terminal.proofs.limits.between.Tie as tie
 

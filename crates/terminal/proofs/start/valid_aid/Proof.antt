@@ -2,10 +2,10 @@
 -- Assumes nothing.
 use mathlib.Core.Path.{sym, ap, _∙_}
 use borrow.Author.Needs.{needs}
-use Rattle.terminal.specs.Tests.{between}
+use Rattle.lists.specs.Tests.{between}
 use Rattle.terminal.specs.Decimal.{zerosOnly}
 use Rattle.terminal.specs.Start.{validAid}
-use Rattle.terminal.proofs.Tests.{held, failed, last}
+use Rattle.lists.proofs.Tests.{held, failed, last}
 use Rattle.terminal.proofs.start.valid_aid.Statement.{statement}
 use Rattle.terminal.proofs.start.valid_aid.Tie as tie
 

@@ -4,7 +4,7 @@ use mathlib.Core.Path.{sym, ap, _∙_}
 use borrow.Author.Needs.{needs}
 use Rattle.terminal.specs.Decimal.{digitsOnly}
 use Rattle.terminal.specs.Start.{validDigits}
-use Rattle.terminal.proofs.Tests.{held, failed, passed, refused, last}
+use Rattle.lists.proofs.Tests.{held, failed, passed, refused, last}
 use Rattle.terminal.proofs.start.valid_digits.Statement.{statement}
 use Rattle.terminal.proofs.start.valid_digits.Tie as tie
 

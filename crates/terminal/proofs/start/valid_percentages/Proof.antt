@@ -6,9 +6,9 @@ use Prim.Native.Nat.{ℕ}
 use borrow.Author.Needs.{needs}
 use borrow.Author.Tests.{le-leb, lt-leb}
 use lib.Dec.{leb}
-use Rattle.terminal.specs.Tests.{every}
+use Rattle.lists.specs.Tests.{every}
 use Rattle.terminal.specs.Start.{validPercentages}
-use Rattle.terminal.proofs.Tests.{held, failed, last}
+use Rattle.lists.proofs.Tests.{held, failed, last}
 use Rattle.terminal.proofs.start.valid_percentages.Statement.{statement}
 use Rattle.terminal.proofs.start.valid_percentages.Tie as tie
 

@@ -2,7 +2,7 @@
 -- Assumes nothing.
 use mathlib.Core.Path.{ap, _∙_}
 use borrow.Author.Needs.{needs}
-use Rattle.terminal.specs.Tests.{between}
+use Rattle.lists.specs.Tests.{between}
 use Rattle.terminal.specs.Start.{validRandom}
 use Rattle.terminal.proofs.start.valid_random.Statement.{statement}
 use Rattle.terminal.proofs.start.valid_random.Tie as tie

@@ -6,10 +6,10 @@ use Prim.Native.Nat.{ℕ}
 use borrow.Author.Needs.{needs}
 use borrow.Author.Tests.{eq-eqb, ne-eqb}
 use lib.ListN.{drop}
-use Rattle.terminal.specs.Tests.{every}
+use Rattle.lists.specs.Tests.{every}
 use Rattle.terminal.specs.Dates.{validStartDate}
 use Rattle.terminal.specs.Start.{startTests, validStart}
-use Rattle.terminal.proofs.Tests.{held, failed, passed, refused, last}
+use Rattle.lists.proofs.Tests.{held, failed, passed, refused, last}
 use Rattle.terminal.proofs.start.valid_start.Statement.{statement}
 use Rattle.terminal.proofs.start.valid_start.Tie as tie
 

@@ -1,10 +1,10 @@
--- Tests: several at once, and a number between two limits.
+-- Tests: several at once, a number between two limits, two lists that are the same.
 -- Assumes nothing.
 use mathlib.Core.Bool.{Bool, true, false}
 use mathlib.Core.List.{List, [], _∷_}
 use Prim.Native.Nat.{ℕ}
-use lib.Dec.{leb}
+use lib.Dec.{leb, eqb}
 use Rattle.lists.specs.Choice.{pick}
 
 -- whether all of the tests hold
 unfoldable pub every : List Bool → Bool
@@ -14,3 +14,10 @@ every (test ∷ tests) = pick test (every tests) false
 -- whether n is neither below the first number nor above the second
 unfoldable pub between : ℕ → ℕ → ℕ → Bool
 between low high n = every (leb low n ∷ leb n high ∷ [])
+
+-- whether two lists are the same
+unfoldable pub alike : List ℕ → List ℕ → Bool
+alike [] [] = true
+alike [] (b ∷ bs) = false
+alike (a ∷ as′) [] = false
+alike (a ∷ as′) (b ∷ bs) = pick (eqb a b) (alike as′ bs) false

@@ -10,9 +10,9 @@ use native.Mathlib.Numerals.{add-one}
 use borrow.Author.Tests.{not-true, not-false}
 use lib.ListN.{length, drop, getD, drop-of-length-le}
 use lib.Seq.{drop-cons}
 use Rattle.lists.specs.Choice.{pick}
 use Rattle.lists.proofs.Choice.{pick-yes, pick-no}
-use Rattle.terminal.specs.Tests.{every}
+use Rattle.lists.specs.Tests.{every}
 
 module _ {r t : Bool} (e : r ≡ t) where
   -- the first test holds: the others decide

@@ -1,43 +1,43 @@
--- `decide::bits::same` meets its contract. The loop's invariant: what is left of the two slices compares as the whole does.
+-- `alike` meets its contract. The loop's invariant: what is left of the two slices compares as the whole does.
 -- Assumes nothing.
 use mathlib.Core.Path.{_≡_, refl, sym, _∙_}
 use Prim.Native.Nat.{_≤_, _-_}
 use native.Mathlib.Omega.{arith}
 use lib.ListN.{length, drop}
-use Rattle.decide.specs.Bits.{same}
-use Rattle.decide.proofs.Rows.{same-on, same-not, same-past, same-lengths}
-use Rattle.decide.proofs.bits.same.Statement.{statement}
-use Rattle.decide.proofs.bits.same.Tie as tie
+use Rattle.lists.specs.Tests.{alike}
+use Rattle.lists.proofs.Comparing.{alike-on, alike-not, alike-past, alike-lengths}
+use Rattle.lists.proofs.alike.Statement.{statement}
+use Rattle.lists.proofs.alike.Tie as tie
 
 abbrev Inv-loop : tie.InvT-loop
-Inv-loop a b i₀ i = (i ≤ length a) × (length a ≡ length b) × (same (drop i a) (drop i b) ≡ same a b)
+Inv-loop a b i₀ i = (i ≤ length a) × (length a ≡ length b) × (alike (drop i a) (drop i b) ≡ alike a b)
 
 abbrev μ-loop : tie.MeasureT-loop
 μ-loop a b i₀ i = length a - i
 
 returns : tie.Need-returns Inv-loop μ-loop
-returns c = sym (same-lengths _ _ (c .if1 .taken))
+returns c = sym (alike-lengths _ _ (c .if1 .taken))
 
 returns-2 : tie.Need-returns-2 Inv-loop μ-loop
 returns-2 c =
     let a = c .before .before .before .before .before .before .args in
     let l = c .before .before .before .before .loop in
-    sym (same-not (a .a .now) (a .b .now) (l .i) (omega arith) (omega arith) (c .if2 .taken)) ∙ l .inv .2
+    sym (alike-not (a .a .now) (a .b .now) (l .i) (omega arith) (omega arith) (c .if2 .taken)) ∙ l .inv .2
 
 loop-again : tie.Need-loop-again Inv-loop μ-loop
 loop-again c =
     let a = c .before .before .before .before .before .before .args in
     let l = c .before .before .before .before .loop in
-    (omega arith, l .inv .1, sym (same-on (a .a .now) (a .b .now) (l .i) (omega arith) (omega arith) (c .if2 .left)) ∙ l .inv .2)
+    (omega arith, l .inv .1, sym (alike-on (a .a .now) (a .b .now) (l .i) (omega arith) (omega arith) (c .if2 .left)) ∙ l .inv .2)
 
 returns-3 : tie.Need-returns-3 Inv-loop μ-loop
 returns-3 c =
     let a = c .before .before .before .args in
     let l = c .before .loop in
-    sym (same-past (a .a .now) (a .b .now) (l .i) (omega arith) (omega arith)) ∙ l .inv .2
+    sym (alike-past (a .a .now) (a .b .now) (l .i) (omega arith) (omega arith)) ∙ l .inv .2
 
-pub same-spec : {M : Type 1} → statement M
-same-spec =
+pub alike-spec : {M : Type 1} → statement M
+alike-spec =
     tie.close
     (tie.spec
     Inv-loop
