@@ -1,2 +1,1 @@
-pub mod Moving
-pub mod Bits
+pub mod Allowing

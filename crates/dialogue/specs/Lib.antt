@@ -1,3 +1,2 @@
--- The accepted step of a session.
-pub mod Moves
-pub mod Storing
+-- The accepted events of a session.
+pub mod Events

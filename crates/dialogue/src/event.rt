@@ -1,18 +1,19 @@
 // One event, one step on.
-use crate::Due;
-use crate::Step;
-use crate::online::request_second;
 use crate::turns;
 use commands::write;
 use decide::reply::Heard;
 use decide::reply::code_in;
 use decide::reply::reply_of;
+use moves::Due;
+use moves::Step;
+use moves::online::request_second;
 use state::Phase;
 use state::State;
 use state::change::begun;
 ghost use mathlib.Core.Path.{_≡_};
 ghost use Rattle.decide.specs.Replies.{replyOf};
-ghost use Rattle.dialogue.specs.Moves.{played, unmoved, started, answered, heardAs, hostHeard};
+ghost use Rattle.moves.specs.Moves.{played};
+ghost use Rattle.dialogue.specs.Events.{started, answered, heardAs, hostHeard};
 
 // START. What was known before does not matter.
 pub fn start(terminal: &[u8], buf: &mut [u8]) -> Step

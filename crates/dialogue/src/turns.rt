@@ -1,11 +1,4 @@
 // How a session goes on after each answer of the card's.
-use crate::Due;
-use crate::Step;
-use crate::ends::decide;
-use crate::ends::end;
-use crate::ends::wait;
-use crate::online::by_first;
-use crate::reading::read_on;
 use answers::cryptogram;
 use answers::cryptogram::Allowed;
 use answers::options::options_reason;
@@ -17,6 +10,13 @@ use decide::requests::first_allowed;
 use decide::requests::given_by;
 use decide::requests::second_allowed;
 use decide::results::tsi_after_first_answer;
+use moves::Due;
+use moves::Step;
+use moves::ends::decide;
+use moves::ends::end;
+use moves::ends::wait;
+use moves::online::by_first;
+use moves::reading::read_on;
 use state::Phase;
 use state::State;
 use state::change::change;
@@ -31,18 +31,19 @@ ghost use Rattle.answers.specs.Cryptogram.{allows};
 ghost use Rattle.rulebook.specs.Phase.{selecting, optioning, reading as readingRecord, first as firstAsked, second as secondAsked};
 ghost use Rattle.rulebook.specs.Turn.{turn, firstAllows, secondAllows};
 ghost use Rattle.state.specs.Reading.{early, late, recordsLeft};
-ghost use Rattle.dialogue.specs.Moves.{played, moved, keeping};
-ghost use Rattle.dialogue.specs.Storing.{answeredState};
+ghost use Rattle.moves.specs.Moves.{played, moved};
+ghost use Rattle.dialogue.specs.Events.{keeping, answeredState};
 
 pub fn on_select(s: State, a: &[u8], buf: &mut [u8]) -> Step
     ensures { λ r. ⌜ played r (now (buf .exit)) ≡ moved (turn (selecting (early s)) (now (a .entry))) (keeping (selecting (early s)) (now (a .entry)) s) (now (buf .entry)) ⌝ }
 {
     let start = s.start;
-    let why = select::select_reason(&start, a);
+    let terminal: &[u8] = &start;
+    let why = select::select_reason(terminal, a);
     if why != 0 {
         return end(s, why);
     }
-    let n = write::options(select::pdol(a), &start, at_options(s), buf);
+    let n = write::options(select::pdol(a), terminal, at_options(s), buf);
     wait(s, Phase::Options, Due::Command(n))
 }
 
@@ -100,11 +101,12 @@ fn after_first(s: State) -> State
 pub fn on_first(s: State, request: Cryptogram, a: &[u8], buf: &mut [u8]) -> Step
     ensures { λ r. ⌜ played r (now (buf .exit)) ≡ moved (turn (firstAsked (late s) request) (now (a .entry))) s (now (buf .entry)) ⌝ }
 {
-    let why = cryptogram::cryptogram_reason(allowed_first(request), a);
-    if why != 0 {
-        return end(s, why);
+    let answered = after_first(s);
+    let reason = cryptogram::cryptogram_reason(allowed_first(request), a);
+    if reason != 0 {
+        return end(s, reason);
     }
-    by_first(cryptogram::cryptogram(a), after_first(s), buf)
+    by_first(cryptogram::cryptogram(a), answered, buf)
 }
 
 pub fn on_second(s: State, request: Cryptogram, a: &[u8], buf: &mut [u8]) -> Step

@@ -1,9 +1,8 @@
 // The judge: the verdict of a tape. It replays the dialogue entry by entry and compares; it reads on after a broken rule, since a
 // later damaged block makes the whole tape unreadable.
-mod follow;
 mod verdict;
 
-use state::State;
+use following::follow;
 use tape::block_at;
 use tape::code;
 use tape::kind;
@@ -11,25 +10,6 @@ use tape::payload;
 use tape::session;
 use verdicts::Answer;
 ghost use Rattle.verdicts.specs.Judged.{Judged};
-
-// What the next entry must be, or how the reading ended: with a decision, with a closing silence, or at the entry that cannot be.
-pub enum Stage {
-    Start,
-    Command(usize),
-    Answer,
-    Host,
-    Decision,
-    Done,
-    Closed,
-    Broken(usize),
-}
-
-// How far a tape is read. The command that is due stands in the first bytes of `command`.
-pub struct Judgement {
-    pub stage: Stage,
-    pub state: State,
-    pub command: [u8; 261],
-}
 
 // The verdict of any bytes.
 pub fn judge(tape: &[u8]) -> Answer

@@ -1,11 +1,11 @@
 // What is said in the end.
-use crate::Judgement;
-use crate::Stage;
+use following::Judgement;
+use following::Stage;
 use verdicts::Answer;
 use verdicts::Verdict;
 ghost use mathlib.Core.Path.{_≡_};
 ghost use Rattle.verdicts.specs.Judged.{says};
-ghost use Rattle.judge.specs.Following.{saidAt};
+ghost use Rattle.following.specs.Following.{saidAt};
 ghost use Rattle.verdicts.specs.declared.Verdict.{Verdict as Said};
 
 fn answer(verdict: Verdict, place: usize, code: usize) -> Answer

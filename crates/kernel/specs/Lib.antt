@@ -1,3 +1,2 @@
 -- The kernel's calls: when one is turned away, and what an accepted one does.
-pub mod Waiting
 pub mod Calls

@@ -3,15 +3,15 @@
 use crate::Reply;
 use crate::Session;
 use crate::Step;
-use crate::refuse;
-use dialogue::Due;
-use dialogue::Step as Move;
 use dialogue::event;
+use moves::Due;
+use moves::Step as Move;
+use refusals::refuse;
 use state::Phase;
 use state::change;
 ghost use mathlib.Core.Path.{_≡_};
 ghost use Rattle.kernel.specs.Calls.{called, replyTo, accepted, startCall, answerCall, silenceCall, hostCall, freshSession};
-ghost use Rattle.dialogue.specs.Moves.{played};
+ghost use Rattle.moves.specs.Moves.{played};
 
 fn reply_to(due: Due) -> Reply
     ensures { λ r. ⌜ r ≡ replyTo due ⌝ }
@@ -56,7 +56,9 @@ impl Session {
     pub fn start(self, terminal: &[u8], command: &mut [u8]) -> Step
         ensures { λ r. ⌜ called r (now (command .exit)) ≡ startCall self (now (terminal .entry)) (now (command .entry)) ⌝ }
     {
-        let why = refuse::start(self, terminal, command);
+        let state = self.state;
+        let phase = state.phase;
+        let why = refuse::start(phase, terminal, command);
         if why != 0 {
             return turn_away(self, why);
         }
@@ -66,22 +68,24 @@ impl Session {
     pub fn answer(self, a: &[u8], command: &mut [u8]) -> Step
         ensures { λ r. ⌜ called r (now (command .exit)) ≡ answerCall self (now (a .entry)) (now (command .entry)) ⌝ }
     {
-        let why = refuse::answer(self, a, command);
+        let state = self.state;
+        let phase = state.phase;
+        let why = refuse::answer(phase, a, command);
         if why != 0 {
             return turn_away(self, why);
         }
-        let state = self.state;
         accept(event::answer(state, a, command))
     }
 
     pub fn host(self, h: &[u8], command: &mut [u8]) -> Step
         ensures { λ r. ⌜ called r (now (command .exit)) ≡ hostCall self (now (h .entry)) (now (command .entry)) ⌝ }
     {
-        let why = refuse::host(self, h, command);
+        let state = self.state;
+        let phase = state.phase;
+        let why = refuse::host(phase, h, command);
         if why != 0 {
             return turn_away(self, why);
         }
-        let state = self.state;
         accept(event::host(state, h, command))
     }
 
@@ -89,11 +93,12 @@ impl Session {
     pub fn silence(self, command: &mut [u8]) -> Step
         ensures { λ r. ⌜ called r (now (command .exit)) ≡ silenceCall self (now (command .entry)) ⌝ }
     {
-        let why = refuse::silence(self, command);
+        let state = self.state;
+        let phase = state.phase;
+        let why = refuse::silence(phase, command);
         if why != 0 {
             return turn_away(self, why);
         }
-        let state = self.state;
         let tvr = state.tvr;
         let tsi = state.tsi;
         let place = state.cursor;

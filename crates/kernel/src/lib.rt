@@ -1,7 +1,5 @@
 // The kernel: a session is handed in whole and handed back whole, one step on. A call is turned away first, and only then taken.
 mod calls;
-pub mod due;
-mod refuse;
 pub mod result;
 
 use state::State;

@@ -13,12 +13,13 @@ use lib.Seq.{drop-at}
 use borrow.Author.Tests.{eqb-true}
 use Rattle.lists.specs.Choice.{pick}
 use Rattle.lists.specs.Writing.{zeros}
-use Rattle.lists.proofs.Choice.{either, and-right, and-both}
+use Rattle.lists.proofs.Choice.{either, and-both}
 use Rattle.lists.proofs.Writing.{zeros-length}
 use Rattle.tape.specs.Entries.{Entry, entry, command, decision, payloadMost}
 use Rattle.commands.specs.Commands.{longest}
 use Rattle.rulebook.specs.Phase.{Phase, opens}
-use Rattle.rulebook.specs.Session.{isPayload, Plays, started, exchanged, told, decided, Session as WholeSession}
+use Rattle.rulebook.proofs.Payloads.{payload-bytes}
+use Rattle.rulebook.specs.Session.{Plays, started, exchanged, told, decided, Session as WholeSession}
 use Rattle.rulebook.proofs.Running.{at, done, run, taken, session-run}
 use Rattle.rulebook.proofs.Reading.{run-append}
 use Rattle.rulebook.proofs.Roles.{given, RightKernel}
@@ -28,10 +29,6 @@ use Rattle.logs.proofs.Lawful.{any-calls}
 use Rattle.logs.proofs.Playing.{pending, read-played, session-played}
 
 -- ---- what a session hands in are bytes
-payload-bytes : (p : List ℕ) → isPayload p ≡ true → areBytes p ≡ true
-unfolding isPayload
-payload-bytes p ok = and-right (leb (length p) payloadMost) (areBytes p) ok
-
 plays-bytes : (buf : List ℕ) {p : Phase} {es : List Entry} → Plays p es → allBytes (callsIn buf es) ≡ true
 unfolding callsIn handing eventIn pick allBytes payloadOf
 plays-bytes buf (started {b} {es} f ok rest) = and-both (areBytes b) (allBytes (callsIn buf es)) (payload-bytes b ok) (plays-bytes buf rest)

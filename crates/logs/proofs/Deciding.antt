@@ -12,7 +12,7 @@ use Rattle.rulebook.specs.Phase.{Asked, selecting, optioning, reading, first, s
 use Rattle.state.specs.Results.{decisionIn}
 use Rattle.state.specs.Keeping.{stateAt, fresh}
 use Rattle.state.specs.declared.Phase.{Phase as Kept}
-use Rattle.dialogue.specs.Moves.{awaiting, keptAs}
+use Rattle.moves.specs.Moves.{awaiting, keptAs}
 use Rattle.refinement.specs.Logging.{logged as ruled}
 use Rattle.refinement.proofs.Reaching.{reached-fresh}
 use Rattle.kernel.specs.declared.Session.{Session}

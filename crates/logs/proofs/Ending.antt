@@ -19,8 +19,9 @@ use Rattle.state.specs.declared.Phase.{Phase as Kept}
 use Rattle.state.specs.declared.Phase.the-variants.{Start, Select, Options, Record, First, Second, Host, Decided, Closed}
 use Rattle.refinement.proofs.Reaching.{reached-open}
 use Rattle.kernel.specs.declared.Session.{Session}
-use Rattle.kernel.specs.Waiting.{isOver}
-use Rattle.kernel.specs.Calls.{firstLines, startRefusal, answerRefusal, silenceRefusal, hostRefusal, refused}
+use Rattle.refusals.specs.Waiting.{isOver}
+use Rattle.refusals.specs.Refusals.{firstLines, startRefusal, answerRefusal, silenceRefusal, hostRefusal}
+use Rattle.kernel.specs.Calls.{refused}
 use Rattle.logs.specs.Log.{Event, start, answer, silence, host, Call, call, Played, after, playsFrom, plays, allBytes, isDecided, isClosed}
 use Rattle.logs.specs.Table.{refusalOf}
 use Rattle.logs.proofs.Turning.{call-refused}

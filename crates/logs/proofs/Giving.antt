@@ -18,8 +18,8 @@ use Rattle.rulebook.proofs.Running.{State as Machine}
 use Rattle.state.specs.Results.{outcomeOf, reasonOf, decisionIn}
 use Rattle.state.specs.declared.State.{State}
 use Rattle.state.specs.declared.Phase.{Phase as Kept}
-use Rattle.dialogue.specs.Moves.{Moved, dueIn, bufferIn}
-use Rattle.dialogue.specs.declared.Due.the-variants.{Nothing}
+use Rattle.moves.specs.Moves.{Moved, dueIn, bufferIn}
+use Rattle.moves.specs.declared.Due.the-variants.{Nothing}
 use Rattle.refinement.specs.Agreeing.{StandsAt}
 use Rattle.refinement.specs.Logging.{logged as ruled, Follows as Steps}
 use Rattle.refinement.proofs.Standing.{stands-decision}

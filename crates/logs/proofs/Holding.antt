@@ -17,12 +17,13 @@ use Rattle.rulebook.specs.Turn.{opened}
 use Rattle.state.specs.Keeping.{changed}
 use Rattle.state.specs.declared.State.{State}
 use Rattle.state.specs.declared.Phase.the-variants.{Start}
-use Rattle.dialogue.specs.Moves.{standing, moved, started}
+use Rattle.moves.specs.Moves.{standing, moved}
+use Rattle.dialogue.specs.Events.{started}
 use Rattle.refinement.specs.Agreeing.{StandsAt}
 use Rattle.refinement.proofs.Telling.{start-at}
 use Rattle.refinement.proofs.Clearing.{Keeps, answered-keeps, heard-keeps, started-keeps}
 use Rattle.kernel.specs.declared.Session.{Session}
-use Rattle.kernel.specs.Waiting.{awaitsStart}
+use Rattle.refusals.specs.Waiting.{awaitsStart}
 use Rattle.kernel.specs.Calls.{Called, refused, accepted, closedAfter}
 use Rattle.logs.specs.Log.{Event, start, answer, silence, host, Call, callOf, call, payloadOf, Played, after, playsFrom, plays, allBytes}
 use Rattle.logs.specs.Table.{refusalOf}

@@ -15,7 +15,7 @@ use Rattle.state.specs.declared.Phase.the-variants.{Closed}
 use Rattle.refinement.specs.Logging.{Reached}
 use Rattle.refinement.proofs.Reaching.{reached-fresh}
 use Rattle.kernel.specs.declared.Session.{Session}
-use Rattle.kernel.specs.Waiting.{isOver}
+use Rattle.refusals.specs.Waiting.{isOver}
 use Rattle.kernel.specs.Calls.{Called, refused, closedAfter, freshSession}
 use Rattle.logs.specs.Log.{Event, start, answer, silence, host, Call, callOf, call, payloadOf, logged, loggedBy, Played, after, playsFrom, plays, allBytes}
 use Rattle.logs.specs.Table.{refusalOf}

@@ -23,7 +23,7 @@ use Rattle.refinement.specs.Agreeing.{StandsAt}
 use Rattle.refinement.specs.Logging.{landing, Reached}
 use Rattle.refinement.proofs.Telling.{stands-phase}
 use Rattle.refinement.proofs.Reaching.{reached-decided}
-use Rattle.dialogue.specs.Moves.{keptAs}
+use Rattle.moves.specs.Moves.{keptAs}
 use Rattle.kernel.specs.declared.Session.{Session}
 use Rattle.logs.specs.Log.{Call, plays, allBytes, isDecided}
 use Rattle.logs.specs.Saying.{Lawfully}

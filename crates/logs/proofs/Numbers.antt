@@ -12,7 +12,8 @@ use Rattle.lists.specs.Choice.{pick, firstOf}
 use Rattle.lists.proofs.Choice.{pick-yes, pick-no}
 use Rattle.kernel.specs.declared.Session.{Session}
 use Rattle.kernel.specs.declared.Reply.the-variants.{Refused}
-use Rattle.kernel.specs.Calls.{Called, firstLines, startRefusal, answerRefusal, silenceRefusal, hostRefusal, refused}
+use Rattle.refusals.specs.Refusals.{firstLines, startRefusal, answerRefusal, silenceRefusal, hostRefusal}
+use Rattle.kernel.specs.Calls.{Called, refused}
 use Rattle.logs.specs.Log.{Event, start, answer, silence, host, Call, call}
 use Rattle.logs.specs.Table.{refusalOf, startBad, isDue, answerLong, hostBad, tableOf, FirstLine}
 use Rattle.logs.proofs.Turning.{call-refused}

@@ -25,10 +25,14 @@ use Rattle.decide.specs.Replies.{replyOf}
 use Rattle.rulebook.specs.Situation.{Situation}
 use Rattle.rulebook.specs.Phase.{Asked, Phase, opens, asks, hears, decides, commandOf, decisionOf}
 use Rattle.rulebook.specs.Turn.{opened, turn, heard}
+use Rattle.rulebook.proofs.Payloads.{payload-most}
 use Rattle.rulebook.specs.Session.{isPayload, Session as WholeSession}
-use Rattle.rulebook.proofs.Running.{State as Machine, at, owes, done, due, alike, alike-same, due-entry, due-test, ofTerminal, ofReply, next, run, chosen, taken, no-state, session-run}
-use Rattle.dialogue.specs.Moves.{Moved, keptAs, started as startMoved, answered as answerMoved, hostHeard, dueIn}
-use Rattle.dialogue.specs.declared.Due.the-variants.{Nothing}
+use Rattle.lists.specs.Tests.{alike}
+use Rattle.lists.proofs.Comparing.{alike-same}
+use Rattle.rulebook.proofs.Running.{State as Machine, at, owes, done, due, due-entry, due-test, ofTerminal, ofReply, next, run, chosen, taken, no-state, session-run}
+use Rattle.moves.specs.Moves.{Moved, keptAs, dueIn}
+use Rattle.dialogue.specs.Events.{started as startMoved, answered as answerMoved, hostHeard}
+use Rattle.moves.specs.declared.Due.the-variants.{Nothing}
 use Rattle.refinement.specs.Agreeing.{Agrees}
 use Rattle.refinement.specs.Logging.{logged as ruled, landing, Follows as Steps}
 use Rattle.refinement.proofs.Stepping.{fresh-stands, lands-at, start-step, answer-step, host-step}
@@ -42,10 +46,6 @@ use Rattle.logs.specs.Table.{refusalOf}
 use Rattle.logs.proofs.Turning.{takenBy, call-taken}
 use Rattle.logs.proofs.Giving.{opened-due, step-gives, gives-logged}
 use Rattle.logs.proofs.Admitting.{start-free, answer-free, host-free}
-
-pub payload-most : (p : List ℕ) → isPayload p ≡ true → length p ≤ payloadMost
-unfolding isPayload
-payload-most p ok = leb-true (length p) payloadMost (and-left (leb (length p) payloadMost) (areBytes p) ok)
 
 -- what the kernel has logged before the machine has read it
 unfoldable pub pending : Machine → List Entry

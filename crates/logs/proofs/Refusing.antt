@@ -13,8 +13,9 @@ use Rattle.rulebook.specs.Phase.{Asked, Phase, opens, asks, hears, decides}
 use Rattle.rulebook.specs.Turn.{opened, turn, heard}
 use Rattle.state.specs.Reading.{late}
 use Rattle.state.specs.declared.Phase.{Phase as Kept}
-use Rattle.dialogue.specs.Moves.{dueIn, moved, started, answeredTo, answered, heardAs, heardIn, hostHeard}
-use Rattle.dialogue.specs.declared.Due.the-variants.{Nothing}
+use Rattle.moves.specs.Moves.{dueIn, moved}
+use Rattle.dialogue.specs.Events.{started, answeredTo, answered, heardAs, heardIn, hostHeard}
+use Rattle.moves.specs.declared.Due.the-variants.{Nothing}
 use Rattle.refinement.proofs.Onward.{turn-due, heard-due}
 use Rattle.kernel.specs.declared.Session.{Session}
 use Rattle.kernel.specs.declared.Reply.the-variants.{Refused}

@@ -10,8 +10,8 @@ use native.Mathlib.Omega.{arith}
 use lib.Dec.{eqb, leb}
 use lib.ListN.{length}
 use lib.Pow.{areBytes}
-use borrow.Author.Tests.{eqb-true, le-leb}
-use Rattle.lists.proofs.Choice.{pick-no, either, and-both}
+use borrow.Author.Tests.{eqb-true}
+use Rattle.lists.proofs.Choice.{pick-no, either}
 use Rattle.terminal.specs.Reading.{readingOf}
 use Rattle.terminal.proofs.Laws.{start-length}
 use Rattle.tape.specs.Entries.{Entry, payloadMost}
@@ -21,13 +21,14 @@ use Rattle.decide.specs.declared.reply.Reply.{Reply as Said·Reply}
 use Rattle.decide.specs.declared.reply.Heard.the-variants.{Said}
 use Rattle.rulebook.specs.Phase.{Phase, opens, asks, hears, tvrOf, tsiOf}
 use Rattle.rulebook.specs.Turn.{opened, turn, heard}
-use Rattle.rulebook.specs.Session.{isPayload}
+use Rattle.rulebook.proofs.Payloads.{payload}
 use Rattle.rulebook.proofs.Running.{State as Machine, at, owes, run}
 use Rattle.rulebook.proofs.States.{state-next}
 use Rattle.state.specs.Reading.{late}
 use Rattle.state.specs.Keeping.{changed}
-use Rattle.dialogue.specs.Moves.{Moved, started, answered, hostHeard, dueIn}
-use Rattle.dialogue.specs.declared.Due.the-variants.{Nothing}
+use Rattle.moves.specs.Moves.{Moved, dueIn}
+use Rattle.dialogue.specs.Events.{started, answered, hostHeard}
+use Rattle.moves.specs.declared.Due.the-variants.{Nothing}
 use Rattle.refinement.specs.Agreeing.{StandsAt, Agrees}
 use Rattle.refinement.specs.Logging.{logged as ruled, Follows as Steps, Reached}
 use Rattle.refinement.proofs.Standing.{stands-tvr, stands-tsi}
@@ -42,11 +43,6 @@ use Rattle.logs.specs.Table.{refusalOf}
 use Rattle.logs.specs.Saying.{Gives, Follows, Silenced}
 use Rattle.logs.proofs.Turning.{takenBy, call-taken, start-passed, answer-passed, silence-passed, host-passed}
 use Rattle.logs.proofs.Giving.{opened-due, step-gives, gives-logged}
-
--- ---- payloads that a tape can hold
-pub payload : (p : List ℕ) → length p ≤ payloadMost → areBytes p ≡ true → isPayload p ≡ true
-unfolding isPayload
-payload p most bytes = and-both (leb (length p) payloadMost) (areBytes p) (le-leb (length p) payloadMost most) bytes
 
 -- a reply of the issuer's has three bytes
 said-length : (h : List ℕ) (r : Said·Reply) → replyOf h ≡ Said r → length h ≡ 3

@@ -8,14 +8,14 @@ use Prim.Native.Nat.{ℕ, _≤_}
 use native.Mathlib.Omega.{arith}
 use lib.Dec.{eqb, ltb}
 use lib.ListN.{length}
-use borrow.Author.Tests.{eq-eqb, ne-eqb, eqb-true, ltb-false}
+use borrow.Author.Tests.{eq-eqb, ne-eqb, eqb-true, ltb-false, not-false}
 use Rattle.lists.specs.Choice.{firstOf}
 use Rattle.lists.proofs.Choice.{pick-yes, pick-no, either}
 use Rattle.card_data.proofs.Lines.{line-clear}
 use Rattle.terminal.specs.Start.{validStart}
 use Rattle.tape.specs.Entries.{payloadMost}
 use Rattle.commands.specs.Commands.{longest}
-use Rattle.decide.specs.Replies.{replyOf}
+use Rattle.decide.specs.Replies.{replyOf, isReply}
 use Rattle.decide.specs.declared.reply.Reply.{Reply as Said·Reply}
 use Rattle.decide.specs.declared.reply.Heard.{Heard}
 use Rattle.decide.specs.declared.reply.Heard.the-variants.{Said, Nothing}
@@ -24,10 +24,11 @@ use Rattle.state.specs.Reading.{askedBy, askedIn}
 use Rattle.state.specs.declared.State.{State}
 use Rattle.state.specs.declared.Phase.{Phase as Kept}
 use Rattle.state.specs.declared.Phase.the-variants.{Start, Select, Options, Record, First, Second, Host, Decided, Closed}
-use Rattle.dialogue.specs.Moves.{started, answered, hostHeard}
+use Rattle.dialogue.specs.Events.{started, answered, hostHeard}
 use Rattle.kernel.specs.declared.Session.{Session}
-use Rattle.kernel.specs.Waiting.{isOver, awaitsStart, awaitsCard, awaitsHost}
-use Rattle.kernel.specs.Calls.{Called, isReply, firstLines, startRefusal, answerRefusal, silenceRefusal, hostRefusal, refused, accepted, unless, startCall, answerCall, hostCall, closedAfter, silenceCall}
+use Rattle.refusals.specs.Waiting.{isOver, awaitsStart, awaitsCard, awaitsHost}
+use Rattle.refusals.specs.Refusals.{firstLines, startRefusal, answerRefusal, silenceRefusal, hostRefusal}
+use Rattle.kernel.specs.Calls.{Called, refused, accepted, unless, startCall, answerCall, hostCall, closedAfter, silenceCall}
 use Rattle.logs.specs.Log.{Event, start, answer, silence, host, callOf}
 use Rattle.logs.specs.Table.{refusalOf}
 
@@ -60,10 +61,6 @@ pub zero-or : {P : Type 0} (n : ℕ) → (n ≡ 0 → P) → ((n ≡ 0 → ⊥) 
 zero-or n yes′ no′ = either (eqb n 0) (λ y. yes′ (eqb-true n 0 y)) (λ f. no′ (λ e. false≢true (sym f ∙ eq-eqb n 0 e)))
 
 -- ---- what a state waits for
-not-false : (t : Bool) → not t ≡ false → t ≡ true
-not-false true e = refl
-not-false false e = sym e
-
 pub waits-start : (k : Kept) → awaitsStart k ≡ true → k ≡ Start
 unfolding awaitsStart
 waits-start Start e = refl
@@ -111,7 +108,7 @@ is-said Nothing e = absurd (false≢true e)
 
 -- ---- what a call that is taken has passed
 module _ (s : Session) (buf : List ℕ) where
-  first-passed : (rest : List (Bool × ℕ)) → firstOf (firstLines s buf ++ rest) ≡ 0
+  first-passed : (rest : List (Bool × ℕ)) → firstOf (firstLines (s .state .phase) buf ++ rest) ≡ 0
       → ((longest ≤ length buf) × (isOver (s .state .phase) ≡ false)) × (firstOf rest ≡ 0)
   unfolding firstLines
   first-passed rest h =
@@ -127,27 +124,27 @@ module _ (s : Session) (buf : List ℕ) where
   passed silence h = first-passed _ h .0
   passed (host b) h = first-passed _ h .0
 
-  pub start-passed : (b : List ℕ) → startRefusal s b buf ≡ 0 → (validStart b ≡ true) × (s .state .phase ≡ Start)
+  pub start-passed : (b : List ℕ) → startRefusal (s .state .phase) b buf ≡ 0 → (validStart b ≡ true) × (s .state .phase ≡ Start)
   unfolding startRefusal
   start-passed b h =
       let three = line-clear (not (validStart b)) 3 _ (λ z. omega arith) (first-passed _ h .1) in
       let four = line-clear (not (awaitsStart (s .state .phase))) 4 [] (λ z. omega arith) (three .1) in
       (not-false _ (three .0), waits-start (s .state .phase) (not-false _ (four .0)))
 
-  pub answer-passed : (a : List ℕ) → answerRefusal s a buf ≡ 0 → (length a ≤ payloadMost) × ((w : Asked) × (askedIn (s .state) ≡ some w))
+  pub answer-passed : (a : List ℕ) → answerRefusal (s .state .phase) a buf ≡ 0 → (length a ≤ payloadMost) × ((w : Asked) × (askedIn (s .state) ≡ some w))
   unfolding answerRefusal
   answer-passed a h =
       let four = line-clear (not (awaitsCard (s .state .phase))) 4 _ (λ z. omega arith) (first-passed _ h .1) in
       let five = line-clear (ltb payloadMost (length a)) 5 [] (λ z. omega arith) (four .1) in
       (ltb-false payloadMost (length a) (five .0), waits-card (s .state) (not-false _ (four .0)))
 
-  pub silence-passed : silenceRefusal s buf ≡ 0 → (w : Asked) × (askedIn (s .state) ≡ some w)
+  pub silence-passed : silenceRefusal (s .state .phase) buf ≡ 0 → (w : Asked) × (askedIn (s .state) ≡ some w)
   unfolding silenceRefusal
   silence-passed h =
       let four = line-clear (not (awaitsCard (s .state .phase))) 4 [] (λ z. omega arith) (first-passed _ h .1) in
       waits-card (s .state) (not-false _ (four .0))
 
-  pub host-passed : (h : List ℕ) → hostRefusal s h buf ≡ 0 → (s .state .phase ≡ Host) × ((r : Said·Reply) × (replyOf h ≡ Said r))
+  pub host-passed : (h : List ℕ) → hostRefusal (s .state .phase) h buf ≡ 0 → (s .state .phase ≡ Host) × ((r : Said·Reply) × (replyOf h ≡ Said r))
   unfolding hostRefusal
   host-passed h z =
       let four = line-clear (not (awaitsHost (s .state .phase))) 4 _ (λ z. omega arith) (first-passed _ z .1) in

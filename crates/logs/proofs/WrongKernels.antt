@@ -12,7 +12,7 @@ use Rattle.lists.specs.Writing.{zeros}
 use Rattle.lists.proofs.Writing.{zeros-length}
 use Rattle.terminal.specs.Reading.{readingOf}
 use Rattle.terminal.specs.Start.{validKind, validDigits, validRandom, validPercentages, validThreshold, validAid, validStart}
-use Rattle.terminal.specs.Tests.{every, between}
+use Rattle.lists.specs.Tests.{every, between}
 use Rattle.terminal.specs.Decimal.{decimalFrom, decimal, decimalByte, digitsOnly, zerosOnly}
 use Rattle.terminal.specs.Dates.{monthAndDay, validStartDate}
 use Rattle.tape.specs.Entries.{Entry, entry, start as startKind, command, decision}
@@ -28,7 +28,7 @@ use Rattle.rulebook.proofs.Trichotomy.{snoc-same}
 use Rattle.rulebook.proofs.ShutOut.{Parts, not-terminating, not-always-aac, not-idle, not-settled}
 use Rattle.state.specs.Results.{outcomeOf, decisionIn}
 use Rattle.state.specs.Keeping.{stateAt, fresh}
-use Rattle.dialogue.specs.Moves.{started}
+use Rattle.dialogue.specs.Events.{started}
 use Rattle.refinement.proofs.Stepping.{start-step}
 use Rattle.kernel.specs.declared.Session.{Session}
 use Rattle.kernel.specs.Calls.{Called, accepted, freshSession}

@@ -13,7 +13,7 @@ use Rattle.rulebook.specs.Session.{Session as WholeSession, Open}
 use Rattle.rulebook.proofs.Running.{at, owes, run}
 use Rattle.state.specs.Results.{decisionIn}
 use Rattle.state.specs.declared.Phase.the-variants.{Closed}
-use Rattle.dialogue.specs.Moves.{keptAs}
+use Rattle.moves.specs.Moves.{keptAs}
 use Rattle.refinement.specs.Logging.{logged, landing}
 use Rattle.kernel.specs.declared.Session.{Session}
 use Rattle.kernel.specs.declared.Reply.the-variants.{Command, Host, Decided, Closed as ClosedReply, Refused}

@@ -9,18 +9,18 @@ use lib.ListN.{length, getD}
 use Rattle.terminal.specs.Start.{validStart}
 use Rattle.tape.specs.Entries.{payloadMost}
 use Rattle.commands.specs.Commands.{longest}
-use Rattle.decide.specs.Replies.{replyOf}
+use Rattle.decide.specs.Replies.{replyOf, isReply}
 use Rattle.kernel.specs.declared.Session.{Session}
-use Rattle.kernel.specs.Waiting.{isOver, awaitsStart, awaitsCard, awaitsHost}
-use Rattle.kernel.specs.Calls.{isReply, startRefusal, answerRefusal, silenceRefusal, hostRefusal}
+use Rattle.refusals.specs.Waiting.{isOver, awaitsStart, awaitsCard, awaitsHost}
+use Rattle.refusals.specs.Refusals.{startRefusal, answerRefusal, silenceRefusal, hostRefusal}
 use Rattle.logs.specs.Log.{Event, start, answer, silence, host}
 
 -- the number that the kernel gives a call, 0 where it takes it
 unfoldable pub refusalOf : Event → Session → List ℕ → ℕ
-refusalOf (start b) s buf = startRefusal s b buf
-refusalOf (answer a) s buf = answerRefusal s a buf
-refusalOf silence s buf = silenceRefusal s buf
-refusalOf (host h) s buf = hostRefusal s h buf
+refusalOf (start b) s buf = startRefusal (s .state .phase) b buf
+refusalOf (answer a) s buf = answerRefusal (s .state .phase) a buf
+refusalOf silence s buf = silenceRefusal (s .state .phase) buf
+refusalOf (host h) s buf = hostRefusal (s .state .phase) h buf
 
 -- 3 START invalid or not 74 bytes
 unfoldable pub startBad : Event → Bool

@@ -23,8 +23,8 @@ use Rattle.decide.specs.Requests.{p1Of}
 use Rattle.rulebook.specs.Situation.{knownIn, listIn}
 use Rattle.rulebook.specs.Phase.{Asked, selecting, optioning, reading, first, second, Phase, opens, asks, hears, decides, situationOf, commandOf}
 use Rattle.state.specs.declared.State.{State}
-use Rattle.dialogue.specs.declared.Due.the-variants.{Command}
-use Rattle.dialogue.specs.Moves.{dueIn, bufferIn}
+use Rattle.moves.specs.declared.Due.the-variants.{Command}
+use Rattle.moves.specs.Moves.{dueIn, bufferIn}
 use Rattle.refinement.specs.Agreeing.{forgets, StandsAt}
 use Rattle.refinement.proofs.Standing.{situation-forgets, asked-terminal}
 

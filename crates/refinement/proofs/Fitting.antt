@@ -33,7 +33,8 @@ use Rattle.state.specs.declared.State.{State}
 use Rattle.state.specs.declared.Phase.{Phase as Kept}
 use Rattle.state.proofs.Telling.{late-told}
 use Rattle.state.proofs.Starting.{early-begun, late-options, left-options}
-use Rattle.dialogue.specs.Moves.{awaiting, keptAs, cursorAsking, cursorAfter, standing, keeping}
+use Rattle.moves.specs.Moves.{awaiting, keptAs, cursorAsking, cursorAfter, standing}
+use Rattle.dialogue.specs.Events.{keeping}
 use Rattle.refinement.specs.Agreeing.{forgets, StandsAt}
 use Rattle.refinement.proofs.Standing.{asked-one}
 

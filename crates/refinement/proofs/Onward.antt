@@ -15,8 +15,8 @@ use Rattle.decide.specs.declared.reply.Reply.the-variants.{Unable}
 use Rattle.rulebook.specs.Situation.{Situation, listIn}
 use Rattle.rulebook.specs.Phase.{Asked, selecting, optioning, reading, first, second, Phase, opens, asks, hears, decides, decided, ended}
 use Rattle.rulebook.specs.Turn.{goesOn, selected, requested, allRead, readOn, optioned, recorded, replied, online, byFirst, firstAnswered, secondAnswered, turn, heard}
-use Rattle.dialogue.specs.declared.Due.the-variants.{Nothing}
-use Rattle.dialogue.specs.Moves.{dueIn}
+use Rattle.moves.specs.declared.Due.the-variants.{Nothing}
+use Rattle.moves.specs.Moves.{dueIn}
 use Rattle.refinement.proofs.Telling.{due-nothing}
 
 isStart : Phase → Bool

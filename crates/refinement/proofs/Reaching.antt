@@ -13,7 +13,7 @@ use Rattle.state.specs.Reading.{late, askedIn}
 use Rattle.state.specs.Keeping.{fresh}
 use Rattle.state.specs.declared.State.{State}
 use Rattle.state.specs.declared.Phase.the-variants.{Start, Host, Decided, Closed}
-use Rattle.dialogue.specs.Moves.{Moved}
+use Rattle.moves.specs.Moves.{Moved}
 use Rattle.refinement.specs.Agreeing.{forgets, StandsAt, Agrees}
 use Rattle.refinement.specs.Logging.{logged, landing, Follows, Reached}
 use Rattle.refinement.proofs.Stepping.{run-on, lands-at, fresh-stands}

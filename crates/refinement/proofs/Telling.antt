@@ -10,8 +10,8 @@ use Rattle.state.specs.Reading.{late, askedIn}
 use Rattle.state.specs.declared.State.{State}
 use Rattle.state.specs.declared.Phase.{Phase as Kept}
 use Rattle.state.specs.declared.Phase.the-variants.{Start, Select, Options, Record, First, Second, Host, Decided, Closed}
-use Rattle.dialogue.specs.declared.Due.the-variants.{Command, Host as HostDue, Decision, Nothing}
-use Rattle.dialogue.specs.Moves.{awaiting, keptAs, dueIn}
+use Rattle.moves.specs.declared.Due.the-variants.{Command, Host as HostDue, Decision, Nothing}
+use Rattle.moves.specs.Moves.{awaiting, keptAs, dueIn}
 use Rattle.refinement.specs.Agreeing.{forgets, StandsAt}
 use Rattle.refinement.proofs.Standing.{asked-one}
 

@@ -9,7 +9,7 @@ use Rattle.tape.specs.Entries.{Entry, entry, command, decision}
 use Rattle.rulebook.specs.Phase.{Phase, opens, asks, hears, decides, commandOf, decisionOf}
 use Rattle.rulebook.proofs.Running.{State as Machine, at, owes, done, next, run}
 use Rattle.state.specs.declared.State.{State}
-use Rattle.dialogue.specs.Moves.{Moved, dueIn, bufferIn}
+use Rattle.moves.specs.Moves.{Moved, dueIn, bufferIn}
 use Rattle.refinement.specs.Agreeing.{StandsAt, Agrees}
 
 -- the command or the decision that is due

@@ -9,7 +9,7 @@ use Rattle.lists.specs.Choice.{pick, firstOf}
 use Rattle.lists.proofs.Choice.{pick-yes}
 use Rattle.terminal.specs.Reading.{Terminal, readingOf}
 use Rattle.terminal.specs.Start.{validKind, validDigits, validRandom, validPercentages, validThreshold, validAid, validStart, terminalOf}
-use Rattle.terminal.specs.Tests.{every, between}
+use Rattle.lists.specs.Tests.{every, between}
 use Rattle.terminal.specs.Decimal.{decimalFrom, decimal, decimalByte, digitsOnly, zerosOnly}
 use Rattle.terminal.specs.Dates.{monthAndDay, validStartDate}
 use Rattle.card_data.specs.Answer.{sizeBad, frame}

@@ -9,7 +9,7 @@ use Prim.Native.Nat.{ℕ}
 use lib.Dec.{eqb}
 use Rattle.lists.specs.Choice.{pick}
 use Rattle.lists.proofs.Choice.{pick-no, picked}
-use Rattle.terminal.specs.Tests.{every}
+use Rattle.lists.specs.Tests.{every}
 use Rattle.terminal.specs.Decimal.{zerosOnly}
 use Rattle.terminal.specs.Reading.{Terminal}
 use Rattle.terminal.specs.Start.{terminalOf}

@@ -17,4 +17,5 @@ pub mod WrittenOut
 pub mod Longest
 pub mod ShutOut
 pub mod SeenErrors
+pub mod Payloads
 pub mod Theorem

@@ -55,15 +55,20 @@ profiled profile first last = 0x77 ∷ 0x0A ∷ 0x82 ∷ 0x02 ∷ profile ∷ 0x
 abbrev pub optioned : ℕ → ℕ → List ℕ
 optioned first last = profiled 0x00 first last
 
--- READ RECORD, and a record with all that is mandatory, no list for the second request, and action codes of zeros; its 8C is three
--- bytes
+-- READ RECORD, and a record with all that is mandatory and action codes of zeros; its 8C is three bytes, and its 8D is empty where
+-- nothing else is said
 abbrev pub readOne : List ℕ
 readOne = 0x00 ∷ 0xB2 ∷ 0x01 ∷ 0x0C ∷ 0x00 ∷ []
 
+abbrev pub recordedWith : ℕ → List ℕ → List ℕ → List ℕ
+recordedWith size list second =
+    0x70 ∷ size ∷ 0x5A ∷ 0x02 ∷ 0x12 ∷ 0x34 ∷ 0x5F ∷ 0x24 ∷ 0x03 ∷ 0x30 ∷ 0x12 ∷ 0x31 ∷ 0x8C ∷ 0x03
+    ∷ (list
+    ++ (0x8D
+    ∷ (second ++ (0x9F ∷ 0x0D ∷ 0x05 ∷ 0 ∷ 0 ∷ 0 ∷ 0 ∷ 0 ∷ 0x9F ∷ 0x0F ∷ 0x05 ∷ 0 ∷ 0 ∷ 0 ∷ 0 ∷ 0 ∷ 0x90 ∷ 0x00 ∷ []))))
+
 abbrev pub recorded : List ℕ → List ℕ
-recorded list =
-    0x70 ∷ 0x21 ∷ 0x5A ∷ 0x02 ∷ 0x12 ∷ 0x34 ∷ 0x5F ∷ 0x24 ∷ 0x03 ∷ 0x30 ∷ 0x12 ∷ 0x31 ∷ 0x8C ∷ 0x03
-    ∷ (list ++ (0x8D ∷ 0x00 ∷ 0x9F ∷ 0x0D ∷ 0x05 ∷ 0 ∷ 0 ∷ 0 ∷ 0 ∷ 0 ∷ 0x9F ∷ 0x0F ∷ 0x05 ∷ 0 ∷ 0 ∷ 0 ∷ 0 ∷ 0 ∷ 0x90 ∷ 0x00 ∷ []))
+recorded list = recordedWith 0x21 list (0x00 ∷ [])
 
 -- the unpredictable number is asked for
 abbrev pub number : List ℕ
@@ -97,9 +102,12 @@ abbrev pub exchange : List ℕ → List ℕ → List Entry
 exchange c a = entry command c ∷ entry answer a ∷ []
 
 -- up to the first GENERATE AC
+abbrev pub openingWith : ℕ → List ℕ → List Entry
+openingWith kind record′ =
+    entry start (startOf kind) ∷ (exchange select selected ++ (exchange options (optioned 1 1) ++ exchange readOne record′))
+
 abbrev pub opening : ℕ → List Entry
-opening kind =
-    entry start (startOf kind) ∷ (exchange select selected ++ (exchange options (optioned 1 1) ++ exchange readOne (recorded number)))
+opening kind = openingWith kind (recorded number)
 
 -- a list that the machine reads to its end is a session
 pub reads : (es : List Entry) → reached es ≡ some done → Session es

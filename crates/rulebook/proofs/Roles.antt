@@ -11,7 +11,9 @@ use lib.Dec.{eqb}
 use Rattle.tape.specs.Entries.{Entry, entry, start, command, answer, host, decision}
 use Rattle.rulebook.specs.Phase.{opens, asks, hears, decides, commandOf, decisionOf}
 use Rattle.rulebook.specs.Session.{Session, Open, Lawful, BreaksAt}
-use Rattle.rulebook.proofs.Running.{State, at, owes, done, due, alike, alike-same, due-entry, due-test, next, run, chosen, taken, no-state, session-run}
+use Rattle.lists.specs.Tests.{alike}
+use Rattle.lists.proofs.Comparing.{alike-same}
+use Rattle.rulebook.proofs.Running.{State, at, owes, done, due, due-entry, due-test, next, run, chosen, taken, no-state, session-run}
 use Rattle.rulebook.proofs.Reading.{run-append}
 use Rattle.rulebook.proofs.Trichotomy.{Sort, finished, unfinished, neither, sorted, one-sort}
 use Rattle.rulebook.proofs.Ends.{finishes}

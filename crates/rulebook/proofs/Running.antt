@@ -22,6 +22,8 @@ use Rattle.rulebook.specs.Situation.{Situation}
 use Rattle.rulebook.specs.Phase.{Asked, Phase, opens, asks, hears, decides, commandOf, decisionOf}
 use Rattle.rulebook.specs.Turn.{opened, turn, heard}
 use Rattle.rulebook.specs.Session.{isPayload, Plays, started, exchanged, told, decided, Session}
+use Rattle.lists.specs.Tests.{alike}
+use Rattle.lists.proofs.Comparing.{alike-same, same-alike}
 use Rattle.rulebook.proofs.Single.{head-same, tail-same}
 
 -- a phase, or a command that was sent and awaits its answer, or the end
@@ -29,28 +31,6 @@ pub data State : Type 0 where
   at : Phase → State
   owes : Asked → State
   done : State
-
--- two lists of bytes that are equal
-unfoldable pub alike : List ℕ → List ℕ → Bool
-alike [] [] = true
-alike [] (b ∷ bs) = false
-alike (a ∷ as′) [] = false
-alike (a ∷ as′) (b ∷ bs) = eqb a b && alike as′ bs
-
-pub alike-same : (a b : List ℕ) → alike a b ≡ true → a ≡ b
-unfolding alike
-alike-same [] [] e = refl
-alike-same [] (b ∷ bs) e = absurd (let z : _≡_ {A = ℕ} 0 1 = cc in omega arith)
-alike-same (a ∷ as′) [] e = absurd (let z : _≡_ {A = ℕ} 0 1 = cc in omega arith)
-alike-same (a ∷ as′) (b ∷ bs) e =
-    let first : a ≡ b = eqb-true a b (and-left (eqb a b) (alike as′ bs) e) in
-    let rest = alike-same as′ bs (and-right (eqb a b) (alike as′ bs) e) in
-    cc
-
-pub same-alike : (a : List ℕ) → alike a a ≡ true
-unfolding alike
-same-alike [] = refl
-same-alike (a ∷ as′) = and-both (eqb a a) (alike as′ as′) (eq-eqb a a refl) (same-alike as′)
 
 -- an entry of a kind, where its payload passes a test
 unfoldable pub due : ℕ → Bool → Entry → Bool

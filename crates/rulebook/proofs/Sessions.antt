@@ -7,7 +7,7 @@ use Prim.Native.Nat.{ℕ}
 use Rattle.tape.specs.Entries.{Entry, entry, start, host}
 use Rattle.rulebook.specs.Session.{Session}
 use Rattle.rulebook.proofs.Opening.{reached}
-use Rattle.rulebook.proofs.Made.{startOf, select, selected, options, optioned, readOne, recorded, firstAsked, secondAsked, given, aac, tc, arqc, decides, exchange, opening, reads}
+use Rattle.rulebook.proofs.Made.{startOf, select, selected, options, optioned, readOne, recordedWith, recorded, number, firstAsked, secondAsked, given, aac, tc, arqc, decides, exchange, openingWith, opening, reads}
 
 -- ---- decided sessions
 
@@ -77,6 +77,19 @@ reasons-6-and-7 = (reads _ refl, reads _ refl)
 pub reasons-8-and-9 : Session (afterRecord (0x70 ∷ 0x00 ∷ 0x90 ∷ 0x00 ∷ []) 8 0) × Session (afterRecord (recorded (0x95 ∷ 0x01 ∷ 0x9F ∷ [])) 9 0x80)
 unfolding reached
 reasons-8-and-9 = (reads _ refl, reads _ refl)
+
+-- an 8D that breaks off ends a session of type 0 at the allowed ARQC and one of another type at HOST, the first answer's bit set;
+-- where no second request comes it does no harm
+abbrev secondBroken : ℕ → ℕ → List Entry → List Entry
+secondBroken kind cid rest =
+    openingWith kind (recordedWith 0x22 number (0x01 ∷ 0x9F ∷ [])) ++ (exchange (firstAsked tc) (given cid) ++ rest)
+
+pub reason-9-second :
+    Session (secondBroken 0 arqc (decides 3 9 0x80 0x20))
+    × Session (secondBroken 2 arqc (entry host (1 ∷ 0x30 ∷ 0x30 ∷ []) ∷ decides 3 9 0x80 0x20))
+    × Session (secondBroken 2 tc (decides 1 0 0x80 0x20))
+unfolding reached
+reason-9-second = (reads _ refl, reads _ refl, reads _ refl)
 
 -- a TC where an ARQC was asked for
 pub reason-10 : Session (opening 1 ++ (exchange (firstAsked arqc) (given tc) ++ decides 3 10 0x80 0))

@@ -12,14 +12,13 @@ use lib.Seq.{take-all}
 use Rattle.lists.specs.Choice.{pick}
 use Rattle.lists.proofs.Choice.{pick-yes, pick-no, pick-ap}
 use Rattle.objects.specs.Objects.{isSome}
-use Rattle.object_lists.specs.Known.{held, nothing, kept, beside}
-use Rattle.card_data.specs.Tables.{beside as besideAll}
+use Rattle.lists.specs.Tables.{beside}
+use Rattle.object_lists.specs.Known.{held, nothing, kept}
 use Rattle.answers.specs.Records.{toldBy}
-use Rattle.answers.specs.declared.records.Seen.{Seen}
-use Rattle.decide.specs.Card.{CardFacts, factsOf}
-use Rattle.rulebook.specs.Situation.{perhaps, profileKnown, knownIn, cardFacts}
+use Rattle.decide.specs.Card.{CardFacts, codesOf, factsOf}
+use Rattle.rulebook.specs.Situation.{perhaps, profileKnown, knownIn, cardFacts, issuerCodes}
 use Rattle.state.specs.Reading.{runHeld, inRun, toldLines, factsIn, situationWith, early, late}
-use Rattle.state.specs.Readings.{knownWith, decisionFacts}
+use Rattle.state.specs.Readings.{seenIn, codesIn, knownWith, decisionFacts}
 use Rattle.state.specs.declared.Run.{Run}
 use Rattle.state.specs.declared.Told.{Told}
 use Rattle.state.specs.declared.State.{State}
@@ -50,19 +49,17 @@ unfolding pick isSome
 some-there true v = refl
 some-there false v = refl
 
-seen-beside : (name : ℕ) (lines : List (ℕ × Option (List ℕ))) → besideAll false name (map (λ l. (l .0, isSome (l .1))) lines) ≡ isSome (beside name lines)
-unfolding beside besideAll isSome
+seen-beside : (name : ℕ) (lines : List (ℕ × Option (List ℕ))) → beside false name (map (λ l. (l .0, isSome (l .1))) lines) ≡ isSome (beside none name lines)
+unfolding beside isSome
 seen-beside name [] = refl
 seen-beside name (l ∷ lines) =
-    ap (pick (eqb name (l .0)) (isSome (l .1))) (seen-beside name lines) ∙ sym (pick-ap isSome (eqb name (l .0)) (l .1) (beside name lines))
+    ap (pick (eqb name (l .0)) (isSome (l .1))) (seen-beside name lines) ∙ sym (pick-ap isSome (eqb name (l .0)) (l .1) (beside none name lines))
 
-pub seen-told : (t : Told)
-    → toldBy (record { number = t .number .there; expiry = t .expiry .present; effective = t .effective .present; version = t .version .present; «first_list» = t .«first_list» .there; «second_list» = t .«second_list» .there; default = t .default .present; denial = t .denial .present; online = t .online .present })
-    ≡ (λ name. isSome (factsIn t name))
-unfolding toldBy factsIn toldLines held runHeld
+pub seen-told : (t : Told) → toldBy (seenIn t) ≡ (λ name. isSome (factsIn t name))
+unfolding toldBy seenIn factsIn toldLines held runHeld
 seen-told t =
     λ i name.
-    ((λ j. besideAll false name
+    ((λ j. beside false name
     ((0x5A, some-there (t .number .there) (take (t .number .len) (t .number .bytes)) j)
     ∷ (0x5F24, some-there (t .expiry .present) (t .expiry .bytes) j)
     ∷ (0x5F25, some-there (t .effective .present) (t .effective .bytes) j)
@@ -73,6 +70,11 @@ seen-told t =
     ∷ (0x9F0E, some-there (t .denial .present) (t .denial .bytes) j)
     ∷ (0x9F0F, some-there (t .online .present) (t .online .bytes) j)
     ∷ [])) ∙ seen-beside name (toldLines t)) i
+
+-- the issuer's codes stand beside their names
+pub codes-told : (s : State) → codesOf (codesIn s) ≡ issuerCodes (late s)
+unfolding codesIn pick beside issuerCodes late situationWith factsIn toldLines
+codes-told s = refl
 
 -- a run's bytes
 module _ (r : Run) where

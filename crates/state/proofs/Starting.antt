@@ -12,7 +12,8 @@ use Rattle.lists.specs.Choice.{pick}
 use Rattle.lists.specs.Writing.{zeros}
 use Rattle.lists.proofs.Choice.{pick-same}
 use Rattle.terminal.specs.Reading.{readingOf}
-use Rattle.object_lists.specs.Known.{held, nothing, beside}
+use Rattle.lists.specs.Tables.{beside}
+use Rattle.object_lists.specs.Known.{held, nothing}
 use Rattle.locator.specs.Entries.{toRead}
 use Rattle.locator.specs.Cursor.{start, remaining}
 use Rattle.locator.proofs.Walking.{all-remain}
@@ -26,7 +27,7 @@ use Rattle.state.specs.declared.State.{State}
 use Rattle.state.proofs.Telling.{fixed-all, run-kept}
 
 -- a table in which nothing stands beside any name
-empty-beside : (tag : ℕ) (names : List ℕ) → beside tag (map (λ n. (n, none)) names) ≡ none
+empty-beside : (tag : ℕ) (names : List ℕ) → beside {A = Option (List ℕ)} none tag (map (λ n. (n, none)) names) ≡ none
 unfolding beside
 empty-beside tag [] = refl
 empty-beside tag (n ∷ names) = ap (pick (eqb tag n) none) (empty-beside tag names) ∙ pick-same (eqb tag n) none

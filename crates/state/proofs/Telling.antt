@@ -17,11 +17,11 @@ use Rattle.lists.proofs.Choice.{pick-yes, pick-no, pick-same, either}
 use Rattle.lists.proofs.Writing.{put-start, laid-fits, zeros-length}
 use Rattle.objects.specs.Objects.{isSome}
 use Rattle.terminal.specs.Reading.{readingOf}
-use Rattle.object_lists.specs.Known.{held, kept, longest, beside, orElse}
+use Rattle.object_lists.specs.Known.{held, kept, longest, orElse}
 use Rattle.object_lists.proofs.Tables.{held-kept}
 use Rattle.decide.specs.Card.{given}
 use Rattle.card_data.specs.Named.{listed}
-use Rattle.card_data.specs.Tables.{anyOf, beside as besideAll}
+use Rattle.lists.specs.Tables.{anyOf, beside}
 use Rattle.card_data.specs.Content.{rules, ruleFor, rightValue}
 use Rattle.card_data.specs.declared.content.Rule.the-variants.{Sizes, Date}
 use Rattle.card_data.proofs.Sizes.{sized, number-size, date-size}
@@ -76,11 +76,11 @@ at-line true x o more v w m same e = ap (orElse x) (same refl)
 at-line false x o more v w m same e = e
 
 grown : (a : List ℕ) (tag : ℕ) (lines : List (ℕ × Option (List ℕ)))
-    → beside tag (map (λ l. (l .0, orElse (l .1) (valueIn (l .0) a))) lines) ≡ orElse (beside tag lines) (pick (anyOf (map (eqb tag) (map (λ l. l .0) lines))) (valueIn tag a) none)
+    → beside none tag (map (λ l. (l .0, orElse (l .1) (valueIn (l .0) a))) lines) ≡ orElse (beside none tag lines) (pick (anyOf (map (eqb tag) (map (λ l. l .0) lines))) (valueIn tag a) none)
 unfolding beside orElse anyOf pick
 grown a tag [] = refl
 grown a tag (l ∷ lines) =
-    at-line (eqb tag (l .0)) (l .1) (beside tag lines) (beside tag (map (λ l. (l .0, orElse (l .1) (valueIn (l .0) a))) lines)) (valueIn tag a) (valueIn (l .0) a)
+    at-line (eqb tag (l .0)) (l .1) (beside none tag lines) (beside none tag (map (λ l. (l .0, orElse (l .1) (valueIn (l .0) a))) lines)) (valueIn tag a) (valueIn (l .0) a)
     (anyOf (map (eqb tag) (map (λ l. l .0) lines)))
     (λ y. ap (λ (n : ℕ). valueIn n a) (sym (eqb-true tag (l .0) y)))
     (grown a tag lines)
@@ -106,7 +106,7 @@ module _ (t : Told) (a : List ℕ) (good : recordReason (λ name. isSome (factsI
   listing name x r l e = let h = told name x l e in let z = sized name 0 252 x r (h .0) in (run-kept x (z .1), h .1)
 
   versioned : (x : List ℕ) → valueIn 0x9F08 a ≡ some x → (given (keptVersion x .present) (keptVersion x .bytes) ≡ some x) × (isSome (factsIn t 0x9F08) ≡ false)
-  unfolding keptVersion pick ruleFor rules besideAll listed anyOf
+  unfolding keptVersion pick ruleFor rules beside listed anyOf
   versioned x e = let h = told 0x9F08 x refl e in let z = sized 0x9F08 2 2 x refl (h .0) in (ap some (fixed-all 2 x (omega arith)), h .1)
 
   numbered : (x : List ℕ) → valueIn 0x5A a ≡ some x → (held (kept x) ≡ some x) × (isSome (factsIn t 0x5A) ≡ false)
@@ -114,7 +114,7 @@ module _ (t : Told) (a : List ℕ) (good : recordReason (λ name. isSome (factsI
   numbered x e = let h = told 0x5A x refl e in (held-kept x (number-size x (h .0) .1), h .1)
 
   lines-told : toldLines (withRecord a t) ≡ map (λ l. (l .0, orElse (l .1) (valueIn (l .0) a))) (toldLines t)
-  unfolding toldLines withRecord factsIn beside pick ruleFor rules besideAll listed anyOf
+  unfolding toldLines withRecord factsIn beside pick ruleFor rules listed anyOf
   lines-told =
       λ i.
       (0x5A, over-read kept held (t .number) (valueIn 0x5A a) numbered i)
@@ -130,7 +130,7 @@ module _ (t : Told) (a : List ℕ) (good : recordReason (λ name. isSome (factsI
 
   facts-told : factsIn (withRecord a t) ≡ (λ tag. orElse (factsIn t tag) (namedIn tag a))
   unfolding factsIn namedIn listed toldLines
-  facts-told = λ i tag. (ap (beside tag) lines-told ∙ grown a tag (toldLines t)) i
+  facts-told = λ i tag. (ap (beside none tag) lines-told ∙ grown a tag (toldLines t)) i
 
 pub late-told : (s : State) (a : List ℕ) → recordReason (λ name. isSome (factsIn (s .told) name)) a ≡ 0
     → late (withTold (withRecord a (s .told)) s) ≡ recordAdded (late s) a

@@ -9,7 +9,8 @@ use lib.ListN.{length, take}
 use Rattle.lists.specs.Choice.{pick}
 use Rattle.lists.specs.Writing.{laid, zeros}
 use Rattle.terminal.specs.Reading.{readingOf}
-use Rattle.object_lists.specs.Known.{held, beside}
+use Rattle.lists.specs.Tables.{beside}
+use Rattle.object_lists.specs.Known.{held}
 use Rattle.decide.specs.Card.{given}
 use Rattle.locator.specs.Cursor.{remaining}
 use Rattle.rulebook.specs.Situation.{Situation, Facts}
@@ -52,7 +53,7 @@ toldLines t =
     ∷ []
 
 unfoldable pub factsIn : Told → Facts
-factsIn t tag = beside tag (toldLines t)
+factsIn t tag = beside none tag (toldLines t)
 
 -- the situation beside a profile
 unfoldable pub situationWith : List ℕ → State → Situation

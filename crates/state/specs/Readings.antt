@@ -7,9 +7,29 @@ use Rattle.object_lists.specs.Known.{kept, held}
 use Rattle.object_lists.specs.declared.Value.{Value}
 use Rattle.object_lists.specs.declared.Known.{Known}
 use Rattle.decide.specs.Card.{given}
+use Rattle.answers.specs.declared.records.Seen.{Seen}
+use Rattle.decide.specs.declared.requests.Codes.{Codes}
 use Rattle.decide.specs.declared.results.Facts.{Facts}
 use Rattle.rulebook.specs.Situation.{perhaps}
+use Rattle.state.specs.declared.Told.{Told}
 use Rattle.state.specs.declared.State.{State}
+
+unfoldable pub seenIn : Told → Seen
+seenIn t =
+    record {
+      number = t .number .there;
+      expiry = t .expiry .present;
+      effective = t .effective .present;
+      version = t .version .present;
+      «first_list» = t .«first_list» .there;
+      «second_list» = t .«second_list» .there;
+      default = t .default .present;
+      denial = t .denial .present;
+      online = t .online .present;
+    }
+
+unfoldable pub codesIn : State → Codes
+codesIn s = record { denial = s .told .denial; online = s .told .online; default = s .told .default }
 
 unfoldable pub decisionFacts : State → Facts
 decisionFacts s =

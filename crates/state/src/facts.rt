@@ -5,15 +5,10 @@ use answers::records::Seen;
 use decide::requests::Codes;
 use decide::results::Facts;
 ghost use mathlib.Core.Path.{_≡_};
-ghost use Rattle.objects.specs.Objects.{isSome};
-ghost use Rattle.answers.specs.Records.{toldBy};
-ghost use Rattle.decide.specs.Card.{codesOf};
-ghost use Rattle.rulebook.specs.Situation.{issuerCodes};
-ghost use Rattle.state.specs.Reading.{factsIn, late};
-ghost use Rattle.state.specs.Readings.{decisionFacts};
+ghost use Rattle.state.specs.Readings.{seenIn, codesIn, decisionFacts};
 
 pub fn seen(told: Told) -> Seen
-    ensures { λ r. ⌜ toldBy r ≡ (λ name. isSome (factsIn told name)) ⌝ }
+    ensures { λ r. ⌜ r ≡ seenIn told ⌝ }
 {
     Seen {
         number: told.number.there,
@@ -46,7 +41,7 @@ pub fn facts(s: State) -> Facts
 }
 
 pub fn codes(s: State) -> Codes
-    ensures { λ r. ⌜ codesOf r ≡ issuerCodes (late s) ⌝ }
+    ensures { λ r. ⌜ r ≡ codesIn s ⌝ }
 {
     let told = s.told;
     let denial = told.denial;

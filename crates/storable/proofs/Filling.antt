@@ -17,7 +17,8 @@ use Rattle.terminal.specs.Reading.{Terminal}
 use Rattle.tape.proofs.Extra.{zeros-bytes}
 use Rattle.object_lists.specs.Wanted.{Wanted, entriesOf, fillable}
 use Rattle.object_lists.specs.Shape.{shaped, formatOf}
-use Rattle.object_lists.specs.Known.{held, longest, nothing, kept, beside, ofTerminal, ofSession, orElse, valueFor, withFormat, supplied}
+use Rattle.lists.specs.Tables.{beside}
+use Rattle.object_lists.specs.Known.{held, longest, nothing, kept, ofTerminal, ofSession, orElse, valueFor, withFormat, supplied}
 use Rattle.object_lists.specs.Filled.{entryBytes, filled, filledBy, filledList, filling}
 use Rattle.object_lists.specs.declared.Format.{Format}
 use Rattle.object_lists.specs.declared.Format.the-variants.{Numeric, CardNumber, Other}
@@ -59,12 +60,12 @@ held-bytes v h = picked Told (v .there) (some (take (v .len) (v .bytes))) none (
 
 -- ---- what is supplied
 
-beside-bytes : (tag : ℕ) (lines : List (ℕ × Option (List ℕ))) → rowsBytes lines ≡ true → Told (beside tag lines)
+beside-bytes : (tag : ℕ) (lines : List (ℕ × Option (List ℕ))) → rowsBytes lines ≡ true → Told (beside none tag lines)
 unfolding beside rowsBytes
 beside-bytes tag [] h = refl
 beside-bytes tag (line ∷ lines) h =
     let own = areBytes (Option·getD (line .1) []) in
-    picked Told (eqb tag (line .0)) (line .1) (beside tag lines)
+    picked Told (eqb tag (line .0)) (line .1) (beside none tag lines)
     (λ y. and-left own (rowsBytes lines) h)
     (λ n. beside-bytes tag lines (and-right own (rowsBytes lines) h))
 
@@ -93,7 +94,7 @@ entry-bytes n f (some v) h = shaped-bytes f n v h
 module _ (t : Terminal) (k : Known) (own : rowsBytes (ofTerminal t) ≡ true) (seen : rowsBytes (ofSession k) ≡ true) where
   value-bytes : (tag : ℕ) → Told (valueFor t k tag)
   unfolding valueFor
-  value-bytes tag = else-bytes (beside tag (ofTerminal t)) (beside tag (ofSession k)) (beside-bytes tag (ofTerminal t) own) (beside-bytes tag (ofSession k) seen)
+  value-bytes tag = else-bytes (beside none tag (ofTerminal t)) (beside none tag (ofSession k)) (beside-bytes tag (ofTerminal t) own) (beside-bytes tag (ofSession k) seen)
 
   filled-bytes : (ws : List Wanted) → areBytes (filled t k ws) ≡ true
   unfolding filled supplied

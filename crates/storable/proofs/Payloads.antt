@@ -9,8 +9,7 @@ use native.Mathlib.Omega.{arith}
 use lib.Dec.{leb}
 use lib.ListN.{length, length-append}
 use lib.Pow.{areBytes}
-use borrow.Author.Tests.{le-leb}
-use Rattle.lists.proofs.Choice.{and-right, and-both}
+use Rattle.lists.proofs.Choice.{and-both}
 use Rattle.crc.proofs.Bytes.{bytes-cons, bytes-append}
 use Rattle.tape.specs.Entries.{payloadMost}
 use Rattle.object_lists.specs.Known.{ofSession, held, kept}
@@ -24,6 +23,7 @@ use Rattle.decide.specs.declared.requests.Cryptogram.the-variants.{Aac, Tc, Arq
 use Rattle.rulebook.specs.Situation.{Situation, perhaps, profileKnown, knownIn, listIn}
 use Rattle.rulebook.specs.Phase.{Asked, selecting, optioning, reading, first, second, decides, commandOf, decisionOf}
 use Rattle.rulebook.specs.Session.{isPayload}
+use Rattle.rulebook.proofs.Payloads.{payload}
 use Rattle.storable.proofs.Filling.{Told, rowsBytes, rows-cons, rows-none, kept-bytes, nothing-bytes, held-bytes, filling-bytes}
 use Rattle.storable.proofs.Commanding.{select-bytes, options-bytes, record-bytes, cryptogram-bytes}
 use Rattle.storable.proofs.Staying.{Knows, Asking, Stays}
@@ -69,15 +69,6 @@ module _ (s : Situation) (k : Knows s) (response : Option (List ℕ)) (r : Told 
 
     pub data-few : length data′ ≤ 252
     data-few = omega (arith, data-length (s .terminal) (knownIn s response) list, data-most list)
-
--- a payload is bytes, and short enough
-payload : (p : List ℕ) → length p ≤ payloadMost → areBytes p ≡ true → isPayload p ≡ true
-unfolding isPayload
-payload p few h = and-both (leb (length p) payloadMost) (areBytes p) (le-leb (length p) payloadMost few) h
-
-pub payload-bytes : (p : List ℕ) → isPayload p ≡ true → areBytes p ≡ true
-unfolding isPayload
-payload-bytes p h = and-right (leb (length p) payloadMost) (areBytes p) h
 
 command-payload : (c : List ℕ) → length c ≤ longest → areBytes c ≡ true → isPayload c ≡ true
 command-payload c few h = payload c (omega arith) h

@@ -15,7 +15,8 @@ use Rattle.rulebook.specs.Turn.{opened}
 use Rattle.rulebook.specs.Session.{isPayload, Plays, started, exchanged, told, decided, Session, Beginning, AwaitsCard, Closed, Open, Lawful}
 use Rattle.verdicts.proofs.Stored.{storable-append}
 use Rattle.storable.proofs.Staying.{Stays, opened-stays, heard-stays, turn-stays}
-use Rattle.storable.proofs.Payloads.{payload-bytes, asked-payload, decision-payload}
+use Rattle.storable.proofs.Payloads.{asked-payload, decision-payload}
+use Rattle.rulebook.proofs.Payloads.{payload-bytes}
 
 -- an entry of a kind, with a payload, before others
 stored : (kind : ℕ) (p : List ℕ) (es : List Entry) → isKind kind ≡ true → isPayload p ≡ true → allStorable es ≡ true → allStorable (entry kind p ∷ es) ≡ true

@@ -21,7 +21,9 @@ use Rattle.rulebook.specs.Situation.{Situation}
 use Rattle.rulebook.specs.Phase.{Asked, opens, asks, hears, decides, commandOf, decisionOf}
 use Rattle.rulebook.specs.Turn.{opened, turn, heard}
 use Rattle.rulebook.specs.Session.{isPayload}
-use Rattle.rulebook.proofs.Running.{State, at, owes, done, due, alike, alike-same, ofTerminal, ofReply, next, takes-start, takes-command, takes-answer, takes-reply, takes-decision}
+use Rattle.lists.specs.Tests.{alike}
+use Rattle.lists.proofs.Comparing.{alike-same}
+use Rattle.rulebook.proofs.Running.{State, at, owes, done, due, ofTerminal, ofReply, next, takes-start, takes-command, takes-answer, takes-reply, takes-decision}
 use Rattle.rulebook.proofs.Reading.{other-kind}
 use Rattle.verdicts.specs.Progress.{reached, closed, broken, empty, closes, onward, reads}
 

@@ -21,9 +21,9 @@ use Rattle.verdicts.specs.declared.Verdict.the-variants.{Unreadable}
 use Rattle.verdicts.specs.Progress.{Progress, reached, reads, verdictOf}
 use Rattle.verdicts.proofs.Meaning.{verdict-right}
 use Rattle.verdicts.proofs.Loop.{verdictFrom, verdict-long, verdict-ragged, verdict-blocks, loop-good, loop-bad, loop-end, block-payload, block-bytes, block-entry}
-use Rattle.judge.specs.declared.Judgement.{Judgement}
-use Rattle.judge.specs.Following.{begun, fed}
-use Rattle.judge.proofs.Tracking.{Tracks, tracks-begun, fed-tracks, said}
+use Rattle.following.specs.declared.Judgement.{Judgement}
+use Rattle.following.specs.Following.{begun, fed}
+use Rattle.following.proofs.Tracking.{Tracks, tracks-begun, fed-tracks, said}
 use Rattle.judge.proofs.judge.Statement.{statement}
 use Rattle.judge.proofs.judge.Tie as tie
 

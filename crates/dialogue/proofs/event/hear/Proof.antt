@@ -7,8 +7,9 @@ use borrow.Author.Needs.{needs}
 use Rattle.decide.specs.declared.reply.Heard.{Heard}
 use Rattle.rulebook.specs.Turn.{replied, heard}
 use Rattle.state.specs.Reading.{late}
-use Rattle.dialogue.specs.Moves.{moved, heardAs}
-use Rattle.dialogue.proofs.Moving.{stays}
+use Rattle.moves.specs.Moves.{moved}
+use Rattle.dialogue.specs.Events.{heardAs}
+use Rattle.moves.proofs.Moving.{stays}
 use Rattle.dialogue.proofs.event.hear.Statement.{statement}
 use Rattle.dialogue.proofs.event.hear.Tie as tie
 

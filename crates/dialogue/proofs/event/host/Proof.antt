@@ -3,8 +3,8 @@
 use mathlib.Core.Path.{_≡_, refl, sym, ap, _∙_}
 use borrow.Author.Needs.{needs}
 use Rattle.state.specs.declared.Phase.{Phase}
-use Rattle.dialogue.specs.Moves.{heardIn, hostHeard}
-use Rattle.dialogue.proofs.Moving.{stays}
+use Rattle.dialogue.specs.Events.{heardIn, hostHeard}
+use Rattle.moves.proofs.Moving.{stays}
 use Rattle.dialogue.proofs.event.host.Statement.{statement}
 use Rattle.dialogue.proofs.event.host.Tie as tie
 

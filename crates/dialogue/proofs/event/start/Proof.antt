@@ -9,8 +9,9 @@ use Rattle.rulebook.specs.Situation.{begun as situationBegun}
 use Rattle.rulebook.specs.Phase.{selecting, situationOf, commandOf}
 use Rattle.rulebook.specs.Turn.{opened}
 use Rattle.state.specs.Keeping.{stateAt, begun, changed}
-use Rattle.dialogue.specs.Moves.{awaiting, cursorAsking, started}
-use Rattle.dialogue.proofs.Moving.{asking}
+use Rattle.moves.specs.Moves.{awaiting, cursorAsking}
+use Rattle.dialogue.specs.Events.{started}
+use Rattle.moves.proofs.Moving.{asking}
 use Rattle.dialogue.proofs.event.start.Statement.{statement}
 use Rattle.dialogue.proofs.event.start.Tie as tie
 

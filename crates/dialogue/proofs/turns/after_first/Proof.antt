@@ -5,7 +5,7 @@ use mathlib.Core.List.{List, [], _∷_}
 use Prim.Native.Nat.{ℕ}
 use borrow.Author.Needs.{needs}
 use Rattle.state.specs.Keeping.{changed}
-use Rattle.dialogue.specs.Storing.{answeredState}
+use Rattle.dialogue.specs.Events.{answeredState}
 use Rattle.dialogue.proofs.turns.after_first.Statement.{statement}
 use Rattle.dialogue.proofs.turns.after_first.Tie as tie
 

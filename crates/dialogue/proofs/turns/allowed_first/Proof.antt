@@ -5,7 +5,7 @@ use borrow.Author.Needs.{needs}
 use Rattle.answers.specs.Cryptogram.{allows}
 use Rattle.decide.specs.Requests.{firstAllowed}
 use Rattle.rulebook.specs.Turn.{firstAllows}
-use Rattle.dialogue.proofs.Bits.{allows-all}
+use Rattle.dialogue.proofs.Allowing.{allows-all}
 use Rattle.dialogue.proofs.turns.allowed_first.Statement.{statement}
 use Rattle.dialogue.proofs.turns.allowed_first.Tie as tie
 

@@ -5,7 +5,7 @@ use borrow.Author.Needs.{needs}
 use Rattle.answers.specs.Cryptogram.{allows}
 use Rattle.decide.specs.Requests.{secondAllowed}
 use Rattle.rulebook.specs.Turn.{secondAllows}
-use Rattle.dialogue.proofs.Bits.{allows-all}
+use Rattle.dialogue.proofs.Allowing.{allows-all}
 use Rattle.dialogue.proofs.turns.allowed_second.Statement.{statement}
 use Rattle.dialogue.proofs.turns.allowed_second.Tie as tie
 

@@ -12,61 +12,52 @@ use Rattle.rulebook.specs.Phase.{first}
 use Rattle.rulebook.specs.Turn.{answered, byFirst, firstAllows, firstAnswered, turn}
 use Rattle.state.specs.declared.State.{State}
 use Rattle.state.specs.Reading.{late}
-use Rattle.dialogue.specs.Moves.{moved}
-use Rattle.dialogue.specs.Storing.{answeredState}
-use Rattle.dialogue.proofs.Moving.{late-decided, reason-ended, reason-next}
-use Rattle.dialogue.proofs.Bits.{late-answered, answered-moved}
+use Rattle.moves.specs.Moves.{moved}
+use Rattle.dialogue.specs.Events.{answeredState}
+use Rattle.decide.specs.Results.{tsiAfterFirstAnswer}
+use Rattle.moves.proofs.Moving.{late-refused, reason-next}
+use Rattle.dialogue.proofs.Allowing.{late-answered}
+use Rattle.moves.proofs.Bits.{bits-moved}
 use Rattle.answers.proofs.Reasons.{cryptogram-small}
 use Rattle.dialogue.proofs.turns.on_first.Statement.{statement}
 use Rattle.dialogue.proofs.turns.on_first.Tie as tie
 
-end-requires : tie.Need-end-requires
-end-requires c κs =
-    omega (
-      arith,
-      c .before .cryptogram-reason .ensures,
-      cryptogram-small (allows (c .before .before .allowed-first .result))
-          (c .before .before .before .before .before .args .a .now),
-    )
-
 returns : tie.Need-returns
 unfolding turn firstAnswered
 returns c =
-    let args = c .before .before .before .before .before .before .args in
+    let args = c .before .before .before .before .before .before .before .args in
     let q = args .request in
     let s = args .s in
     let a = args .a .now in
     let buf = args .buf .now in
     let why = c .before .before .cryptogram-reason .result in
-    late-decided s buf 3 why (c .end .ensures)
-    ∙ sym
-    (reason-ended why (cryptogramReason (firstAllows q) a) (late s) (byFirst (cryptogramOf a) (answered (late s))) s buf
+    late-refused s buf why (cryptogramReason (firstAllows q) a) (byFirst (cryptogramOf a) (answered (late s)))
     (c .before .before .cryptogram-reason .ensures
     ∙ ap (λ (x : ℕ → Bool). cryptogramReason x a) (c .before .before .before .allowed-first .ensures))
-    (c .before .if1 .taken))
+    (cryptogram-small (firstAllows q) a) (c .before .if1 .taken) (c .end .ensures)
 
 returns-2 : tie.Need-returns-2
-unfolding turn firstAnswered
+unfolding turn firstAnswered answeredState
 returns-2 c =
     let args = c .before .before .before .before .before .before .before .before .before .before .before .args in
     let q = args .request in
     let s = args .s in
     let a = args .a .now in
     let buf = args .buf .now in
-    let why = c .before .before .before .before .before .before .before .cryptogram-reason .result in
+    let why = c .before .before .before .before .before .before .cryptogram-reason .result in
     let n = cryptogramOf a in
     let t = answeredState s in
     c .before .before .by-first .ensures
-    ∙ (ap (λ (x : State). moved (byFirst (c .before .before .before .before .before .cryptogram .result) (late x)) x buf)
-    (c .before .before .before .before .after-first .ensures)
-    ∙ (ap (λ (k : ℕ). moved (byFirst k (late t)) t buf) (c .before .before .before .before .before .cryptogram .ensures)
-    ∙ (answered-moved (byFirst n (late t)) s buf
+    ∙ (ap (λ (x : State). moved (byFirst (c .before .before .before .before .cryptogram .result) (late x)) x buf)
+    (c .before .before .before .before .before .before .before .before .after-first .ensures)
+    ∙ (ap (λ (k : ℕ). moved (byFirst k (late t)) t buf) (c .before .before .before .before .cryptogram .ensures)
+    ∙ (bits-moved (byFirst n (late t)) (s .phase) (s .tvr) (tsiAfterFirstAnswer (s .tsi)) s buf
     ∙ (ap (λ (z : Situation). moved (byFirst n z) s buf) (late-answered s)
     ∙ sym
     (reason-next why (cryptogramReason (firstAllows q) a) (late s) (byFirst n (answered (late s))) s buf
-    (c .before .before .before .before .before .before .before .cryptogram-reason .ensures
-    ∙ ap (λ (x : ℕ → Bool). cryptogramReason x a) (c .before .before .before .before .before .before .before .before .allowed-first .ensures))
-    (c .before .before .before .before .before .before .if1 .left))))))
+    (c .before .before .before .before .before .before .cryptogram-reason .ensures
+    ∙ ap (λ (x : ℕ → Bool). cryptogramReason x a) (c .before .before .before .before .before .before .before .allowed-first .ensures))
+    (c .before .before .before .before .before .if1 .left))))))
 
 pub on-first-spec : {M : Type 1} → statement M
 on-first-spec =
@@ -74,9 +65,9 @@ on-first-spec =
     (tie.spec
     (λ c κs. search needs)
     (λ c κs. search needs)
-    end-requires
-    returns
     (λ c κs. search needs)
+    (λ c κs. search needs)
+    returns
     (λ c κs. search needs)
     (λ c κs. search needs)
     (λ c. search needs)

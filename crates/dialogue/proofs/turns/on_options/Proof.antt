@@ -16,14 +16,12 @@ use Rattle.state.specs.declared.State.{State}
 use Rattle.state.specs.Reading.{early, late, recordsLeft}
 use Rattle.state.specs.Keeping.{withOptions}
 use Rattle.state.proofs.Starting.{late-options, left-options}
-use Rattle.dialogue.specs.Moves.{keeping, moved}
-use Rattle.dialogue.proofs.Moving.{early-decided, reason-ended, reason-next}
+use Rattle.moves.specs.Moves.{moved}
+use Rattle.dialogue.specs.Events.{keeping}
+use Rattle.moves.proofs.Moving.{early-refused, reason-next}
 use Rattle.answers.proofs.Reasons.{options-small}
 use Rattle.dialogue.proofs.turns.on_options.Statement.{statement}
 use Rattle.dialogue.proofs.turns.on_options.Tie as tie
-
-end-requires : tie.Need-end-requires
-end-requires c κs = omega (arith, c .before .options-reason .ensures, options-small (c .before .before .before .before .args .a .now))
 
 returns : tie.Need-returns
 unfolding turn optioned keeping
@@ -35,9 +33,10 @@ returns c =
     let why = c .before .before .options-reason .result in
     let e = c .before .before .options-reason .ensures in
     let next = readOn (withProfile (early s) (profileOf a)) (toRead (locatorOf a)) in
-    early-decided s buf 3 why (c .end .ensures)
-    ∙ sym (ap (λ (t : State). moved (optioned (early s) a) t buf) (pick-no _ _ _ (ne-eqb (optionsReason a) 0 (λ z. c .before .if1 .taken (e ∙ z))))
-    ∙ reason-ended why (optionsReason a) (early s) next s buf e (c .before .if1 .taken))
+    early-refused s buf why (optionsReason a) next e (options-small a) (c .before .if1 .taken) (c .end .ensures)
+    ∙ sym
+    (ap (λ (t : State). moved (optioned (early s) a) t buf)
+    (pick-no _ _ _ (ne-eqb (optionsReason a) 0 (λ z. c .before .if1 .taken (e ∙ z)))))
 
 returns-2 : tie.Need-returns-2
 unfolding turn optioned keeping
@@ -62,7 +61,7 @@ on-options-spec =
     tie.close
     (tie.spec
     (λ c κs. search needs)
-    end-requires
+    (λ c κs. search needs)
     returns
     (λ c κs. search needs)
     (λ c κs. search needs)

@@ -18,21 +18,14 @@ use Rattle.state.specs.declared.State.{State}
 use Rattle.state.specs.declared.Told.{Told}
 use Rattle.state.specs.Reading.{factsIn, situationWith, late, recordsLeft}
 use Rattle.state.specs.Keeping.{withRecord, withTold}
+use Rattle.state.proofs.Agreeing.{seen-told}
 use Rattle.state.proofs.Telling.{late-told}
-use Rattle.dialogue.specs.Moves.{keeping, moved}
-use Rattle.dialogue.proofs.Moving.{late-decided, reason-ended, reason-next}
+use Rattle.moves.specs.Moves.{moved}
+use Rattle.dialogue.specs.Events.{keeping}
+use Rattle.moves.proofs.Moving.{late-refused, reason-next}
 use Rattle.answers.proofs.Reasons.{record-small}
 use Rattle.dialogue.proofs.turns.on_record.Statement.{statement}
 use Rattle.dialogue.proofs.turns.on_record.Tie as tie
-
-end-requires : tie.Need-end-requires
-end-requires c κs =
-    omega (
-      arith,
-      c .before .record-reason .ensures,
-      record-small (toldBy (c .before .before .seen .result))
-          (c .before .before .before .before .before .before .args .a .now),
-    )
 
 returns : tie.Need-returns
 unfolding turn recorded keeping late situationWith
@@ -42,13 +35,14 @@ returns c =
     let a = args .a .now in
     let buf = args .buf .now in
     let why = c .before .before .record-reason .result in
-    let e = (c .before .before .record-reason .ensures ∙ ap (λ (x : ℕ → Bool). recordReason x a) (c .before .before .before .seen .ensures))
+    let e = (c .before .before .record-reason .ensures ∙ ap (λ (x : ℕ → Bool). recordReason x a) (ap toldBy (c .before .before .before .seen .ensures) ∙ seen-told (s .told)))
     in
     let next = readOn (recordAdded (late s) a) (recordsLeft s) in
-    late-decided s buf 3 why (c .end .ensures)
-    ∙ sym (ap (λ (t : State). moved (recorded (late s) (recordsLeft s) a) t buf)
-    (pick-no _ _ _ (ne-eqb (recordReason (λ name. isSome (factsIn (s .told) name)) a) 0 (λ z. c .before .if1 .taken (e ∙ z))))
-    ∙ reason-ended why (recordReason (λ name. isSome (factsIn (s .told) name)) a) (late s) next s buf e (c .before .if1 .taken))
+    let seen : ℕ → Bool = λ name. isSome (factsIn (s .told) name) in
+    late-refused s buf why (recordReason seen a) next e (record-small seen a) (c .before .if1 .taken) (c .end .ensures)
+    ∙ sym
+    (ap (λ (t : State). moved (recorded (late s) (recordsLeft s) a) t buf)
+    (pick-no _ _ _ (ne-eqb (recordReason seen a) 0 (λ z. c .before .if1 .taken (e ∙ z)))))
 
 returns-2 : tie.Need-returns-2
 unfolding turn recorded keeping late situationWith recordsLeft withTold
@@ -60,7 +54,7 @@ returns-2 c =
     let why = c .before .before .before .before .before .before .before .record-reason .result in
     let e =
     (c .before .before .before .before .before .before .before .record-reason .ensures
-    ∙ ap (λ (x : ℕ → Bool). recordReason x a) (c .before .before .before .before .before .before .before .before .seen .ensures))
+    ∙ ap (λ (x : ℕ → Bool). recordReason x a) (ap toldBy (c .before .before .before .before .before .before .before .before .seen .ensures) ∙ seen-told (s .told)))
     in
     let good = sym e ∙ c .before .before .before .before .before .before .if1 .left in
     let next = readOn (recordAdded (late s) a) (recordsLeft s) in
@@ -81,7 +75,7 @@ on-record-spec =
     (tie.spec
     (λ c κs. search needs)
     (λ c κs. search needs)
-    end-requires
+    (λ c κs. search needs)
     returns
     (λ c κs. search needs)
     (λ c κs. search needs)

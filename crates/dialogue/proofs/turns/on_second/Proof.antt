@@ -14,20 +14,11 @@ use Rattle.answers.specs.Cryptogram.{allows, cryptogramReason, cryptogramOf}
 use Rattle.rulebook.specs.Phase.{Phase, second, decides, approved, declined, decided}
 use Rattle.rulebook.specs.Turn.{goesOn, secondAllows, secondAnswered, turn}
 use Rattle.state.specs.Reading.{late}
-use Rattle.dialogue.specs.Moves.{moved}
-use Rattle.dialogue.proofs.Moving.{late-decided, reason-ended, reason-next}
+use Rattle.moves.specs.Moves.{moved}
+use Rattle.moves.proofs.Moving.{late-decided, late-refused, reason-next}
 use Rattle.answers.proofs.Reasons.{cryptogram-small}
 use Rattle.dialogue.proofs.turns.on_second.Statement.{statement}
 use Rattle.dialogue.proofs.turns.on_second.Tie as tie
-
-end-requires : tie.Need-end-requires
-end-requires c κs =
-    omega (
-      arith,
-      c .before .cryptogram-reason .ensures,
-      cryptogram-small (allows (c .before .before .allowed-second .result))
-          (c .before .before .before .before .before .args .a .now),
-    )
 
 returns : tie.Need-returns
 unfolding turn secondAnswered
@@ -38,13 +29,10 @@ returns c =
     let a = args .a .now in
     let buf = args .buf .now in
     let why = c .before .before .cryptogram-reason .result in
-    late-decided s buf 3 why (c .end .ensures)
-    ∙ sym
-    (reason-ended why (cryptogramReason (secondAllows q) a) (late s) (decided (pick (eqb (cryptogramOf a) 1) approved declined) (late s)) s
-    buf
+    late-refused s buf why (cryptogramReason (secondAllows q) a) (decided (pick (eqb (cryptogramOf a) 1) approved declined) (late s))
     (c .before .before .cryptogram-reason .ensures
     ∙ ap (λ (x : ℕ → Bool). cryptogramReason x a) (c .before .before .before .allowed-second .ensures))
-    (c .before .if1 .taken))
+    (cryptogram-small (secondAllows q) a) (c .before .if1 .taken) (c .end .ensures)
 
 returns-2 : tie.Need-returns-2
 unfolding turn secondAnswered decided
@@ -92,7 +80,7 @@ on-second-spec =
     (tie.spec
     (λ c κs. search needs)
     (λ c κs. search needs)
-    end-requires
+    (λ c κs. search needs)
     returns
     (λ c κs. search needs)
     (λ c κs. search needs)

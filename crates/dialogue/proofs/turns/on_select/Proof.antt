@@ -14,16 +14,12 @@ use Rattle.answers.specs.Select.{selectReason, pdolOf}
 use Rattle.rulebook.specs.Phase.{selecting, optioning, asks, situationOf, commandOf}
 use Rattle.rulebook.specs.Turn.{selected, turn}
 use Rattle.state.specs.Reading.{situationWith, early}
-use Rattle.dialogue.specs.Moves.{awaiting, cursorAsking, keeping}
-use Rattle.dialogue.proofs.Moving.{early-decided, asking-on, reason-ended, reason-next}
+use Rattle.moves.specs.Moves.{awaiting, cursorAsking}
+use Rattle.dialogue.specs.Events.{keeping}
+use Rattle.moves.proofs.Moving.{early-refused, asking-on, reason-next}
 use Rattle.answers.proofs.Reasons.{select-small}
 use Rattle.dialogue.proofs.turns.on_select.Statement.{statement}
 use Rattle.dialogue.proofs.turns.on_select.Tie as tie
-
-end-requires : tie.Need-end-requires
-end-requires c κs =
-    let args = c .before .before .before .before .before .before .args in
-    omega (arith, c .before .select-reason .ensures, select-small (readingOf (args .s .start)) (args .a .now))
 
 returns : tie.Need-returns
 unfolding turn selected keeping early situationWith
@@ -33,28 +29,26 @@ returns c =
     let a = args .a .now in
     let buf = args .buf .now in
     let why = c .before .before .select-reason .result in
-    early-decided s buf 3 why (c .end .ensures)
-    ∙ sym
-    (reason-ended why (selectReason (readingOf (s .start)) a) (early s) (asks (optioning (early s) (pdolOf a))) s buf
-    (c .before .before .select-reason .ensures) (c .before .if1 .taken))
+    early-refused s buf why (selectReason (readingOf (s .start)) a) (asks (optioning (early s) (pdolOf a)))
+    (c .before .before .select-reason .ensures) (select-small (readingOf (s .start)) a) (c .before .if1 .taken) (c .end .ensures)
 
 returns-2 : tie.Need-returns-2
 unfolding turn selected keeping early situationWith commandOf situationOf awaiting cursorAsking
 returns-2 c =
-    let args = c .before .before .before .before .before .before .before .before .before .before .before .before .before .before .args in
+    let args = c .before .before .before .before .before .before .before .before .before .before .before .before .before .args in
     let s = args .s in
     let a = args .a .now in
     let buf = args .buf .now in
-    let why = c .before .before .before .before .before .before .before .before .before .select-reason .result in
+    let why = c .before .before .before .before .before .before .before .before .select-reason .result in
     let same = ap₂ (λ (k : Known) (l : List ℕ). optionsCommand (filling (readingOf (s .start)) k l))
     (c .before .before .before .before .before .at-options .ensures)
-    (c .before .before .before .before .before .before .before .pdol .ensures) in
+    (c .before .before .before .before .before .before .pdol .ensures) in
     asking-on s buf (optioning (early s) (pdolOf a)) same (c .before .before .before .options .ensures .0)
     (c .before .before .before .options .ensures .1) (c .wait .ensures) refl refl refl
     ∙ sym
     (reason-next why (selectReason (readingOf (s .start)) a) (early s) (asks (optioning (early s) (pdolOf a))) s buf
-    (c .before .before .before .before .before .before .before .before .before .select-reason .ensures)
-    (c .before .before .before .before .before .before .before .before .if1 .left))
+    (c .before .before .before .before .before .before .before .before .select-reason .ensures)
+    (c .before .before .before .before .before .before .before .if1 .left))
 
 pub on-select-spec : {M : Type 1} → statement M
 on-select-spec =
@@ -62,10 +56,9 @@ on-select-spec =
     (tie.spec
     (λ c. search needs)
     (λ c κs. search needs)
-    end-requires
+    (λ c κs. search needs)
     returns
     (λ c κs. search needs)
-    (λ c. search needs)
     (λ c κs. search needs)
     (λ c κs. search needs)
     (λ c κs. search needs)

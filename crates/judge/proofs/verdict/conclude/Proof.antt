@@ -2,8 +2,8 @@
 -- Assumes nothing.
 use mathlib.Core.Path.{_≡_, refl, sym, ap, _∙_}
 use borrow.Author.Needs.{needs}
-use Rattle.judge.specs.declared.Stage.{Stage}
-use Rattle.judge.specs.Following.{saidAt}
+use Rattle.following.specs.declared.Stage.{Stage}
+use Rattle.following.specs.Following.{saidAt}
 use Rattle.judge.proofs.verdict.conclude.Statement.{statement}
 use Rattle.judge.proofs.verdict.conclude.Tie as tie
 

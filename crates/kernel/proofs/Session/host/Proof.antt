@@ -2,7 +2,7 @@
 -- Assumes nothing.
 use mathlib.Core.Path.{_≡_, refl, sym, ap, _∙_}
 use borrow.Author.Needs.{needs}
-use Rattle.dialogue.specs.Moves.{hostHeard}
+use Rattle.dialogue.specs.Events.{hostHeard}
 use Rattle.kernel.specs.Calls.{accepted, hostCall}
 use Rattle.kernel.proofs.Answering.{away, took, as-played}
 use Rattle.kernel.proofs.Session.host.Statement.{statement}
@@ -11,7 +11,7 @@ use Rattle.kernel.proofs.Session.host.Tie as tie
 returns : tie.Need-returns
 unfolding hostCall
 returns c =
-    let args = c .before .before .before .before .before .before .args in
+    let args = c .before .before .before .before .before .before .before .args in
     let s = args .self in
     let x = args .h .now in
     let buf = args .command .now in
@@ -25,8 +25,8 @@ returns-2 c =
     let s = args .self in
     let x = args .h .now in
     let buf = args .command .now in
-    took s buf (accepted (hostHeard (s .state) x buf)) (c .before .before .before .before .before .before .before .host .ensures)
-    (c .accept .result) _ (c .before .before .before .before .before .before .if1 .left)
+    took s buf (accepted (hostHeard (s .state) x buf)) (c .before .before .before .before .before .before .host .ensures)
+    (c .accept .result) _ (c .before .before .before .before .before .if1 .left)
     (as-played (c .accept .result) (c .before .before .before .host2 .result) _ (hostHeard (s .state) x buf) (c .accept .ensures)
     (c .before .before .before .host2 .ensures))
 

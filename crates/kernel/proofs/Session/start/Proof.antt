@@ -2,7 +2,7 @@
 -- Assumes nothing.
 use mathlib.Core.Path.{_≡_, refl, sym, ap, _∙_}
 use borrow.Author.Needs.{needs}
-use Rattle.dialogue.specs.Moves.{started}
+use Rattle.dialogue.specs.Events.{started}
 use Rattle.kernel.specs.Calls.{accepted, startCall}
 use Rattle.kernel.proofs.Answering.{away, took, as-played}
 use Rattle.kernel.proofs.Session.start.Statement.{statement}
@@ -11,7 +11,7 @@ use Rattle.kernel.proofs.Session.start.Tie as tie
 returns : tie.Need-returns
 unfolding startCall
 returns c =
-    let args = c .before .before .before .before .before .before .args in
+    let args = c .before .before .before .before .before .before .before .args in
     let s = args .self in
     let x = args .terminal .now in
     let buf = args .command .now in
@@ -21,7 +21,7 @@ returns c =
 returns-2 : tie.Need-returns-2
 unfolding startCall
 returns-2 c =
-    let args = c .before .before .before .before .before .before .before .before .before .before .args in
+    let args = c .before .before .before .before .before .before .before .before .before .before .before .args in
     let s = args .self in
     let x = args .terminal .now in
     let buf = args .command .now in

@@ -1,11 +1,13 @@
--- `facts::seen` meets its contract: a name was told where its value is there.
+-- `facts::seen` meets its contract field by field.
 -- Assumes nothing.
-use Rattle.state.proofs.Agreeing.{seen-told}
+use mathlib.Core.Path.{refl}
+use Rattle.state.specs.Readings.{seenIn}
 use Rattle.state.proofs.facts.seen.Statement.{statement}
 use Rattle.state.proofs.facts.seen.Tie as tie
 
 returns : tie.Need-returns
-returns c = seen-told (c .args .told)
+unfolding seenIn
+returns c = refl
 
 pub seen-spec : {M : Type 1} → statement M
 seen-spec = tie.close (tie.spec returns)

@@ -3,7 +3,8 @@
 use mathlib.Core.Path.{_≡_, refl, sym, ap, _∙_}
 use borrow.Author.Needs.{needs}
 use Rattle.lists.specs.Choice.{pick}
-use Rattle.object_lists.specs.Known.{beside, nothing, kept}
+use Rattle.lists.specs.Tables.{beside}
+use Rattle.object_lists.specs.Known.{nothing, kept}
 use Rattle.rulebook.specs.Situation.{perhaps, profileKnown, knownIn}
 use Rattle.state.specs.Reading.{toldLines, factsIn, situationWith, early, late}
 use Rattle.state.specs.Readings.{knownWith}

@@ -1,0 +1,3 @@
+-- Where a session goes on.
+pub mod Moves
+pub mod Storing

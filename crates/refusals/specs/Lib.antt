@@ -1,0 +1,3 @@
+-- When a call is turned away.
+pub mod Waiting
+pub mod Refusals
