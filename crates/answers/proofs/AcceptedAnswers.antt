@@ -13,7 +13,7 @@ use Rattle.lists.proofs.Choice.{pick-yes, pick-no, picked, either}
 use Rattle.objects.specs.Lookup.{Lookup, absent, once, twice}
 use Rattle.terminal.specs.Reading.{Terminal}
 use Rattle.lists.proofs.Tests.{first-held}
-use Rattle.object_lists.specs.Wanted.{fillable}
+use Rattle.wanted.specs.Wanted.{fillable}
 use Rattle.locator.specs.Entries.{mostRecords, wholeEntries, entriesRight, recordCount, tooMany}
 use Rattle.lists.specs.Tables.{anyOf, beside}
 use Rattle.card_data.specs.Content.{rules, ruleFor, rightValue, meets}
@@ -24,11 +24,11 @@ use Rattle.card_data.proofs.Lines.{Numbered}
 use Rattle.card_data.proofs.Accepted.{AllClear, none-applies, or-clear, any-clear, Framed, frame-accepted, named-once, named-right}
 use Rattle.card_data.proofs.Sizes.{sized}
 use Rattle.card_data.proofs.Members.{inside-size, direct-size, inner-size}
-use Rattle.answers.specs.Forms.{template, joined, bothForms, lacks}
-use Rattle.answers.specs.Select.{selectTag, selectNames, innerNames, inner, pdolOf, begins, nameWrong, selectTwice, selectWrong, selectLines, selectReason}
-use Rattle.answers.specs.Options.{optionNames, profileOf, locatorOf, optionsWrong, optionsLines, optionsReason}
-use Rattle.answers.specs.Records.{recordTag, recordNames, mandatory, again, anyAgain, recordTwice, recordLines, recordReason, valueIn, incomplete, completeReason}
-use Rattle.answers.specs.Cryptogram.{cryptogramOf, cryptogramLines, cryptogramReason}
+use Rattle.form_answers.specs.Forms.{template, joined, bothForms, lacks}
+use Rattle.select_answer.specs.Select.{selectTag, selectNames, innerNames, inner, pdolOf, begins, nameWrong, selectTwice, selectWrong, selectLines, selectReason}
+use Rattle.form_answers.specs.Options.{optionNames, profileOf, locatorOf, optionsWrong, optionsLines, optionsReason}
+use Rattle.record_answer.specs.Records.{recordTag, recordNames, mandatory, again, anyAgain, recordTwice, recordLines, recordReason, valueIn, incomplete, completeReason}
+use Rattle.form_answers.specs.Cryptogram.{cryptogramOf, cryptogramLines, cryptogramReason}
 
 -- the first lines pass, and so do the others
 both-clear : (expected a : List ℕ) (lines : List (Bool × ℕ)) → Numbered lines → firstOf (frame expected a ++ lines) ≡ 0

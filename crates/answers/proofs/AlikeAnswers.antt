@@ -14,7 +14,7 @@ use Rattle.objects.specs.Objects.{Object}
 use Rattle.objects.specs.Lookup.{Lookup, absent, once, twice}
 use Rattle.terminal.specs.Reading.{Terminal}
 use Rattle.lists.specs.Tests.{between}
-use Rattle.object_lists.specs.Wanted.{fillable}
+use Rattle.wanted.specs.Wanted.{fillable}
 use Rattle.locator.specs.Entries.{wholeEntries, entriesRight, tooMany}
 use Rattle.lists.specs.Tables.{anyOf, beside}
 use Rattle.card_data.specs.Content.{meets, rules, ruleFor, rightValue}
@@ -22,11 +22,11 @@ use Rattle.card_data.specs.Answer.{isOne, inside}
 use Rattle.card_data.specs.Named.{membersIn, listed, named, among, direct, times, told, valueOf, wrongValue, anyTimes, anyWrong}
 use Rattle.card_data.proofs.Lines.{one-more}
 use Rattle.card_data.proofs.Alike.{any-alike, times-alike, wrong-alike, named-alike, tags-alike, Alike, frame-alike}
-use Rattle.answers.specs.Forms.{template, joined, bothForms, lacks}
-use Rattle.answers.specs.Select.{selectTag, selectNames, innerNames, inner, pdolOf, nameWrong, selectTwice, selectWrong, selectLines, selectReason}
-use Rattle.answers.specs.Options.{optionNames, profileOf, locatorOf, optionsWrong, optionsLines, optionsReason}
-use Rattle.answers.specs.Records.{recordTag, recordNames, again, anyAgain, recordTwice, recordLines, recordReason, valueIn}
-use Rattle.answers.specs.Cryptogram.{mandatoryNames, cryptogramNames, informationOf, cryptogramOf, cryptogramWrong, cryptogramLines, cryptogramReason}
+use Rattle.form_answers.specs.Forms.{template, joined, bothForms, lacks}
+use Rattle.select_answer.specs.Select.{selectTag, selectNames, innerNames, inner, pdolOf, nameWrong, selectTwice, selectWrong, selectLines, selectReason}
+use Rattle.form_answers.specs.Options.{optionNames, profileOf, locatorOf, optionsWrong, optionsLines, optionsReason}
+use Rattle.record_answer.specs.Records.{recordTag, recordNames, again, anyAgain, recordTwice, recordLines, recordReason, valueIn}
+use Rattle.form_answers.specs.Cryptogram.{mandatoryNames, cryptogramNames, informationOf, cryptogramOf, cryptogramWrong, cryptogramLines, cryptogramReason}
 
 -- the same named members, in the same order, in two runs of bytes
 abbrev pub SameNamed : List ℕ → List ℕ → List ℕ → Type 0

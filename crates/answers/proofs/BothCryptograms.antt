@@ -23,9 +23,9 @@ use Rattle.card_data.proofs.Lines.{one-more}
 use Rattle.card_data.proofs.Present.{of-size}
 use Rattle.card_data.proofs.Limits.{between-in, between-above}
 use Rattle.card_data.proofs.Alike.{Alike, frame-alike}
-use Rattle.answers.specs.Forms.{template, joined, bothForms, lacks}
-use Rattle.answers.specs.Cryptogram.{mandatoryNames, cryptogramNames, informationOf, cryptogramOf, cryptogramWrong, cryptogramLines, cryptogramReason}
-use Rattle.answers.proofs.Absent.{not-direct, one-form}
+use Rattle.form_answers.specs.Forms.{template, joined, bothForms, lacks}
+use Rattle.form_answers.specs.Cryptogram.{mandatoryNames, cryptogramNames, informationOf, cryptogramOf, cryptogramWrong, cryptogramLines, cryptogramReason}
+use Rattle.card_data.proofs.Absent.{not-direct, one-form}
 use Rattle.answers.proofs.BothForms.{itself}
 
 -- a value stands there, or it is empty and nothing does

@@ -21,9 +21,9 @@ use Rattle.card_data.specs.Named.{direct, times, told, valueOf, wrongValue, any
 use Rattle.lists.proofs.Tables.{or-no, and-yes, and-no}
 use Rattle.card_data.proofs.Lines.{one-more}
 use Rattle.card_data.proofs.Alike.{Alike, frame-alike}
-use Rattle.answers.specs.Forms.{template, joined, bothForms, lacks}
-use Rattle.answers.specs.Options.{optionNames, profileOf, locatorOf, optionsWrong, optionsLines, optionsReason}
-use Rattle.answers.proofs.Absent.{not-direct, one-form}
+use Rattle.form_answers.specs.Forms.{template, joined, bothForms, lacks}
+use Rattle.form_answers.specs.Options.{optionNames, profileOf, locatorOf, optionsWrong, optionsLines, optionsReason}
+use Rattle.card_data.proofs.Absent.{not-direct, one-form}
 
 pub itself : (t : Bool) → pick t true false ≡ t
 unfolding pick

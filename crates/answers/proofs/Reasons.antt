@@ -13,10 +13,10 @@ use Rattle.lists.proofs.Choice.{picked, either, pick-yes, pick-no}
 use Rattle.terminal.specs.Reading.{Terminal}
 use Rattle.card_data.specs.Answer.{frame}
 use Rattle.lists.specs.Tables.{anyOf}
-use Rattle.answers.specs.Select.{selectLines, selectReason}
-use Rattle.answers.specs.Options.{optionsLines, optionsReason}
-use Rattle.answers.specs.Records.{recordLines, recordReason, incomplete, completeReason, afterRecords}
-use Rattle.answers.specs.Cryptogram.{cryptogramLines, cryptogramReason}
+use Rattle.select_answer.specs.Select.{selectLines, selectReason}
+use Rattle.form_answers.specs.Options.{optionsLines, optionsReason}
+use Rattle.record_answer.specs.Records.{recordLines, recordReason, incomplete, completeReason, afterRecords}
+use Rattle.form_answers.specs.Cryptogram.{cryptogramLines, cryptogramReason}
 
 small : (lines : List (Bool × ℕ)) → anyOf (map (λ l. leb 256 (l .1)) lines) ≡ false → firstOf lines < 256
 unfolding firstOf anyOf

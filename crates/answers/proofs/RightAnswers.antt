@@ -10,7 +10,7 @@ use Rattle.lists.specs.Choice.{pick, firstOf}
 use Rattle.lists.specs.Shorter.{counted, shorter}
 use Rattle.objects.specs.Lookup.{Lookup, once}
 use Rattle.terminal.specs.Reading.{Terminal}
-use Rattle.object_lists.specs.Wanted.{wantedStep, entriesOf, total, fits, fillable}
+use Rattle.wanted.specs.Wanted.{wantedStep, entriesOf, total, fits, fillable}
 use Rattle.lists.specs.Tables.{anyOf, beside}
 use Rattle.card_data.specs.Content.{meets, rules, ruleFor, rightValue}
 use Rattle.card_data.specs.Answer.{frame}
@@ -19,8 +19,8 @@ use Rattle.lists.proofs.Tables.{or-no, and-no}
 use Rattle.card_data.proofs.Sizes.{sized}
 use Rattle.card_data.proofs.Accepted.{AllClear, no-reason, or-clear, any-none, Framed, frame-right}
 use Rattle.card_data.proofs.Present.{There, MayBe, Right, Sized, of-size, there-so, may-be-so, may-be, none-twice, none-wrong, none-missing, by-name}
-use Rattle.answers.specs.Select.{selectTag, selectNames, innerNames, inner, pdolOf, begins, nameWrong, selectTwice, selectWrong, selectLines, selectReason}
-use Rattle.answers.specs.Records.{recordTag, recordNames, mandatory, again, anyAgain, recordTwice, recordLines, recordReason, valueIn, incomplete, completeReason}
+use Rattle.select_answer.specs.Select.{selectTag, selectNames, innerNames, inner, pdolOf, begins, nameWrong, selectTwice, selectWrong, selectLines, selectReason}
+use Rattle.record_answer.specs.Records.{recordTag, recordNames, mandatory, again, anyAgain, recordTwice, recordLines, recordReason, valueIn, incomplete, completeReason}
 use Rattle.answers.proofs.AcceptedAnswers.{select-clear, select-framed, select-name, select-inner, select-list, record-clear, record-framed, record-told, complete-told, complete-list}
 
 -- no line applies, the first three neither

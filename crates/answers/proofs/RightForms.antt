@@ -23,10 +23,10 @@ use Rattle.card_data.proofs.Limits.{between-in, bounds}
 use Rattle.card_data.proofs.Sizes.{sized}
 use Rattle.card_data.proofs.Accepted.{or-clear, Framed}
 use Rattle.card_data.proofs.Present.{There, MayBe, Right, Sized, of-size, there-so, may-be-so, must-be, may-be, none-twice, none-wrong, none-missing, by-name}
-use Rattle.answers.specs.Forms.{template, joined, bothForms, lacks}
-use Rattle.answers.specs.Options.{optionNames, locatorOf, optionsWrong, optionsLines, optionsReason}
-use Rattle.answers.specs.Cryptogram.{mandatoryNames, cryptogramNames, cryptogramOf, cryptogramWrong, cryptogramLines, cryptogramReason}
-use Rattle.answers.proofs.Absent.{not-direct, one-form}
+use Rattle.form_answers.specs.Forms.{template, joined, bothForms, lacks}
+use Rattle.form_answers.specs.Options.{optionNames, locatorOf, optionsWrong, optionsLines, optionsReason}
+use Rattle.form_answers.specs.Cryptogram.{mandatoryNames, cryptogramNames, cryptogramOf, cryptogramWrong, cryptogramLines, cryptogramReason}
+use Rattle.card_data.proofs.Absent.{not-direct, one-form}
 use Rattle.answers.proofs.AcceptedAnswers.{is-template, options-framed, options-entries, in-template, in-joined, cryptogram-clear, cryptogram-framed, cryptogram-allowed}
 use Rattle.answers.proofs.RightAnswers.{no-line}
 

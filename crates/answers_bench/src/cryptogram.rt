@@ -1,13 +1,13 @@
 // Answers to GENERATE AC.
-use answers::cryptogram::Allowed;
-use answers::cryptogram::cryptogram_reason;
 use decide::requests::Cryptogram;
 use decide::requests::Given;
 use decide::requests::first_allowed;
 use decide::requests::second_allowed;
+use form_answers::cryptogram::Allowed;
+use form_answers::cryptogram::cryptogram_reason;
+use hexadecimal::unhex;
 use lists::byte;
 use text::after_word;
-use text::unhex;
 
 // The turn is '1' or '2'.
 pub fn answer(turn: u8, words: &[u8]) {
@@ -50,7 +50,7 @@ fn print_answer(allowed: Allowed, answer: &[u8]) {
     let why = cryptogram_reason(allowed, answer);
     printing::number(why);
     if why == 0 {
-        print_type(answers::cryptogram::cryptogram(answer));
+        print_type(form_answers::cryptogram::cryptogram(answer));
     }
 }
 

@@ -1,9 +1,9 @@
 // Answers to GET PROCESSING OPTIONS, and the records to read.
-use answers::options::locator;
-use answers::options::options_reason;
-use answers::options::profile;
+use form_answers::options::locator;
+use form_answers::options::options_reason;
+use form_answers::options::profile;
+use hexadecimal::unhex;
 use locator::cursor;
-use text::unhex;
 
 pub fn answer(words: &[u8]) {
     let mut bytes = [0u8; 500];

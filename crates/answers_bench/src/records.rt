@@ -1,11 +1,11 @@
 // Answers to READ RECORD, one after the other.
-use answers::records::Seen;
-use answers::records::complete_reason;
-use answers::records::has_value;
-use answers::records::record_reason;
-use answers::records::record_value;
+use hexadecimal::unhex;
+use record_answer::Seen;
+use record_answer::complete_reason;
+use record_answer::has_value;
+use record_answer::record_reason;
+use record_answer::record_value;
 use text::after_word;
-use text::unhex;
 
 const NAMES: [usize; 9] = [
     0x5A,

@@ -1,13 +1,13 @@
 // Answers to SELECT, and the GPO command that follows.
-use answers::select::pdol;
-use answers::select::select_reason;
 use commands::write::options;
+use hexadecimal::unhex;
 use lists::part;
-use object_lists::Known;
-use object_lists::keeping::absent;
-use object_lists::keeping::keep;
+use select_answer::pdol;
+use select_answer::select_reason;
 use text::after_word;
-use text::unhex;
+use values::Known;
+use values::keeping::absent;
+use values::keeping::keep;
 
 pub fn answer(words: &[u8]) {
     let mut start = [0u8; 74];

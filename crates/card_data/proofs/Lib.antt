@@ -8,3 +8,5 @@ pub mod Alike
 pub mod Accepted
 pub mod Present
 mod Pinned
+pub mod Absent
+pub mod Opened

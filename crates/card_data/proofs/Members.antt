@@ -13,13 +13,13 @@ use borrow.Author.Tests.{eqb-true}
 use Rattle.lists.specs.Choice.{pick}
 use Rattle.lists.proofs.Choice.{pick-yes, pick-no, picked}
 use Rattle.lists.proofs.Shorter.{by-length}
-use Rattle.objects.specs.Head.{constructed}
+use Rattle.heads.specs.Head.{constructed}
 use Rattle.objects.specs.Objects.{Object, between, isSome, before, rightInside, objects, isList}
 use Rattle.objects.specs.Place.{nextAt, dataField}
 use Rattle.objects.specs.Lookup.{Lookup, absent, once, twice, met, lookup, findIn, foundValue}
 use Rattle.objects.specs.declared.Found.{Found}
-use Rattle.objects.specs.declared.Next.{Next}
-use Rattle.objects.specs.declared.Next.the-variants.{Member, End, Broken}
+use Rattle.heads.specs.declared.Next.{Next}
+use Rattle.heads.specs.declared.Next.the-variants.{Member, End, Broken}
 use Rattle.objects.proofs.Objects.{objects-empty}
 use Rattle.objects.proofs.Reading.{following, objects-next, next-ahead}
 use Rattle.objects.proofs.Walking.{find-lookup}

@@ -14,8 +14,8 @@ use Rattle.lists.specs.Choice.{pick, firstOf}
 use Rattle.lists.proofs.Choice.{pick-yes, pick-no, picked, either}
 use Rattle.objects.specs.Objects.{Object, between, isSome, before, rightInside, objects, isList, readRefusal}
 use Rattle.objects.specs.Place.{nextAt, dataField}
-use Rattle.objects.specs.declared.Next.{Next}
-use Rattle.objects.specs.declared.Next.the-variants.{Member, End, Broken}
+use Rattle.heads.specs.declared.Next.{Next}
+use Rattle.heads.specs.declared.Next.the-variants.{Member, End, Broken}
 use Rattle.objects.proofs.Reading.{following, objects-next}
 use Rattle.card_data.specs.Answer.{sizeBad, only, outer, theOne, tagged, valueUnder, isOne, inside}
 use Rattle.lists.proofs.Tables.{or-yes, or-no}

@@ -8,13 +8,13 @@ use Prim.Native.Nat.{ℕ}
 use lib.ListN.{length, replicate}
 use Rattle.lists.specs.Choice.{pick, firstOf}
 use Rattle.lists.specs.Shorter.{counted, shorter}
-use Rattle.objects.specs.Head.{firstByte, constructed, twoBytes, tagSize, tagOf, tagRight, lengthByte, lengthForm, lengthSize, lengthOf, valueStart, valueEnd, whole}
+use Rattle.heads.specs.Head.{firstByte, constructed, twoBytes, tagSize, tagOf, tagRight, lengthByte, lengthForm, lengthSize, lengthOf, valueStart, valueEnd, whole}
 use Rattle.objects.specs.Objects.{Object, between as part, firstObject, isSome, before, rightInside, listed, objects}
 use Rattle.objects.specs.Place.{dataField}
 use Rattle.objects.specs.Lookup.{Lookup, absent, once, twice, met, lookup}
 use Rattle.lists.specs.Tests.{every, between}
-use Rattle.terminal.specs.Decimal.{digitsOnly, decimalByte}
-use Rattle.terminal.specs.Dates.{monthAndDay, validCardDate}
+use Rattle.decimals.specs.Decimal.{digitsOnly, decimalByte}
+use Rattle.decimals.specs.Dates.{monthAndDay, validCardDate}
 use Rattle.locator.specs.Entries.{wholeEntries}
 use Rattle.lists.specs.Tables.{anyOf, beside}
 use Rattle.card_data.specs.CardNumber.{halves, digits, onlyF, cardNumber}

@@ -7,7 +7,7 @@ use Prim.Native.Nat.{ℕ, _≤_}
 use lib.ListN.{length}
 use borrow.Author.Tests.{eqb-true}
 use Rattle.lists.specs.Choice.{pick}
-use Rattle.terminal.specs.Dates.{validCardDate}
+use Rattle.decimals.specs.Dates.{validCardDate}
 use Rattle.lists.proofs.Tests.{first-held}
 use Rattle.lists.specs.Tables.{beside}
 use Rattle.card_data.specs.CardNumber.{cardNumber}

@@ -10,8 +10,8 @@ use lib.ListN.{length, getD}
 use Rattle.lists.specs.Choice.{pick}
 use Rattle.objects.specs.Objects.{Object, between, objects}
 use Rattle.objects.specs.Place.{dataField}
-use Rattle.objects.specs.declared.Next.{Next}
-use Rattle.objects.specs.declared.Next.the-variants.{Member, End, Broken}
+use Rattle.heads.specs.declared.Next.{Next}
+use Rattle.heads.specs.declared.Next.the-variants.{Member, End, Broken}
 use Rattle.lists.specs.Tables.{anyOf}
 
 -- the fewest and the most bytes of an answer

@@ -6,7 +6,7 @@ use mathlib.Core.List.{List, [], _∷_}
 use Prim.Native.Nat.{ℕ}
 use lib.ListN.{length}
 use Rattle.lists.specs.Tests.{between}
-use Rattle.terminal.specs.Dates.{validCardDate}
+use Rattle.decimals.specs.Dates.{validCardDate}
 use Rattle.locator.specs.Entries.{wholeEntries}
 use Rattle.lists.specs.Tables.{beside}
 use Rattle.card_data.specs.CardNumber.{cardNumber}

@@ -1,6 +1,6 @@
 // An answer as a whole: its size, its status and its one object.
+use heads::Next;
 use lists::byte;
-use objects::Next;
 use objects::place::data_field;
 use objects::place::list_refusal;
 use objects::place::next;

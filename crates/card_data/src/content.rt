@@ -1,7 +1,7 @@
 // What the value of each named object must be.
 use crate::number::is_card_number;
+use decimals::dates::valid_card_date;
 use locator::entries::are_whole;
-use terminal::dates::valid_card_date;
 ghost use mathlib.Core.Path.{_≡_};
 ghost use Rattle.card_data.specs.Content.{ruleFor, rightValue};
 

@@ -4,23 +4,23 @@ use mathlib.Core.Path.{_≡_, refl}
 use Rattle.lists.specs.Choice.{pick, firstOf}
 use Rattle.lists.specs.Shorter.{counted, shorter}
 use Rattle.lists.specs.Writing.{zeros}
-use Rattle.objects.specs.Head.{firstByte, constructed, twoBytes, tagSize, tagOf, tagRight, lengthByte, lengthForm, lengthSize, lengthOf, valueStart, valueEnd, whole}
+use Rattle.heads.specs.Head.{firstByte, constructed, twoBytes, tagSize, tagOf, tagRight, lengthByte, lengthForm, lengthSize, lengthOf, valueStart, valueEnd, whole}
 use Rattle.objects.specs.Objects.{between, firstObject, isSome, before, rightInside, listed, objects}
 use Rattle.objects.specs.Place.{dataField}
 use Rattle.objects.specs.Lookup.{met, lookup}
 use Rattle.lists.specs.Tests.{every}
 use Rattle.lists.specs.Tests.{between as within}
-use Rattle.object_lists.specs.Shape.{shaped, numeric, formatOf}
+use Rattle.values.specs.Shape.{shaped, numeric, formatOf}
 use Rattle.commands.specs.Commands.{recordCommand}
 use Rattle.lists.specs.Tables.{anyOf, beside}
 use Rattle.card_data.specs.Answer.{sizeBad, statusBad, only, outer, tagged, valueUnder, isOne, inside, outerBad, frame}
 use Rattle.card_data.specs.Content.{meets, rules, ruleFor, rightValue}
 use Rattle.card_data.specs.Named.{membersIn, named, among, direct, standing, times, told, valueOf, wrongValue, anyTimes, anyWrong}
-use Rattle.answers.specs.Forms.{lacks}
+use Rattle.form_answers.specs.Forms.{lacks}
 use Rattle.locator.specs.Entries.{firstEntry, entries, wholeEntries, sfi, records, entryRight, entriesRight, recordsOf, recordCount, tooMany, run, readEntry, readAll, toRead, fileRight}
-use Rattle.answers.specs.Options.{profileOf, locatorOf, optionsWrong, optionsLines, optionsReason}
-use Rattle.decide.specs.Bits.{joined, meet}
-use Rattle.decide.specs.Selection.{biased, chosen}
+use Rattle.form_answers.specs.Options.{profileOf, locatorOf, optionsWrong, optionsLines, optionsReason}
+use Rattle.checks.specs.Bits.{joined, meet}
+use Rattle.checks.specs.Selection.{biased, chosen}
 use Rattle.decide.specs.Requests.{issuerCode, codeMatch, byType, firstRequest}
 use Rattle.cases.specs.Table.{plain, noCodes, Cases}
 

@@ -6,15 +6,15 @@ use mathlib.Core.List.{List, [], _∷_}
 use mathlib.Core.Option.{Option, none, some}
 use Prim.Native.Nat.{ℕ}
 use Rattle.objects.specs.Objects.{Object, objects}
-use Rattle.object_lists.specs.Shape.{shaped, formatOf}
+use Rattle.values.specs.Shape.{shaped, formatOf}
 use Rattle.lists.specs.Writing.{zeros}
 use Rattle.terminal.specs.Reading.{Terminal}
 use Rattle.terminal.specs.Bare.{bare}
 use Rattle.commands.specs.Commands.{recordCommand}
 use Rattle.locator.specs.Entries.{toRead, recordCount}
-use Rattle.answers.specs.Options.{optionsReason}
-use Rattle.decide.specs.Selection.{chosen}
-use Rattle.decide.specs.Card.{IssuerCodes}
+use Rattle.form_answers.specs.Options.{optionsReason}
+use Rattle.checks.specs.Selection.{chosen}
+use Rattle.decide.specs.Codes.{IssuerCodes}
 use Rattle.decide.specs.Requests.{firstRequest}
 use Rattle.decide.specs.declared.requests.Cryptogram.{Cryptogram}
 use Rattle.decide.specs.declared.requests.Cryptogram.the-variants.{Tc, Arqc}

@@ -9,7 +9,7 @@ use borrow.Author.Tests.{lt-ltb, le-ltb, ltb-true, ltb-false, eq-eqb, ne-eqb, eq
 use lib.Dec.{ltb, eqb}
 use Rattle.lists.specs.Choice.{pick}
 use Rattle.lists.proofs.Choice.{pick-yes, pick-no, either}
-use Rattle.objects.specs.Written.{written, tagBytes, lengthBytes}
+use Rattle.object_writer.specs.Written.{written, tagBytes, lengthBytes}
 use Rattle.terminal.specs.Layout.{aidRoom, aidAt}
 use Rattle.terminal.specs.Reading.{readingOf}
 use Rattle.commands.specs.Commands.{selectCommand, optionsCommand, recordCommand, cryptogramCommand, withLength, longest}

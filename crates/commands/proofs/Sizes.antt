@@ -14,10 +14,11 @@ use Rattle.lists.specs.Writing.{put, laid}
 use Rattle.lists.proofs.Choice.{pick-yes, pick-no, pick-ap, either}
 use Rattle.lists.proofs.Writing.{put-length, put-step, laid-fits, laid-short}
 use Rattle.terminal.specs.Reading.{Terminal}
-use Rattle.object_lists.specs.Wanted.{tally, fillable, totalOf, most}
+use Rattle.wanted.specs.Wanted.{tally, fillable, totalOf, most}
 use Rattle.object_lists.specs.Filled.{filling, filledList}
-use Rattle.object_lists.specs.declared.Known.{Known}
-use Rattle.object_lists.proofs.Entries.{list-length, tally-fillable}
+use Rattle.values.specs.declared.Known.{Known}
+use Rattle.wanted.proofs.Entries.{tally-fillable}
+use Rattle.object_lists.proofs.Filling.{list-length}
 use Rattle.commands.specs.Commands.{dataSize, sizeIn}
 
 module _ (list : List ℕ) where

@@ -6,8 +6,8 @@ use Prim.Native.Nat.{ℕ, _+_, _*_, _%_}
 use lib.Dec.{eqb, leb}
 use lib.ListN.{length}
 use Rattle.lists.specs.Choice.{pick}
-use Rattle.objects.specs.Written.{written}
-use Rattle.object_lists.specs.Wanted.{fillable, totalOf}
+use Rattle.object_writer.specs.Written.{written}
+use Rattle.wanted.specs.Wanted.{fillable, totalOf}
 
 -- SELECT by the AID
 unfoldable pub selectCommand : List ℕ → List ℕ

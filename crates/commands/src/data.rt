@@ -1,8 +1,8 @@
 // The data of a command, and the byte that ends it.
 use lists::lay;
-use object_lists::Known;
 use object_lists::fill::fill;
-use object_lists::wanted::total;
+use values::Known;
+use wanted::total;
 ghost use mathlib.Core.Path.{_≡_};
 ghost use mathlib.Core.List.{[], _∷_, _++_};
 ghost use Prim.Native.Nat.{_+_, _≤_};

@@ -2,8 +2,8 @@
 use crate::data::data_size;
 use crate::data::lay_data;
 use lists::lay;
-use object_lists::Known;
 use terminal::fields::aid;
+use values::Known;
 ghost use mathlib.Core.Path.{_≡_};
 ghost use lib.ListN.{length};
 ghost use Rattle.lists.specs.Writing.{laid};

@@ -7,7 +7,7 @@ use mathlib.Core.Option.{Option, some, none}
 use Prim.Native.Nat.{ℕ}
 use Rattle.lists.specs.Choice.{pick}
 use Rattle.lists.specs.Tests.{every}
-use Rattle.terminal.specs.Decimal.{zerosOnly}
+use Rattle.decimals.specs.Decimal.{zerosOnly}
 use Rattle.terminal.specs.Bare.{bare}
 use Rattle.terminal.specs.Reading.{Terminal}
 use Rattle.decide.specs.declared.reply.Reply.{Reply}
@@ -18,8 +18,8 @@ use Rattle.decide.specs.declared.requests.Cryptogram.{Cryptogram}
 use Rattle.decide.specs.declared.requests.Cryptogram.the-variants.{Aac, Tc, Arqc}
 use Rattle.decide.specs.declared.requests.Given.{Given}
 use Rattle.decide.specs.declared.requests.Given.the-variants.{Of, Reserved}
-use Rattle.decide.specs.Bits.{joined, meet}
-use Rattle.decide.specs.Card.{IssuerCodes}
+use Rattle.checks.specs.Bits.{joined, meet}
+use Rattle.decide.specs.Codes.{IssuerCodes}
 use Rattle.decide.specs.Requests.{issuerCode, codeMatch, byType, firstRequest, whenUnable, secondRequest, p1Of, givenBy, firstAllowed, secondAllowed}
 use Rattle.decide.specs.Replies.{codeIn, saidBy, replyOf, responseCode}
 

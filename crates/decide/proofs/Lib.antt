@@ -1,7 +1,2 @@
-mod Signed
-mod Words
-pub mod Rows
-pub mod Laws
-pub mod Interpolation
-mod ExampleResults
 mod ExampleRequests
+pub mod Replying

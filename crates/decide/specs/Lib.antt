@@ -1,7 +1,4 @@
 -- From facts to a decision, as document 01 has it.
-pub mod Bits
-pub mod Card
-pub mod Selection
-pub mod Results
+pub mod Codes
 pub mod Requests
 pub mod Replies

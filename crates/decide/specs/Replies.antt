@@ -6,7 +6,7 @@ use Prim.Native.Nat.{ℕ}
 use lib.Dec.{eqb}
 use lib.ListN.{length, getD}
 use Rattle.lists.specs.Choice.{pick}
-use Rattle.terminal.specs.Decimal.{zerosOnly}
+use Rattle.decimals.specs.Decimal.{zerosOnly}
 use Rattle.decide.specs.declared.reply.Reply.{Reply}
 use Rattle.decide.specs.declared.reply.Reply.the-variants.{Approve, Decline, Unable}
 use Rattle.decide.specs.declared.reply.Heard.{Heard}

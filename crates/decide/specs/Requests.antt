@@ -14,8 +14,8 @@ use Rattle.decide.specs.declared.requests.Cryptogram.{Cryptogram}
 use Rattle.decide.specs.declared.requests.Cryptogram.the-variants.{Aac, Tc, Arqc}
 use Rattle.decide.specs.declared.requests.Given.{Given}
 use Rattle.decide.specs.declared.requests.Given.the-variants.{Of, Reserved}
-use Rattle.decide.specs.Bits.{joined, meet}
-use Rattle.decide.specs.Card.{IssuerCodes}
+use Rattle.checks.specs.Bits.{joined, meet}
+use Rattle.decide.specs.Codes.{IssuerCodes}
 
 -- the codes that the card gave, or five bytes of what stands for absent ones
 unfoldable pub issuerCode : ℕ → Option (List ℕ) → List ℕ

@@ -1,6 +1,3 @@
 // From facts to a decision: the TVR and TSI, the requests, the answers that they allow, and the issuer's reply.
-pub mod bits;
 pub mod reply;
 pub mod requests;
-pub mod results;
-pub mod selection;

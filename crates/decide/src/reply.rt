@@ -1,6 +1,6 @@
 // The issuer's reply HOST, and the response code.
 ghost use mathlib.Core.Path.{_≡_};
-ghost use Rattle.terminal.specs.Decimal.{zerosOnly};
+ghost use Rattle.decimals.specs.Decimal.{zerosOnly};
 ghost use Rattle.decide.specs.Replies.{codeIn, replyOf, isReply, responseCode};
 use super::requests::Cryptogram;
 

@@ -1,10 +1,11 @@
 // What the terminal asks of the card, and which answers a request allows.
 ghost use mathlib.Core.Path.{_≡_};
 ghost use Rattle.terminal.specs.Reading.{readingOf, bytesOf};
-ghost use Rattle.decide.specs.Card.{codesOf, given};
+ghost use Rattle.checks.specs.Card.{given};
+ghost use Rattle.decide.specs.Codes.{codesOf};
 ghost use Rattle.decide.specs.Requests.{issuerCode, codeMatch, denialMatch, onlineMatch, defaultMatch, byType, firstRequest, whenUnable, secondRequest, p1Of, givenBy, answersFirst, firstAllowed, answersSecond, secondAllowed};
-use super::bits;
 use super::reply::Reply;
+use checks::bits;
 use terminal::fields;
 use terminal::fields::Field;
 

@@ -38,7 +38,7 @@ fn print_line(start: &[u8]) {
     print_number(fields::amount(start));
     print_number(fields::floor_limit(start));
     print_number(fields::threshold(start));
-    if decide::selection::selected(start) {
+    if checks::selection::selected(start) {
         io::write_all(STDOUT_FILENO, b"1\n");
     } else {
         io::write_all(STDOUT_FILENO, b"0\n");

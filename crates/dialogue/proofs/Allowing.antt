@@ -11,7 +11,7 @@ use borrow.Author.Tests.{ne-eqb}
 use Rattle.lists.specs.Choice.{pick}
 use Rattle.lists.proofs.Choice.{pick-yes, pick-no}
 use Rattle.lists.specs.Tables.{beside}
-use Rattle.answers.specs.Cryptogram.{allows}
+use Rattle.form_answers.specs.Cryptogram.{allows}
 use Rattle.decide.specs.Requests.{givenBy}
 use Rattle.decide.specs.declared.requests.Given.{Given}
 use Rattle.decide.specs.declared.requests.Given.the-variants.{Of, Reserved}

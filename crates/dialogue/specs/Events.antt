@@ -7,16 +7,17 @@ use lib.Dec.{eqb}
 use Rattle.lists.specs.Choice.{pick}
 use Rattle.objects.specs.Objects.{isSome}
 use Rattle.terminal.specs.Reading.{readingOf}
-use Rattle.answers.specs.Options.{optionsReason}
-use Rattle.answers.specs.Records.{recordReason}
+use Rattle.form_answers.specs.Options.{optionsReason}
+use Rattle.record_answer.specs.Records.{recordReason}
 use Rattle.decide.specs.Replies.{replyOf}
-use Rattle.decide.specs.Results.{tsiAfterFirstAnswer}
+use Rattle.checks.specs.Results.{tsiAfterFirstAnswer}
 use Rattle.decide.specs.declared.reply.Heard.{Heard}
 use Rattle.decide.specs.declared.reply.Heard.the-variants.{Said, Nothing as NoReply}
 use Rattle.rulebook.specs.Phase.{Asked, selecting, optioning, reading, first, second}
 use Rattle.rulebook.specs.Turn.{opened, turn, heard}
 use Rattle.state.specs.Reading.{late, askedIn}
-use Rattle.state.specs.Keeping.{withRecord, withTold, withOptions, changed, begun}
+use Rattle.state.specs.Keeping.{withTold, withOptions, changed, begun}
+use Rattle.told.specs.Telling.{withRecord}
 use Rattle.state.specs.declared.State.{State}
 use Rattle.state.specs.declared.Phase.{Phase as Kept}
 use Rattle.state.specs.declared.Phase.the-variants.{Start, Select, Options, Record, First, Second, Host, Decided, Closed}

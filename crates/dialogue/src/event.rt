@@ -6,7 +6,7 @@ use decide::reply::code_in;
 use decide::reply::reply_of;
 use moves::Due;
 use moves::Step;
-use moves::online::request_second;
+use online_steps::request_second;
 use state::Phase;
 use state::State;
 use state::change::begun;

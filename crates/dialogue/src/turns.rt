@@ -1,33 +1,32 @@
 // How a session goes on after each answer of the card's.
-use answers::cryptogram;
-use answers::cryptogram::Allowed;
-use answers::options::options_reason;
-use answers::records::record_reason;
-use answers::select;
+use checks::results::tsi_after_first_answer;
 use commands::write;
 use decide::requests::Cryptogram;
 use decide::requests::first_allowed;
 use decide::requests::given_by;
 use decide::requests::second_allowed;
-use decide::results::tsi_after_first_answer;
+use form_answers::cryptogram;
+use form_answers::cryptogram::Allowed;
+use form_answers::options::options_reason;
 use moves::Due;
 use moves::Step;
 use moves::ends::decide;
 use moves::ends::end;
 use moves::ends::wait;
-use moves::online::by_first;
-use moves::reading::read_on;
+use online_steps::by_first;
+use readings::facts::seen;
+use readings::known::at_options;
+use record_answer::record_reason;
+use record_steps::read_on;
 use state::Phase;
 use state::State;
 use state::change::change;
 use state::change::with_options;
 use state::change::with_told;
-use state::facts::seen;
-use state::known::at_options;
-use state::records::with_record;
+use told::records::with_record;
 ghost use mathlib.Core.Path.{_≡_};
 ghost use mathlib.Core.List.{[]};
-ghost use Rattle.answers.specs.Cryptogram.{allows};
+ghost use Rattle.form_answers.specs.Cryptogram.{allows};
 ghost use Rattle.rulebook.specs.Phase.{selecting, optioning, reading as readingRecord, first as firstAsked, second as secondAsked};
 ghost use Rattle.rulebook.specs.Turn.{turn, firstAllows, secondAllows};
 ghost use Rattle.state.specs.Reading.{early, late, recordsLeft};
@@ -39,11 +38,11 @@ pub fn on_select(s: State, a: &[u8], buf: &mut [u8]) -> Step
 {
     let start = s.start;
     let terminal: &[u8] = &start;
-    let why = select::select_reason(terminal, a);
+    let why = select_answer::select_reason(terminal, a);
     if why != 0 {
         return end(s, why);
     }
-    let n = write::options(select::pdol(a), terminal, at_options(s), buf);
+    let n = write::options(select_answer::pdol(a), terminal, at_options(s), buf);
     wait(s, Phase::Options, Due::Command(n))
 }
 

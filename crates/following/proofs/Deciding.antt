@@ -10,7 +10,7 @@ use Rattle.lists.specs.Choice.{pick}
 use Rattle.lists.proofs.Choice.{pick-yes, pick-no}
 use Rattle.moves.specs.Moves.{Moved, played}
 use Rattle.moves.specs.declared.Step.{Step}
-use Rattle.following.specs.declared.Stage.{Stage}
+use Rattle.stages.specs.declared.Stage.{Stage}
 use Rattle.following.specs.declared.Judgement.{Judgement}
 use Rattle.following.specs.Following.{stageOf, moving}
 

@@ -13,8 +13,8 @@ use Rattle.lists.specs.Choice.{pick}
 use Rattle.lists.proofs.Choice.{pick-yes, pick-no, either}
 use Rattle.lists.proofs.Writing.{zeros-length}
 use Rattle.terminal.specs.Reading.{readingOf}
-use Rattle.terminal.specs.Start.{validStart, terminalOf}
-use Rattle.terminal.proofs.Laws.{accepted, turned-away}
+use Rattle.start.specs.Start.{validStart, terminalOf}
+use Rattle.start.proofs.Laws.{accepted, turned-away}
 use Rattle.tape.specs.Entries.{Entry, entry, start, command, answer, silence, host, decision}
 use Rattle.lists.specs.Tests.{alike}
 use Rattle.lists.proofs.Cutting.{none-left}
@@ -45,11 +45,12 @@ use Rattle.verdicts.specs.Judged.{says}
 use Rattle.verdicts.specs.declared.Verdict.the-variants.{Pass, Inconclusive}
 use Rattle.verdicts.specs.Progress.{Progress, reached, closed, broken, reads, concluded}
 use Rattle.verdicts.proofs.Taking.{reads-start, start-invalid, start-missing, reads-command, command-wrong, command-missing, reads-answer, reads-silence, silence-wrong, answer-missing, reads-host, host-invalid, host-missing, reads-decision, decision-wrong, decision-missing, reads-after-end, reads-after-silence, reads-after-break}
-use Rattle.following.specs.declared.Stage.{Stage}
-use Rattle.following.specs.declared.Stage.the-variants.{Start, Command, Answer, Host, Decision, Done, Closed, Broken}
+use Rattle.stages.specs.declared.Stage.{Stage}
+use Rattle.stages.specs.declared.Stage.the-variants.{Start, Command, Answer, Host, Decision, Done, Closed, Broken}
 use Rattle.following.specs.declared.Judgement.{Judgement}
 use Rattle.following.proofs.Deciding.{other-kind, test-fails, test-holds}
-use Rattle.following.specs.Following.{begun, stageOf, staged, moving, atStart, atCommand, atSilence, atAnswer, atHost, atDecision, fedAt, fed, saidAt}
+use Rattle.following.specs.Following.{begun, stageOf, staged, moving, atStart, atCommand, atSilence, atAnswer, atHost, atDecision, fedAt, fed}
+use Rattle.stages.specs.Stages.{saidAt}
 
 -- what the judge expects where the machine stands
 unfoldable pub Expects : Judgement → Machine → Type 0

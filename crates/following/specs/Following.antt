@@ -7,7 +7,7 @@ use lib.Dec.{eqb}
 use lib.ListN.{length, take, drop}
 use Rattle.lists.specs.Choice.{pick}
 use Rattle.lists.specs.Writing.{zeros}
-use Rattle.terminal.specs.Start.{validStart}
+use Rattle.start.specs.Start.{validStart}
 use Rattle.tape.specs.Entries.{start, command, answer, silence, host, decision}
 use Rattle.lists.specs.Tests.{alike}
 use Rattle.decide.specs.Replies.{replyOf, isReply}
@@ -17,11 +17,8 @@ use Rattle.moves.specs.Moves.{Moved}
 use Rattle.dialogue.specs.Events.{started, answered, hostHeard}
 use Rattle.moves.specs.declared.Due.{Due}
 use Rattle.moves.specs.declared.Due.the-variants.{Command as CommandDue, Host as HostDue, Decision as DecisionDue, Nothing}
-use Rattle.verdicts.specs.Judged.{says}
-use Rattle.verdicts.specs.declared.Answer.{Answer as Given}
-use Rattle.verdicts.specs.declared.Verdict.the-variants.{Pass, Fail, Inconclusive}
-use Rattle.following.specs.declared.Stage.{Stage}
-use Rattle.following.specs.declared.Stage.the-variants.{Start, Command, Answer, Host, Decision, Done, Closed, Broken}
+use Rattle.stages.specs.declared.Stage.{Stage}
+use Rattle.stages.specs.declared.Stage.the-variants.{Start, Command, Answer, Host, Decision, Done, Closed, Broken}
 use Rattle.following.specs.declared.Judgement.{Judgement}
 
 unfoldable pub begun : Judgement
@@ -76,14 +73,3 @@ fedAt (Broken place) j index kind p = j
 
 unfoldable pub fed : Judgement → ℕ → ℕ → List ℕ → Judgement
 fed j index kind p = fedAt (j .stage) j index kind p
-
--- what is said after so many entries
-unfoldable pub saidAt : Stage → ℕ → Given
-saidAt Start n = says Inconclusive n 0
-saidAt (Command size) n = says Inconclusive n 0
-saidAt Answer n = says Inconclusive n 0
-saidAt Host n = says Inconclusive n 0
-saidAt Decision n = says Inconclusive n 0
-saidAt Done n = says Pass n 0
-saidAt Closed n = says Inconclusive n 0
-saidAt (Broken place) n = says Fail place 0

@@ -1,10 +1,11 @@
 // One entry further.
 use crate::Judgement;
-use crate::Stage;
 use decide::reply::is_reply;
 use dialogue::event;
 use lists::alike;
 use moves::Due;
+use stages::Stage;
+use start::valid_start;
 use state::State;
 use state::change::fresh;
 use state::result::decision;
@@ -14,11 +15,10 @@ use tape::DECISION;
 use tape::HOST;
 use tape::SILENCE;
 use tape::START;
-use terminal::start::valid_start;
 ghost use mathlib.Core.Path.{_≡_};
 ghost use lib.ListN.{length};
 ghost use Rattle.following.specs.Following.{begun, stageOf, staged, atStart, atCommand, atSilence, atAnswer, atHost, atDecision, fed};
-ghost use Rattle.following.specs.declared.Stage.{Stage as Stages};
+ghost use Rattle.stages.specs.declared.Stage.{Stage as Stages};
 
 pub fn begin() -> Judgement
     ensures { λ r. ⌜ r ≡ begun ⌝ }

@@ -8,8 +8,8 @@ use lib.ListN.{length}
 use denote.Ref.{RefT, now}
 use Rattle.objects.specs.Objects.{Object, between, objects}
 use Rattle.objects.specs.Place.{Place, nextAt, objectAt, follow, walk, placesFrom}
-use Rattle.objects.specs.declared.Next.{Next}
-use Rattle.objects.specs.declared.Next.the-variants.{Member, End, Broken}
+use Rattle.heads.specs.declared.Next.{Next}
+use Rattle.heads.specs.declared.Next.the-variants.{Member, End, Broken}
 use Rattle.objects.proofs.Walking.{places-next, places-members}
 use Rattle.held.specs.Held.{goOn, placeAfter, valueIn, valueAt, nextOf, valueOf, movedOn, nthFrom, objectIn, nth}
 use Rattle.held.specs.Held.{given, givenIn, allGiven}

@@ -7,8 +7,8 @@ use lib.ListN.{length}
 use denote.Ref.{now}
 use Rattle.objects.specs.Objects.{Object, between}
 use Rattle.objects.specs.Place.{nextAt}
-use Rattle.objects.specs.declared.Next.{Next}
-use Rattle.objects.specs.declared.Next.the-variants.{Member, End, Broken}
+use Rattle.heads.specs.declared.Next.{Next}
+use Rattle.heads.specs.declared.Next.the-variants.{Member, End, Broken}
 use Rattle.held.specs.declared.Reader.{Reader}
 
 -- past the object that was found; where none was, the place stays

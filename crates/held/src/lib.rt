@@ -1,6 +1,6 @@
 // The held reader: the lent answer and a place in it, in one value. 01, "Data objects" and "What shape each place takes".
 // Whatever takes or makes such a value is proved by hand, so it has no branch and hands slice and place to a plain function.
-use objects::Next;
+use heads::Next;
 use objects::place::next;
 use objects::place::value;
 ghost use mathlib.Core.Path.{_≡_};

@@ -1,8 +1,8 @@
 // The judge: the verdict of a tape. It replays the dialogue entry by entry and compares; it reads on after a broken rule, since a
 // later damaged block makes the whole tape unreadable.
-mod verdict;
-
 use following::follow;
+use stages::conclude;
+use stages::unreadable;
 use tape::block_at;
 use tape::code;
 use tape::kind;
@@ -16,10 +16,10 @@ pub fn judge(tape: &[u8]) -> Answer
     ensures { λ r. ⌜ Judged (now (tape .entry)) r ⌝ }
 {
     if 65536 < tape.len() {
-        return verdict::unreadable(0, 1);
+        return unreadable(0, 1);
     }
     if tape.len() % 512 != 0 {
-        return verdict::unreadable(tape.len() / 512, 2);
+        return unreadable(tape.len() / 512, 2);
     }
     let number = session(block_at(tape, 0));
     let mut j = follow::begin();
@@ -28,11 +28,12 @@ pub fn judge(tape: &[u8]) -> Answer
         let block = block_at(tape, k);
         let why = code(block, k, number);
         if why != 0 {
-            return verdict::unreadable(k, why as usize);
+            return unreadable(k, why as usize);
         }
         let next = follow::feed(j, k, kind(block), payload(block));
         j = next;
         k += 1;
     }
-    verdict::conclude(j, k)
+    let stage = j.stage;
+    conclude(stage, k)
 }

@@ -4,7 +4,7 @@ use libc::STDIN_FILENO;
 use libc::STDOUT_FILENO;
 use lists::byte;
 use lists::part;
-use verdicts::line::line;
+use verdict_line::line;
 ghost use Prim.Native.Nat.{_≤_};
 ghost use lib.ListN.{length};
 

@@ -1,10 +1,10 @@
 // One call, and its reply printed.
+use hexadecimal::unhex;
 use kernel::Reply;
 use kernel::Session;
 use kernel::Step;
 use kernel::result::decision;
 use lists::part;
-use text::unhex;
 ghost use Prim.Native.Nat.{_≤_};
 
 // The longest payload, and the most bytes that are lent.

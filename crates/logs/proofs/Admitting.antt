@@ -8,7 +8,7 @@ use lib.ListN.{length}
 use borrow.Author.Tests.{le-ltb}
 use Rattle.lists.specs.Choice.{firstOf}
 use Rattle.card_data.proofs.Lines.{line-no, last-no}
-use Rattle.terminal.specs.Start.{validStart}
+use Rattle.start.specs.Start.{validStart}
 use Rattle.tape.specs.Entries.{payloadMost}
 use Rattle.commands.specs.Commands.{longest}
 use Rattle.decide.specs.Replies.{replyOf, isReply}

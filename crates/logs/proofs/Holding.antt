@@ -10,7 +10,7 @@ use Rattle.lists.specs.Writing.{zeros}
 use Rattle.lists.proofs.Choice.{and-left, and-right}
 use lib.Pow.{areBytes}
 use Rattle.tape.specs.Entries.{Entry}
-use Rattle.decide.proofs.Rows.{joined-self, kept-on}
+use Rattle.checks.proofs.Rows.{joined-self, kept-on}
 use Rattle.rulebook.specs.Situation.{begun}
 use Rattle.rulebook.specs.Phase.{situationOf, tvrOf, tsiOf}
 use Rattle.rulebook.specs.Turn.{opened}

@@ -14,8 +14,8 @@ use borrow.Author.Tests.{leb-true}
 use Rattle.lists.specs.Choice.{pick}
 use Rattle.lists.proofs.Choice.{either, and-left}
 use Rattle.terminal.specs.Reading.{readingOf}
-use Rattle.terminal.specs.Start.{terminalOf, validStart}
-use Rattle.terminal.proofs.Laws.{accepted as valid-read, turned-away}
+use Rattle.start.specs.Start.{terminalOf, validStart}
+use Rattle.start.proofs.Laws.{accepted as valid-read, turned-away}
 use Rattle.tape.specs.Entries.{Entry, entry, start as startKind, command, answer as answerKind, host as hostKind, decision, payloadMost}
 use Rattle.commands.specs.Commands.{longest}
 use Rattle.decide.specs.declared.reply.Reply.{Reply as Said·Reply}

@@ -13,7 +13,7 @@ use lib.Pow.{areBytes}
 use borrow.Author.Tests.{eqb-true}
 use Rattle.lists.proofs.Choice.{pick-no, either}
 use Rattle.terminal.specs.Reading.{readingOf}
-use Rattle.terminal.proofs.Laws.{start-length}
+use Rattle.start.proofs.Laws.{start-length}
 use Rattle.tape.specs.Entries.{Entry, payloadMost}
 use Rattle.commands.specs.Commands.{longest}
 use Rattle.decide.specs.Replies.{replyOf}

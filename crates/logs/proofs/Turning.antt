@@ -12,7 +12,7 @@ use borrow.Author.Tests.{eq-eqb, ne-eqb, eqb-true, ltb-false, not-false}
 use Rattle.lists.specs.Choice.{firstOf}
 use Rattle.lists.proofs.Choice.{pick-yes, pick-no, either}
 use Rattle.card_data.proofs.Lines.{line-clear}
-use Rattle.terminal.specs.Start.{validStart}
+use Rattle.start.specs.Start.{validStart}
 use Rattle.tape.specs.Entries.{payloadMost}
 use Rattle.commands.specs.Commands.{longest}
 use Rattle.decide.specs.Replies.{replyOf, isReply}

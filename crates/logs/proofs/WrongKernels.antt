@@ -11,10 +11,10 @@ use Rattle.lists.specs.Choice.{pick}
 use Rattle.lists.specs.Writing.{zeros}
 use Rattle.lists.proofs.Writing.{zeros-length}
 use Rattle.terminal.specs.Reading.{readingOf}
-use Rattle.terminal.specs.Start.{validKind, validDigits, validRandom, validPercentages, validThreshold, validAid, validStart}
+use Rattle.start.specs.Start.{validKind, validDigits, validRandom, validPercentages, validThreshold, validAid, validStart}
 use Rattle.lists.specs.Tests.{every, between}
-use Rattle.terminal.specs.Decimal.{decimalFrom, decimal, decimalByte, digitsOnly, zerosOnly}
-use Rattle.terminal.specs.Dates.{monthAndDay, validStartDate}
+use Rattle.decimals.specs.Decimal.{decimalFrom, decimal, decimalByte, digitsOnly, zerosOnly}
+use Rattle.decimals.specs.Dates.{monthAndDay, validStartDate}
 use Rattle.tape.specs.Entries.{Entry, entry, start as startKind, command, decision}
 use Rattle.commands.specs.Commands.{longest, selectCommand}
 use Rattle.rulebook.specs.Situation.{begun}

@@ -6,7 +6,7 @@ use mathlib.Core.List.{List, [], _∷_}
 use Prim.Native.Nat.{ℕ, _<_}
 use lib.Dec.{ltb}
 use lib.ListN.{length, getD}
-use Rattle.terminal.specs.Start.{validStart}
+use Rattle.start.specs.Start.{validStart}
 use Rattle.tape.specs.Entries.{payloadMost}
 use Rattle.commands.specs.Commands.{longest}
 use Rattle.decide.specs.Replies.{replyOf, isReply}

@@ -18,9 +18,10 @@ use Rattle.locator.specs.declared.cursor.Cursor.{Cursor}
 use Rattle.rulebook.specs.Situation.{Situation}
 use Rattle.rulebook.specs.Phase.{Asked, Phase, asks, hears, decides, situationOf, commandOf, tvrOf, tsiOf, ended}
 use Rattle.rulebook.specs.Turn.{goesOn}
-use Rattle.state.specs.Reading.{inRun, situationWith, early, late}
+use Rattle.state.specs.Reading.{situationWith, early, late}
+use Rattle.told.specs.Runs.{inRun}
 use Rattle.state.specs.Keeping.{changed}
-use Rattle.state.specs.declared.Run.{Run}
+use Rattle.told.specs.declared.Run.{Run}
 use Rattle.state.specs.declared.State.{State}
 use Rattle.state.specs.declared.Phase.{Phase as Kept}
 use Rattle.state.specs.declared.Phase.the-variants.{Host, Decided}

@@ -1,3 +1,2 @@
 -- Where a session goes on.
 pub mod Moves
-pub mod Storing

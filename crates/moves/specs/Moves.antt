@@ -9,7 +9,7 @@ use Rattle.commands.specs.Commands.{sizeIn}
 use Rattle.locator.specs.Cursor.{stepped}
 use Rattle.locator.specs.declared.cursor.Cursor.{Cursor}
 use Rattle.rulebook.specs.Phase.{Asked, selecting, optioning, reading, first, second, Phase, opens, asks, hears, decides, commandOf, tvrOf, tsiOf}
-use Rattle.state.specs.Reading.{inRun}
+use Rattle.told.specs.Runs.{inRun}
 use Rattle.state.specs.Keeping.{changed}
 use Rattle.state.specs.declared.State.{State}
 use Rattle.state.specs.declared.Phase.{Phase as Kept}

@@ -3,11 +3,11 @@ use commands::write;
 use decide::requests::Cryptogram;
 use decide::requests::p1;
 use locator::cursor;
-use object_lists::Known;
-use state::Run;
 use state::State;
-use state::runs::bytes_of;
-use state::runs::size_of;
+use told::Run;
+use told::runs::bytes_of;
+use told::runs::size_of;
+use values::Known;
 ghost use mathlib.Core.Path.{_≡_};
 ghost use lib.ListN.{length};
 ghost use Rattle.lists.specs.Writing.{laid};
@@ -16,7 +16,7 @@ ghost use Rattle.object_lists.specs.Filled.{filling};
 ghost use Rattle.decide.specs.Requests.{p1Of};
 ghost use Rattle.locator.specs.Cursor.{recordAt};
 ghost use Rattle.commands.specs.Commands.{recordCommand, cryptogramCommand, sizeIn};
-ghost use Rattle.state.specs.Reading.{inRun};
+ghost use Rattle.told.specs.Runs.{inRun};
 
 // GENERATE AC, filled from an object list that a record told.
 pub fn generate(s: State, request: Cryptogram, list: Run, known: Known, buf: &mut [u8]) -> usize

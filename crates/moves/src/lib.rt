@@ -1,9 +1,7 @@
-// Where a session goes on: the next record, the first request, after the first cryptogram, the second request, the end. Each is a
-// step from a state to the state that waits for what comes next.
-mod command;
+// A step of a session: from a state to the state that waits for what comes next. The two commands that more than one step asks,
+// and the ends that more than one step has.
+pub mod command;
 pub mod ends;
-pub mod online;
-pub mod reading;
 
 use state::State;
 

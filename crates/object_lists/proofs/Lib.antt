@@ -1,4 +1,1 @@
-pub mod Shaping
-pub mod Entries
-pub mod Tables
-pub mod Pinned
+pub mod Filling

@@ -5,13 +5,13 @@ use mathlib.Core.Option.{Option, none, some}
 use Prim.Native.Nat.{ℕ}
 use Rattle.lists.specs.Choice.{pick}
 use Rattle.lists.specs.Writing.{zeros}
-use Rattle.objects.specs.Head.{tagOf}
+use Rattle.heads.specs.Head.{tagOf}
 use Rattle.terminal.specs.Reading.{Terminal}
-use Rattle.object_lists.specs.Wanted.{Wanted, sizeAt, entriesOf, fillable}
-use Rattle.object_lists.specs.Shape.{shaped}
-use Rattle.object_lists.specs.Known.{supplied}
-use Rattle.object_lists.specs.declared.Format.{Format}
-use Rattle.object_lists.specs.declared.Known.{Known}
+use Rattle.wanted.specs.Wanted.{Wanted, sizeAt, entriesOf, fillable}
+use Rattle.values.specs.Shape.{shaped}
+use Rattle.values.specs.Known.{supplied}
+use Rattle.values.specs.declared.Format.{Format}
+use Rattle.values.specs.declared.Known.{Known}
 
 -- what is not supplied is all zeros
 unfoldable pub entryBytes : ℕ → Option (Format × List ℕ) → List ℕ

@@ -1,25 +1,25 @@
 // Filling an object list.
-use crate::Format;
-use crate::Known;
-use crate::Value;
-use crate::keeping::bytes_of;
-use crate::keeping::size_of;
-use crate::shape::shape;
-use crate::supply::format_of;
-use crate::supply::value_for;
-use crate::wanted::size_at;
-use crate::wanted::total;
+use heads::tag::tag_of;
+use heads::tag::tag_size;
 use lists::blank;
-use objects::tag::tag_of;
-use objects::tag::tag_size;
+use values::Format;
+use values::Known;
+use values::Value;
+use values::keeping::bytes_of;
+use values::keeping::size_of;
+use values::shape::shape;
+use values::supply::format_of;
+use values::supply::value_for;
+use wanted::size_at;
+use wanted::total;
 ghost use mathlib.Core.Path.{_≡_};
 ghost use mathlib.Core.Bool.{true};
 ghost use Prim.Native.Nat.{_+_, _≤_};
 ghost use lib.ListN.{length};
 ghost use Rattle.lists.specs.Writing.{put, laid};
 ghost use Rattle.terminal.specs.Reading.{readingOf};
-ghost use Rattle.object_lists.specs.Wanted.{sizeAt, fillable, totalOf};
-ghost use Rattle.object_lists.specs.Known.{held, withFormat};
+ghost use Rattle.wanted.specs.Wanted.{sizeAt, fillable, totalOf};
+ghost use Rattle.values.specs.Known.{held, withFormat};
 ghost use Rattle.object_lists.specs.Filled.{entryBytes, firstBytes, filledList, filling};
 
 // One entry's place, filled with its value, or with zeros where there is none.

@@ -15,9 +15,9 @@ use borrow.Author.Tests.{le-leb, leb-true, eqb-false, eqb-true, not-true}
 use Rattle.lists.specs.Choice.{pick}
 use Rattle.lists.proofs.Choice.{pick-yes, pick-no, pick-cong, picked, either, and-left, and-right}
 use Rattle.lists.proofs.Shorter.{by-length}
-use Rattle.objects.specs.Head.{twoBytes, tagSize, tagOf, tagRight, lengthByte, lengthForm, lengthSize, lengthOf, valueStart, valueEnd, whole}
+use Rattle.heads.specs.Head.{twoBytes, tagSize, tagOf, tagRight, lengthByte, lengthForm, lengthSize, lengthOf, valueStart, valueEnd, whole}
 use Rattle.objects.specs.Objects.{Object, between, firstObject, before, rightInside, objects}
-use Rattle.objects.proofs.Parts.{Within, whole-within}
+use Rattle.heads.proofs.Parts.{Within, whole-within}
 use Rattle.objects.proofs.Objects.{objects-empty, objects-filler, objects-member, objects-broken}
 
 -- the length forms, told by their sizes

@@ -9,11 +9,11 @@ use Prim.Native.Nat.{ℕ}
 use lib.ListN.{drop}
 use Rattle.lists.specs.Choice.{pick}
 use Rattle.lists.proofs.Choice.{pick-yes, pick-no}
-use Rattle.objects.specs.Head.{constructed}
+use Rattle.heads.specs.Head.{constructed}
 use Rattle.objects.specs.Objects.{Object, between, isSome, before, rightInside, objects, isList}
 use Rattle.objects.specs.Place.{nextAt}
-use Rattle.objects.specs.declared.Next.{Next}
-use Rattle.objects.specs.declared.Next.the-variants.{Member, End, Broken}
+use Rattle.heads.specs.declared.Next.{Next}
+use Rattle.heads.specs.declared.Next.the-variants.{Member, End, Broken}
 use Rattle.objects.proofs.Reading.{following, objects-next}
 
 isSome-before : (m : Object) (o : Option (List Object)) → isSome (before m o) ≡ isSome o

@@ -14,9 +14,9 @@ use Rattle.lists.specs.Choice.{pick}
 use Rattle.lists.specs.Shorter.{Asks}
 use Rattle.lists.proofs.Choice.{pick-yes, pick-no, pick-cong, and-left, and-cong, and-both}
 use Rattle.lists.proofs.Shorter.{equation}
-use Rattle.objects.specs.Head.{constructed, tagOf, valueStart, valueEnd, whole}
+use Rattle.heads.specs.Head.{constructed, tagOf, valueStart, valueEnd, whole}
 use Rattle.objects.specs.Objects.{Object, between, firstObject, isSome, before, rightInside, listed, objects}
-use Rattle.objects.proofs.Parts.{whole-within}
+use Rattle.heads.proofs.Parts.{whole-within}
 
 between-length : (s : List ℕ) (a e : ℕ) → length (between s a e) ≤ e - a
 unfolding between

@@ -11,9 +11,8 @@ use borrow.Author.Tests.{lt-ltb, le-ltb}
 use Rattle.lists.specs.Choice.{pick, firstOf}
 use Rattle.lists.proofs.Choice.{pick-yes, pick-no, pick-same}
 use Rattle.lists.specs.Shorter.{counted, shorter}
-use Rattle.objects.specs.Head.{firstByte, constructed, twoBytes, tagSize, tagOf, tagRight, lengthByte, lengthForm, lengthSize, lengthOf, valueStart, valueEnd, whole}
+use Rattle.heads.specs.Head.{firstByte, constructed, twoBytes, tagSize, tagOf, tagRight, lengthByte, lengthForm, lengthSize, lengthOf, valueStart, valueEnd, whole}
 use Rattle.objects.specs.Objects.{Object, between, firstObject, isSome, before, rightInside, listed, objects, isList, readRefusal}
-use Rattle.objects.specs.Written.{isTag, tagBytes, lengthBytes}
 
 object : ℕ → List ℕ → Object
 object t v = record { tag = t; value = v }
@@ -77,13 +76,3 @@ no-list s e = ap (pick (ltb 4096 (length s)) 9) (pick-yes _ _ _ (ap not e)) ∙ 
 read : (s : List ℕ) → length s ≤ 4096 → isList s ≡ true → readRefusal s ≡ 0
 unfolding readRefusal firstOf
 read s h e = pick-no _ _ _ (le-ltb 4096 (length s) h) ∙ pick-no _ _ _ (ap not e)
-
--- the shortest form at its limits
-shortest : (lengthBytes 0x7F ≡ 0x7F ∷ []) × (lengthBytes 0x80 ≡ 0x81 ∷ 0x80 ∷ []) × (lengthBytes 0xFF ≡ 0x81 ∷ 0xFF ∷ []) × (lengthBytes 0x100 ≡ 0x82 ∷ 0x01 ∷ 0x00 ∷ [])
-unfolding lengthBytes pick
-shortest = (refl, refl, refl, refl)
-
--- numbers that are one tag, and numbers that are none
-tags : (isTag 0x5A ≡ true) × (isTag 0x9F00 ≡ true) × (isTag 0x9F7F ≡ true) × (isTag 0 ≡ false) × (isTag 0x5F ≡ false) × (isTag 0x9F80 ≡ false) × (isTag 0x5A01 ≡ false) × (isTag 0x19F02 ≡ false)
-unfolding isTag twoBytes pick
-tags = (refl, refl, refl, refl, refl, refl, refl, refl)

@@ -14,12 +14,13 @@ use lib.Seq.{drop-drop}
 use borrow.Author.Tests.{eqb-true, leb-true, leb-false, le-leb}
 use Rattle.lists.specs.Choice.{pick}
 use Rattle.lists.proofs.Choice.{pick-yes, pick-no, picked}
-use Rattle.objects.specs.Head.{tagOf, valueStart, valueEnd, whole}
+use Rattle.heads.specs.Head.{tagOf, valueStart, valueEnd, whole}
 use Rattle.objects.specs.Objects.{Object, between, firstObject, isSome, before, rightInside, objects, isList}
-use Rattle.objects.specs.Place.{fillers, memberAt, nextAt}
-use Rattle.objects.specs.declared.Next.{Next}
-use Rattle.objects.specs.declared.Next.the-variants.{Member, End, Broken}
-use Rattle.objects.proofs.Parts.{Within, whole-within}
+use Rattle.objects.specs.Place.{fillers, nextAt}
+use Rattle.heads.specs.Member.{memberAt}
+use Rattle.heads.specs.declared.Next.{Next}
+use Rattle.heads.specs.declared.Next.the-variants.{Member, End, Broken}
+use Rattle.heads.proofs.Parts.{Within, whole-within}
 use Rattle.objects.proofs.Objects.{objects-empty, objects-filler, objects-member, objects-broken}
 
 -- '00' bytes at the front change nothing

@@ -14,8 +14,8 @@ use Rattle.lists.proofs.Choice.{pick-yes, pick-no, picked, either}
 use Rattle.objects.specs.Objects.{Object, between, before, rightInside, objects}
 use Rattle.objects.specs.Place.{Place, objectAt, follow, walk, placesFrom, nextAt}
 use Rattle.objects.specs.Lookup.{Lookup, absent, once, twice, met, lookup, firstAmong, firstFrom, unless, alone, findIn, foundValue}
-use Rattle.objects.specs.declared.Next.{Next}
-use Rattle.objects.specs.declared.Next.the-variants.{Member, End, Broken}
+use Rattle.heads.specs.declared.Next.{Next}
+use Rattle.heads.specs.declared.Next.the-variants.{Member, End, Broken}
 use Rattle.objects.specs.declared.Found.{Found}
 use Rattle.objects.specs.declared.Found.the-variants.{Absent, Once, Twice}
 use Rattle.objects.proofs.Objects.{objects-empty}

@@ -8,7 +8,7 @@ use lib.Dec.{ltb, eqb}
 use lib.ListN.{length, getD, take, drop}
 use Rattle.lists.specs.Choice.{pick, firstOf}
 use Rattle.lists.specs.Shorter.{shorter}
-use Rattle.objects.specs.Head.{constructed, tagOf, valueStart, valueEnd, whole}
+use Rattle.heads.specs.Head.{constructed, tagOf, valueStart, valueEnd, whole}
 
 pub record Object : Type 0 where
   pub tag : ℕ

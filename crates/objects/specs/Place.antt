@@ -6,20 +6,15 @@ use Prim.Native.Nat.{ℕ, zero, suc, _+_, _-_}
 use lib.Dec.{leb, eqb}
 use lib.ListN.{length, take, drop}
 use Rattle.lists.specs.Choice.{pick}
-use Rattle.objects.specs.Head.{tagOf, valueStart, valueEnd, whole}
+use Rattle.heads.specs.Member.{memberAt}
 use Rattle.objects.specs.Objects.{Object, between}
-use Rattle.objects.specs.declared.Next.{Next}
-use Rattle.objects.specs.declared.Next.the-variants.{Member, End, Broken}
+use Rattle.heads.specs.declared.Next.{Next}
+use Rattle.heads.specs.declared.Next.the-variants.{Member, End, Broken}
 
 -- how many '00' bytes stand at the front
 unfoldable pub fillers : List ℕ → ℕ
 fillers [] = 0
 fillers (b ∷ s) = pick (eqb b 0) (suc (fillers s)) 0
-
--- the object whose head stands at place p of s; `Broken` where none does
-unfoldable pub memberAt : List ℕ → ℕ → Next
-memberAt s p =
-    pick (whole (drop p s)) (Member (tagOf (drop p s)) (p + valueStart (drop p s)) (p + valueEnd (drop p s))) Broken
 
 -- the next object at or after a place: '00' bytes are passed over. At the end of the bytes and past it there is none.
 -- In the middle of an object, and on bytes that are no list, the bytes there are read as if a head stood there

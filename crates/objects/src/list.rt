@@ -1,7 +1,7 @@
 // The list check.
-use crate::Next;
 use crate::place::next;
-use crate::tag::is_constructed;
+use heads::Next;
+use heads::tag::is_constructed;
 ghost use mathlib.Core.Path.{_≡_};
 ghost use Rattle.objects.specs.Objects.{isList};
 

@@ -1,7 +1,7 @@
 // Looking up a tag among the objects that the reader finds.
 use crate::Found;
-use crate::Next;
 use crate::place::next;
+use heads::Next;
 ghost use mathlib.Core.Path.{_≡_};
 ghost use Rattle.objects.specs.Lookup.{findIn, firstFrom};
 

@@ -1,7 +1,7 @@
 // The reader by place: it steps from object to object over the lent bytes and copies nothing.
-use crate::Next;
-use crate::head::member_at;
 use crate::list::is_list;
+use heads::Next;
+use heads::head::member_at;
 use lists::byte;
 use lists::part;
 ghost use mathlib.Core.Path.{_≡_};

@@ -1,11 +1,11 @@
 // Questions to the held reader.
 use crate::read::print_member;
 use crate::read::print_other;
-use objects::Next;
+use heads::Next;
+use hexadecimal::unhex;
 use objects::place;
 use text::after_word;
 use text::number;
-use text::unhex;
 
 pub fn list(words: &[u8]) {
     let mut bytes = [0u8; 5000];

@@ -1,11 +1,11 @@
 // Questions to the reader of data objects.
+use heads::Next;
+use hexadecimal::unhex;
 use objects::Found;
-use objects::Next;
 use objects::lookup;
 use objects::place;
 use text::after_word;
 use text::hex_number;
-use text::unhex;
 
 pub fn list(words: &[u8]) {
     let mut bytes = [0u8; 5000];

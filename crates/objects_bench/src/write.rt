@@ -1,11 +1,10 @@
 // Questions to the writer of data objects.
-use objects::Wrote;
+use hexadecimal::unhex;
+use object_writer::Wrote;
 use objects::place;
-use objects::writer;
 use text::after_word;
 use text::hex_number;
 use text::number;
-use text::unhex;
 ghost use Prim.Native.Nat.{_≤_};
 
 pub fn write(words: &[u8]) {
@@ -33,7 +32,7 @@ fn write_into(tag: usize, value: &[u8], room: usize)
 
 // Prints the object or the refusal, and answers how many bytes were written.
 fn print_written(tag: usize, value: &[u8], buf: &mut [u8]) -> usize {
-    match writer::write(tag, value, buf) {
+    match object_writer::write(tag, value, buf) {
         Wrote::BadObject => {
             printing::text(b"refused 10");
             0

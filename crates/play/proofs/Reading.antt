@@ -11,8 +11,8 @@ use lib.Seq.{drop-cons}
 use borrow.Author.Tests.{eq-eqb, ne-eqb, lt-ltb, ltb-true, le-ltb}
 use Rattle.lists.specs.Choice.{pick}
 use Rattle.lists.proofs.Choice.{pick-yes, pick-no, and-both}
-use Rattle.text.specs.Digits.{digit}
-use Rattle.text.proofs.Extra.{and-no}
+use Rattle.hexadecimal.specs.Digits.{digit}
+use Rattle.hexadecimal.proofs.Extra.{and-no}
 use Rattle.play.specs.Lines.{named, allDigits, numberFrom, noNumber}
 
 -- the first word

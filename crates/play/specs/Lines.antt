@@ -6,7 +6,7 @@ use Prim.Native.Nat.{ℕ, _+_, _*_, _%_}
 use lib.Dec.{eqb, ltb}
 use lib.ListN.{length}
 use Rattle.lists.specs.Choice.{pick}
-use Rattle.text.specs.Digits.{digit}
+use Rattle.hexadecimal.specs.Digits.{digit}
 use Rattle.tape.specs.Entries.{start, answer, silence, host}
 
 -- whether w is the first word of a line: a space follows it, or nothing

@@ -7,6 +7,7 @@ use crate::line::UNKNOWN;
 use crate::line::fault_of;
 use crate::line::kind_of;
 use crate::store::store;
+use hexadecimal::unhex;
 use input::Line;
 use input::read_line;
 use kernel::Reply;
@@ -18,9 +19,8 @@ use recorder::record;
 use tape::ANSWER;
 use tape::HOST;
 use tape::START;
-use tape::Writer;
+use tape_writer::Writer;
 use text::after_word;
-use text::unhex;
 
 // The session and the writer after a line, and whether there is a next one: not at the end of the input, and not where the
 // tape's file did not take what was due.

@@ -1,7 +1,7 @@
 // Printing to standard output, for programs that answer a line at a time. Of what is written no contract can speak: a caller
 // learns that the function ends and hands nothing back.
+use hexadecimal::hex;
 use libc::STDOUT_FILENO;
-use text::hex;
 ghost use mathlib.Core.Path.{_≡_};
 
 pub fn text(s: &[u8])

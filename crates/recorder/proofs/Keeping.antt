@@ -7,10 +7,10 @@ use lib.Dec.{eqb}
 use borrow.Author.Tests.{eq-eqb, ne-eqb, eqb-true, eqb-false}
 use Rattle.lists.proofs.Choice.{pick-yes, pick-no, either}
 use Rattle.tape.specs.Entries.{Entry}
-use Rattle.tape.specs.Appending.{refusalOf, appendedOf, tapeAfter}
-use Rattle.tape.specs.declared.write.Writer.{Writer}
-use Rattle.tape.specs.declared.write.Appended.{Appended}
-use Rattle.tape.proofs.Growing.{refused-answer, taken-answer, refused-tape}
+use Rattle.tape_writer.specs.Appending.{refusalOf, appendedOf, tapeAfter}
+use Rattle.tape_writer.specs.declared.Writer.{Writer}
+use Rattle.tape_writer.specs.declared.Appended.{Appended}
+use Rattle.tape_writer.proofs.Growing.{refused-answer, taken-answer, refused-tape}
 use Rattle.recorder.specs.Recording.{Kept, kept, keptAll}
 
 -- the answer to an entry says whether it was turned away

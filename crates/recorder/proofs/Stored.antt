@@ -10,10 +10,10 @@ use lib.ListN.{length, take}
 use borrow.Author.Tests.{eqb-true, eqb-false}
 use Rattle.lists.proofs.Choice.{either}
 use Rattle.tape.specs.Entries.{Entry}
-use Rattle.tape.specs.Appending.{refusalOf, appendedOf, tapeAfter, appendAll}
-use Rattle.tape.specs.declared.write.Writer.{Writer}
-use Rattle.tape.specs.declared.write.Appended.{Appended}
-use Rattle.tape.proofs.Growing.{refused-answer}
+use Rattle.tape_writer.specs.Appending.{refusalOf, appendedOf, tapeAfter, appendAll}
+use Rattle.tape_writer.specs.declared.Writer.{Writer}
+use Rattle.tape_writer.specs.declared.Appended.{Appended}
+use Rattle.tape_writer.proofs.Growing.{refused-answer}
 use Rattle.recorder.specs.Recording.{Kept, kept, keptAll}
 use Rattle.recorder.proofs.Keeping.{answer-refusal, ends, goes-on}
 

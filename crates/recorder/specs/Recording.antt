@@ -6,9 +6,9 @@ use lib.Dec.{eqb}
 use lib.ListN.{take}
 use Rattle.lists.specs.Choice.{pick}
 use Rattle.tape.specs.Entries.{Entry, entry, command, decision}
-use Rattle.tape.specs.Appending.{refusalOf, appendedOf, tapeAfter}
-use Rattle.tape.specs.declared.write.Writer.{Writer}
-use Rattle.tape.specs.declared.write.Appended.{Appended}
+use Rattle.tape_writer.specs.Appending.{refusalOf, appendedOf, tapeAfter}
+use Rattle.tape_writer.specs.declared.Writer.{Writer}
+use Rattle.tape_writer.specs.declared.Appended.{Appended}
 use Rattle.state.specs.Results.{decisionIn}
 use Rattle.kernel.specs.declared.Session.{Session}
 use Rattle.kernel.specs.declared.Reply.{Reply}

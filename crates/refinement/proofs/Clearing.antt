@@ -7,11 +7,11 @@ use mathlib.Core.Option.{Option, none, some}
 use Prim.Native.Nat.{ℕ}
 use Rattle.lists.specs.Writing.{zeros}
 use Rattle.terminal.specs.Reading.{readingOf}
-use Rattle.decide.specs.Bits.{joined}
+use Rattle.checks.specs.Bits.{joined}
 use Rattle.decide.specs.Replies.{replyOf}
 use Rattle.decide.specs.declared.reply.Heard.{Heard}
 use Rattle.decide.specs.declared.reply.Heard.the-variants.{Said, Nothing}
-use Rattle.decide.proofs.Rows.{joined-self}
+use Rattle.checks.proofs.Rows.{joined-self}
 use Rattle.rulebook.specs.Phase.{Asked, Phase, tvrOf, tsiOf}
 use Rattle.rulebook.specs.Turn.{opened, turn, heard}
 use Rattle.rulebook.proofs.Growing.{turn-kept, heard-grows, opened-grows}

@@ -15,7 +15,7 @@ use Rattle.lists.proofs.Choice.{pick-yes, either}
 use Rattle.lists.proofs.Writing.{put-length, put-start, laid-fits, laid-short}
 use Rattle.terminal.specs.Reading.{Terminal}
 use Rattle.object_lists.specs.Filled.{filling}
-use Rattle.object_lists.specs.declared.Known.{Known}
+use Rattle.values.specs.declared.Known.{Known}
 use Rattle.commands.specs.Commands.{longest, sizeIn}
 use Rattle.commands.proofs.Sizes.{data-length, data-most}
 use Rattle.commands.proofs.Shapes.{aid-most, select-most, options-most, record-most, cryptogram-most}

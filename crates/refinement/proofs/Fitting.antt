@@ -13,13 +13,13 @@ use Rattle.lists.specs.Choice.{pick}
 use Rattle.lists.proofs.Choice.{picked, either}
 use Rattle.objects.specs.Objects.{isSome}
 use Rattle.terminal.specs.Reading.{readingOf}
-use Rattle.object_lists.specs.Wanted.{fillable}
+use Rattle.wanted.specs.Wanted.{fillable}
 use Rattle.locator.specs.Cursor.{isLeft}
 use Rattle.locator.proofs.Walking.{none-remain, one-less}
-use Rattle.answers.specs.Select.{selectReason}
-use Rattle.answers.specs.Options.{optionsReason}
-use Rattle.answers.specs.Records.{recordReason, afterRecords}
-use Rattle.answers.specs.Cryptogram.{cryptogramReason, cryptogramOf}
+use Rattle.select_answer.specs.Select.{selectReason}
+use Rattle.form_answers.specs.Options.{optionsReason}
+use Rattle.record_answer.specs.Records.{recordReason, afterRecords}
+use Rattle.form_answers.specs.Cryptogram.{cryptogramReason, cryptogramOf}
 use Rattle.decide.specs.Replies.{codeIn}
 use Rattle.decide.specs.declared.requests.Cryptogram.{Cryptogram}
 use Rattle.decide.specs.declared.reply.Reply.{Reply}
@@ -27,11 +27,14 @@ use Rattle.decide.specs.declared.reply.Reply.the-variants.{Unable}
 use Rattle.rulebook.specs.Situation.{Situation, listIn, begun as situationBegun}
 use Rattle.rulebook.specs.Phase.{Asked, selecting, optioning, reading, first, second, Phase, decides, situationOf, decided, ended, tvrOf, tsiOf}
 use Rattle.rulebook.specs.Turn.{goesOn, opened, selected, managed, requested, allRead, readOn, optioned, recorded, answered, replied, online, byFirst, firstAllows, secondAllows, firstAnswered, secondAnswered, turn, heard}
-use Rattle.state.specs.Reading.{inRun, factsIn, situationWith, early, late, recordsLeft, askedBy, askedIn}
-use Rattle.state.specs.Keeping.{withRecord, withTold, withOptions, changed, stateAt, begun}
+use Rattle.state.specs.Reading.{situationWith, early, late, recordsLeft, askedBy, askedIn}
+use Rattle.told.specs.Facts.{factsIn}
+use Rattle.told.specs.Runs.{inRun}
+use Rattle.state.specs.Keeping.{withTold, withOptions, changed, stateAt, begun}
+use Rattle.told.specs.Telling.{withRecord}
 use Rattle.state.specs.declared.State.{State}
 use Rattle.state.specs.declared.Phase.{Phase as Kept}
-use Rattle.state.proofs.Telling.{late-told}
+use Rattle.state.proofs.Starting.{late-told}
 use Rattle.state.proofs.Starting.{early-begun, late-options, left-options}
 use Rattle.moves.specs.Moves.{awaiting, keptAs, cursorAsking, cursorAfter, standing}
 use Rattle.dialogue.specs.Events.{keeping}

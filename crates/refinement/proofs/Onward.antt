@@ -7,8 +7,8 @@ use mathlib.Core.List.{List, [], _∷_}
 use Prim.Native.Nat.{ℕ}
 use lib.Dec.{eqb}
 use Rattle.lists.proofs.Choice.{picked}
-use Rattle.object_lists.specs.Wanted.{fillable}
-use Rattle.answers.specs.Records.{afterRecords}
+use Rattle.wanted.specs.Wanted.{fillable}
+use Rattle.record_answer.specs.Records.{afterRecords}
 use Rattle.decide.specs.Replies.{codeIn}
 use Rattle.decide.specs.declared.reply.Reply.{Reply}
 use Rattle.decide.specs.declared.reply.Reply.the-variants.{Unable}

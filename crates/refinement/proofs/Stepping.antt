@@ -7,8 +7,8 @@ use mathlib.Core.List.{List, [], _∷_, _++_}
 use mathlib.Core.Option.{Option, some}
 use Prim.Native.Nat.{ℕ}
 use Rattle.terminal.specs.Reading.{readingOf}
-use Rattle.terminal.specs.Start.{validStart}
-use Rattle.terminal.proofs.Laws.{accepted, start-length}
+use Rattle.start.specs.Start.{validStart}
+use Rattle.start.proofs.Laws.{accepted, start-length}
 use Rattle.tape.specs.Entries.{Entry, entry, start, answer, host}
 use Rattle.decide.specs.Replies.{replyOf}
 use Rattle.decide.specs.declared.reply.Reply.{Reply}

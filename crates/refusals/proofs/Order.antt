@@ -8,7 +8,7 @@ use lib.ListN.{length}
 use borrow.Author.Tests.{lt-ltb, le-ltb}
 use Rattle.lists.specs.Choice.{pick, firstOf}
 use Rattle.lists.proofs.Choice.{pick-yes, pick-no}
-use Rattle.terminal.specs.Start.{validStart}
+use Rattle.start.specs.Start.{validStart}
 use Rattle.tape.specs.Entries.{payloadMost}
 use Rattle.commands.specs.Commands.{longest}
 use Rattle.decide.specs.Replies.{replyOf, isReply}

@@ -6,7 +6,7 @@ use Prim.Native.Nat.{ℕ}
 use lib.Dec.{ltb}
 use lib.ListN.{length}
 use Rattle.lists.specs.Choice.{firstOf}
-use Rattle.terminal.specs.Start.{validStart}
+use Rattle.start.specs.Start.{validStart}
 use Rattle.tape.specs.Entries.{payloadMost}
 use Rattle.commands.specs.Commands.{longest}
 use Rattle.decide.specs.Replies.{replyOf, isReply}

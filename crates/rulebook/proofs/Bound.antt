@@ -11,12 +11,12 @@ use lib.ListN.{length}
 use borrow.Author.Tests.{eqb-true}
 use Rattle.lists.proofs.Choice.{picked}
 use Rattle.tape.specs.Entries.{Entry}
-use Rattle.object_lists.specs.Wanted.{fillable}
+use Rattle.wanted.specs.Wanted.{fillable}
 use Rattle.locator.specs.Entries.{mostRecords, toRead}
 use Rattle.locator.proofs.Counting.{read-length}
-use Rattle.answers.specs.Options.{profileOf, locatorOf}
-use Rattle.answers.specs.Records.{afterRecords}
-use Rattle.answers.specs.Cryptogram.{cryptogramOf}
+use Rattle.form_answers.specs.Options.{profileOf, locatorOf}
+use Rattle.record_answer.specs.Records.{afterRecords}
+use Rattle.form_answers.specs.Cryptogram.{cryptogramOf}
 use Rattle.answers.proofs.AcceptedAnswers.{options-entries}
 use Rattle.decide.specs.Replies.{codeIn}
 use Rattle.decide.specs.declared.reply.Reply.{Reply}

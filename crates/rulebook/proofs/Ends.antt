@@ -8,15 +8,15 @@ use Prim.Native.Nat.{ℕ}
 use Rattle.lists.specs.Choice.{pick, firstOf}
 use Rattle.lists.proofs.Choice.{pick-yes}
 use Rattle.terminal.specs.Reading.{Terminal, readingOf}
-use Rattle.terminal.specs.Start.{validKind, validDigits, validRandom, validPercentages, validThreshold, validAid, validStart, terminalOf}
+use Rattle.start.specs.Start.{validKind, validDigits, validRandom, validPercentages, validThreshold, validAid, validStart, terminalOf}
 use Rattle.lists.specs.Tests.{every, between}
-use Rattle.terminal.specs.Decimal.{decimalFrom, decimal, decimalByte, digitsOnly, zerosOnly}
-use Rattle.terminal.specs.Dates.{monthAndDay, validStartDate}
+use Rattle.decimals.specs.Decimal.{decimalFrom, decimal, decimalByte, digitsOnly, zerosOnly}
+use Rattle.decimals.specs.Dates.{monthAndDay, validStartDate}
 use Rattle.card_data.specs.Answer.{sizeBad, frame}
-use Rattle.answers.specs.Select.{selectReason}
-use Rattle.answers.specs.Options.{optionsReason}
-use Rattle.answers.specs.Records.{recordReason}
-use Rattle.answers.specs.Cryptogram.{cryptogramReason}
+use Rattle.select_answer.specs.Select.{selectReason}
+use Rattle.form_answers.specs.Options.{optionsReason}
+use Rattle.record_answer.specs.Records.{recordReason}
+use Rattle.form_answers.specs.Cryptogram.{cryptogramReason}
 use Rattle.rulebook.specs.Phase.{Phase}
 use Rattle.rulebook.specs.Session.{isPayload}
 use Rattle.rulebook.proofs.Finishing.{Finished, finish}

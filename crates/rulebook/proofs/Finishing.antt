@@ -10,15 +10,15 @@ use lib.Dec.{eqb}
 use Rattle.lists.specs.Choice.{pick}
 use Rattle.lists.proofs.Choice.{pick-no, picked}
 use Rattle.lists.specs.Tests.{every}
-use Rattle.terminal.specs.Decimal.{zerosOnly}
+use Rattle.decimals.specs.Decimal.{zerosOnly}
 use Rattle.terminal.specs.Reading.{Terminal}
-use Rattle.terminal.specs.Start.{terminalOf}
+use Rattle.start.specs.Start.{terminalOf}
 use Rattle.tape.specs.Entries.{Entry, entry, start, command, answer, host, decision}
-use Rattle.object_lists.specs.Wanted.{fillable}
-use Rattle.answers.specs.Select.{selectReason}
-use Rattle.answers.specs.Options.{optionsReason}
-use Rattle.answers.specs.Records.{recordReason}
-use Rattle.answers.specs.Cryptogram.{cryptogramReason}
+use Rattle.wanted.specs.Wanted.{fillable}
+use Rattle.select_answer.specs.Select.{selectReason}
+use Rattle.form_answers.specs.Options.{optionsReason}
+use Rattle.record_answer.specs.Records.{recordReason}
+use Rattle.form_answers.specs.Cryptogram.{cryptogramReason}
 use Rattle.decide.specs.Replies.{codeIn, saidBy, replyOf}
 use Rattle.decide.specs.declared.reply.Heard.the-variants.{Said}
 use Rattle.decide.specs.declared.reply.Reply.{Reply}

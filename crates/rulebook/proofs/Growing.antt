@@ -9,19 +9,19 @@ use Rattle.lists.proofs.Choice.{picked}
 use Rattle.objects.specs.Objects.{isSome}
 use Rattle.terminal.specs.Reading.{Terminal}
 use Rattle.tape.specs.Entries.{Entry}
-use Rattle.object_lists.specs.Wanted.{fillable}
-use Rattle.answers.specs.Select.{selectReason, pdolOf}
-use Rattle.answers.specs.Options.{optionsReason, profileOf, locatorOf}
+use Rattle.wanted.specs.Wanted.{fillable}
+use Rattle.select_answer.specs.Select.{selectReason, pdolOf}
+use Rattle.form_answers.specs.Options.{optionsReason, profileOf, locatorOf}
 use Rattle.locator.specs.Entries.{toRead}
-use Rattle.answers.specs.Records.{recordReason, afterRecords}
-use Rattle.answers.specs.Cryptogram.{cryptogramReason, cryptogramOf}
-use Rattle.decide.specs.Bits.{joined}
+use Rattle.record_answer.specs.Records.{recordReason, afterRecords}
+use Rattle.form_answers.specs.Cryptogram.{cryptogramReason, cryptogramOf}
+use Rattle.checks.specs.Bits.{joined}
 use Rattle.decide.specs.Requests.{firstRequest, secondRequest}
 use Rattle.decide.specs.Replies.{codeIn, responseCode}
 use Rattle.decide.specs.declared.reply.Reply.{Reply}
 use Rattle.decide.specs.declared.reply.Reply.the-variants.{Unable}
-use Rattle.decide.proofs.Rows.{joined-self, kept-on}
-use Rattle.decide.proofs.Laws.{tvr-kept, tsi-kept, tsi-kept-on}
+use Rattle.checks.proofs.Rows.{joined-self, kept-on}
+use Rattle.checks.proofs.Laws.{tvr-kept, tsi-kept, tsi-kept-on}
 use Rattle.rulebook.specs.Situation.{Situation, begun, cardFacts, issuerCodes, listIn}
 use Rattle.rulebook.specs.Phase.{Asked, selecting, optioning, reading, first, second, Phase, opens, asks, hears, decides, situationOf, decided, ended, terminated, tvrOf, tsiOf}
 use Rattle.rulebook.specs.Turn.{goesOn, opened, selected, managed, requested, allRead, readOn, withProfile, optioned, withRecord, recorded, answered, replied, online, byFirst, firstAllows, secondAllows, firstAnswered, secondAnswered, turn, heard}

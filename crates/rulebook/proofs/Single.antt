@@ -7,7 +7,7 @@ use mathlib.Core.Option.{some}
 use Prim.Native.Nat.{ℕ}
 use native.Mathlib.Omega.{arith}
 use Rattle.terminal.specs.Reading.{Terminal}
-use Rattle.terminal.specs.Start.{terminalOf}
+use Rattle.start.specs.Start.{terminalOf}
 use Rattle.tape.specs.Entries.{Entry, entry, start, command, answer, host, decision}
 use Rattle.decide.specs.Replies.{replyOf}
 use Rattle.decide.specs.declared.reply.Reply.{Reply}

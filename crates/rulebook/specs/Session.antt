@@ -11,7 +11,7 @@ use lib.Dec.{leb}
 use lib.ListN.{length, take}
 use lib.Pow.{areBytes}
 use Rattle.terminal.specs.Reading.{Terminal}
-use Rattle.terminal.specs.Start.{terminalOf}
+use Rattle.start.specs.Start.{terminalOf}
 use Rattle.tape.specs.Entries.{Entry, entry, start, command, answer, silence, host, decision, payloadMost}
 use Rattle.decide.specs.Replies.{replyOf}
 use Rattle.decide.specs.declared.reply.Reply.{Reply}

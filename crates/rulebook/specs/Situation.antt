@@ -5,10 +5,11 @@ use mathlib.Core.Option.{Option, none, some, Option·getD}
 use Prim.Native.Nat.{ℕ}
 use Rattle.lists.specs.Writing.{zeros}
 use Rattle.terminal.specs.Reading.{Terminal}
-use Rattle.object_lists.specs.Known.{nothing, kept}
-use Rattle.object_lists.specs.declared.Value.{Value}
-use Rattle.object_lists.specs.declared.Known.{Known}
-use Rattle.decide.specs.Card.{CardFacts, IssuerCodes}
+use Rattle.values.specs.Known.{nothing, kept}
+use Rattle.values.specs.declared.Value.{Value}
+use Rattle.values.specs.declared.Known.{Known}
+use Rattle.checks.specs.Card.{CardFacts}
+use Rattle.decide.specs.Codes.{IssuerCodes}
 
 -- what the records have told: for each named tag its value, once it was told
 abbrev pub Facts : Type 0

@@ -9,14 +9,14 @@ use lib.Dec.{eqb}
 use Rattle.lists.specs.Choice.{pick}
 use Rattle.objects.specs.Objects.{isSome}
 use Rattle.terminal.specs.Reading.{Terminal}
-use Rattle.object_lists.specs.Known.{orElse}
-use Rattle.object_lists.specs.Wanted.{fillable}
-use Rattle.answers.specs.Select.{selectReason, pdolOf}
-use Rattle.answers.specs.Options.{optionsReason, profileOf, locatorOf}
+use Rattle.values.specs.Known.{orElse}
+use Rattle.wanted.specs.Wanted.{fillable}
+use Rattle.select_answer.specs.Select.{selectReason, pdolOf}
+use Rattle.form_answers.specs.Options.{optionsReason, profileOf, locatorOf}
 use Rattle.locator.specs.Entries.{toRead}
-use Rattle.answers.specs.Records.{recordReason, namedIn, afterRecords}
-use Rattle.answers.specs.Cryptogram.{cryptogramReason, cryptogramOf}
-use Rattle.decide.specs.Results.{tvrAfterRecords, tsiAfterRecords, tsiAfterFirstAnswer}
+use Rattle.record_answer.specs.Records.{recordReason, namedIn, afterRecords}
+use Rattle.form_answers.specs.Cryptogram.{cryptogramReason, cryptogramOf}
+use Rattle.checks.specs.Results.{tvrAfterRecords, tsiAfterRecords, tsiAfterFirstAnswer}
 use Rattle.decide.specs.Requests.{firstRequest, secondRequest, givenBy, firstAllowed, secondAllowed}
 use Rattle.decide.specs.Replies.{codeIn, responseCode}
 use Rattle.decide.specs.declared.requests.Cryptogram.{Cryptogram}

@@ -6,6 +6,7 @@
 //     HOST bytes
 //     SILENCE
 //     JUDGE          the verdict of the tape is printed
+use hexadecimal::unhex;
 use input::Line;
 use input::read_line;
 use judge::judge;
@@ -19,10 +20,9 @@ use tape::ANSWER;
 use tape::HOST;
 use tape::SILENCE;
 use tape::START;
-use tape::Writer;
+use tape_writer::Writer;
 use text::after_word;
-use text::unhex;
-use verdicts::line::line as line_of;
+use verdict_line::line as line_of;
 
 // A session, and the writer of its tape.
 struct Played {

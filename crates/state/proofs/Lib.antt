@@ -1,5 +1,2 @@
-pub mod Overlay
-pub mod Agreeing
-pub mod Telling
 pub mod Starting
 pub mod Nine

@@ -1,4 +1,4 @@
--- A state that took START, or the answer to GPO, is read as the rulebook's situation after it.
+-- A state that took START, the answer to GPO or a record is read as the rulebook's situation after it.
 -- Assumes nothing.
 use mathlib.Core.Path.{_≡_, refl, sym, ap, _∙_}
 use mathlib.Core.Bool.{Bool, true, false}
@@ -8,23 +8,28 @@ use Prim.Native.Nat.{ℕ, _≤_}
 use native.Mathlib.Omega.{arith}
 use lib.Dec.{eqb}
 use lib.ListN.{length}
+use Rattle.objects.specs.Objects.{isSome}
 use Rattle.lists.specs.Choice.{pick}
 use Rattle.lists.specs.Writing.{zeros}
 use Rattle.lists.proofs.Choice.{pick-same}
 use Rattle.terminal.specs.Reading.{readingOf}
 use Rattle.lists.specs.Tables.{beside}
-use Rattle.object_lists.specs.Known.{held, nothing}
+use Rattle.values.specs.Known.{held, nothing}
 use Rattle.locator.specs.Entries.{toRead}
 use Rattle.locator.specs.Cursor.{start, remaining}
 use Rattle.locator.proofs.Walking.{all-remain}
-use Rattle.answers.specs.Options.{optionsReason, profileOf, locatorOf}
+use Rattle.record_answer.specs.Records.{recordReason}
+use Rattle.form_answers.specs.Options.{optionsReason, profileOf, locatorOf}
 use Rattle.answers.proofs.AcceptedAnswers.{options-profile, locator-size}
 use Rattle.rulebook.specs.Situation.{begun as situationBegun}
-use Rattle.rulebook.specs.Turn.{withProfile}
-use Rattle.state.specs.Reading.{noRun, runHeld, inRun, toldLines, factsIn, situationWith, early, late, recordsLeft}
-use Rattle.state.specs.Keeping.{fixed, withOptions, toldNothing, stateAt, begun}
+use Rattle.rulebook.specs.Turn.{withProfile, withRecord as recordAdded}
+use Rattle.state.specs.Reading.{situationWith, early, late, recordsLeft}
+use Rattle.told.specs.Facts.{toldLines, factsIn}
+use Rattle.told.specs.Runs.{noRun, runHeld, inRun}
+use Rattle.state.specs.Keeping.{withOptions, stateAt, begun, withTold}
+use Rattle.told.specs.Telling.{fixed, toldNothing, withRecord}
 use Rattle.state.specs.declared.State.{State}
-use Rattle.state.proofs.Telling.{fixed-all, run-kept}
+use Rattle.told.proofs.Telling.{fixed-all, run-kept, facts-told}
 
 -- a table in which nothing stands beside any name
 empty-beside : (tag : ℕ) (names : List ℕ) → beside {A = Option (List ℕ)} none tag (map (λ n. (n, none)) names) ≡ none
@@ -58,3 +63,15 @@ module _ (s : State) (a : List ℕ) (good : optionsReason a ≡ 0) where
   left-options =
       ap (λ (v : List ℕ). remaining v start) (ap (λ (o : Option (List ℕ)). Option·getD o []) (run-kept (locatorOf a) (locator-size a)))
       ∙ all-remain (locatorOf a)
+
+pub late-told : (s : State) (a : List ℕ) → recordReason (λ name. isSome (factsIn (s .told) name)) a ≡ 0
+    → late (withTold (withRecord a (s .told)) s) ≡ recordAdded (late s) a
+unfolding late situationWith withTold recordAdded
+late-told s a good =
+    λ i. record {
+      terminal = readingOf (s .start);
+      profile = s .profile;
+      facts = facts-told (s .told) a good i;
+      tvr = s .tvr;
+      tsi = s .tsi;
+    }

@@ -1,13 +1,13 @@
 // States made anew, and changed.
 use crate::Phase;
 use crate::State;
-use crate::Told;
-use crate::records;
-use crate::runs;
-use answers::options;
+use form_answers::options;
 use lists::lay;
 use locator::cursor;
 use locator::cursor::Cursor;
+use told::Told;
+use told::records;
+use told::runs;
 ghost use mathlib.Core.Path.{_≡_};
 ghost use Rattle.state.specs.Keeping.{withTold, withOptions, changed, stateAt, fresh as freshState, begun as begunState};
 

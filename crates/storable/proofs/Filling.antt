@@ -15,15 +15,15 @@ use Rattle.lists.proofs.Choice.{picked, and-left, and-right, and-both}
 use Rattle.crc.proofs.Bytes.{bytes-cons, bytes-append, bytes-take, bytes-drop}
 use Rattle.terminal.specs.Reading.{Terminal}
 use Rattle.tape.proofs.Extra.{zeros-bytes}
-use Rattle.object_lists.specs.Wanted.{Wanted, entriesOf, fillable}
-use Rattle.object_lists.specs.Shape.{shaped, formatOf}
+use Rattle.wanted.specs.Wanted.{Wanted, entriesOf, fillable}
+use Rattle.values.specs.Shape.{shaped, formatOf}
 use Rattle.lists.specs.Tables.{beside}
-use Rattle.object_lists.specs.Known.{held, longest, nothing, kept, ofTerminal, ofSession, orElse, valueFor, withFormat, supplied}
+use Rattle.values.specs.Known.{held, longest, nothing, kept, ofTerminal, ofSession, orElse, valueFor, withFormat, supplied}
 use Rattle.object_lists.specs.Filled.{entryBytes, filled, filledBy, filledList, filling}
-use Rattle.object_lists.specs.declared.Format.{Format}
-use Rattle.object_lists.specs.declared.Format.the-variants.{Numeric, CardNumber, Other}
-use Rattle.object_lists.specs.declared.Value.{Value}
-use Rattle.object_lists.specs.declared.Known.{Known}
+use Rattle.values.specs.declared.Format.{Format}
+use Rattle.values.specs.declared.Format.the-variants.{Numeric, CardNumber, Other}
+use Rattle.values.specs.declared.Value.{Value}
+use Rattle.values.specs.declared.Known.{Known}
 
 -- bytes, where there is a value
 abbrev pub Told : Option (List ℕ) → Type 0

@@ -12,7 +12,7 @@ use lib.Pow.{areBytes}
 use Rattle.lists.proofs.Choice.{and-both}
 use Rattle.crc.proofs.Bytes.{bytes-cons, bytes-append}
 use Rattle.tape.specs.Entries.{payloadMost}
-use Rattle.object_lists.specs.Known.{ofSession, held, kept}
+use Rattle.values.specs.Known.{ofSession, held, kept}
 use Rattle.object_lists.specs.Filled.{filling}
 use Rattle.commands.specs.Commands.{longest}
 use Rattle.commands.proofs.Sizes.{data-length, data-most}

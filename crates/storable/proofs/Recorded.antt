@@ -9,7 +9,7 @@ use lib.ListN.{length, take, length-append}
 use Rattle.lists.proofs.Choice.{and-both}
 use Rattle.tape.specs.Entries.{Entry, entry, silence, blockSize, blocksMost, storable, allStorable}
 use Rattle.tape.specs.Tapes.{written}
-use Rattle.tape.specs.Appending.{appendAll, fresh}
+use Rattle.tape_writer.specs.Appending.{appendAll, fresh}
 use Rattle.rulebook.specs.Session.{Session, AwaitsCard}
 use Rattle.rulebook.proofs.Bound.{session-bound}
 use Rattle.verdicts.specs.Judged.{says, passes, Judged}

@@ -19,14 +19,14 @@ use Rattle.terminal.specs.declared.fields.Field.the-variants.{Amount, OtherAmou
 use Rattle.terminal.specs.Layout.{beginOf, sizeOf, aidRoom, aidAt}
 use Rattle.terminal.specs.Reading.{Terminal, readingOf, runIn, aidLengthIn, aidRoomIn}
 use Rattle.tape.proofs.Extra.{zeros-bytes}
-use Rattle.object_lists.specs.Wanted.{fillable}
-use Rattle.object_lists.specs.Known.{ofTerminal}
+use Rattle.wanted.specs.Wanted.{fillable}
+use Rattle.values.specs.Known.{ofTerminal}
 use Rattle.commands.proofs.Shapes.{aid-most}
 use Rattle.locator.specs.Entries.{toRead}
-use Rattle.answers.specs.Select.{selectReason, pdolOf}
-use Rattle.answers.specs.Options.{optionsReason, profileOf, locatorOf}
-use Rattle.answers.specs.Records.{recordReason, namedIn, afterRecords}
-use Rattle.answers.specs.Cryptogram.{cryptogramReason, cryptogramOf}
+use Rattle.select_answer.specs.Select.{selectReason, pdolOf}
+use Rattle.form_answers.specs.Options.{optionsReason, profileOf, locatorOf}
+use Rattle.record_answer.specs.Records.{recordReason, namedIn, afterRecords}
+use Rattle.form_answers.specs.Cryptogram.{cryptogramReason, cryptogramOf}
 use Rattle.answers.proofs.Reasons.{select-small, options-small, record-small, cryptogram-small, after-small}
 use Rattle.decide.specs.Requests.{secondRequest}
 use Rattle.decide.specs.Replies.{codeIn, responseCode}
@@ -34,7 +34,7 @@ use Rattle.decide.specs.declared.requests.Cryptogram.{Cryptogram}
 use Rattle.decide.specs.declared.requests.Cryptogram.the-variants.{Aac, Tc, Arqc}
 use Rattle.decide.specs.declared.reply.Reply.{Reply}
 use Rattle.decide.specs.declared.reply.Reply.the-variants.{Approve, Decline, Unable}
-use Rattle.decide.proofs.Laws.{tvr-length, tvr-bytes, tsi-length, tsi-length-on, tsi-bytes, tsi-bytes-on}
+use Rattle.checks.proofs.Laws.{tvr-length, tvr-bytes, tsi-length, tsi-length-on, tsi-bytes, tsi-bytes-on}
 use Rattle.rulebook.specs.Situation.{Situation, begun, cardFacts, issuerCodes, listIn}
 use Rattle.rulebook.specs.Phase.{Asked, selecting, optioning, reading, first, second, Phase, opens, asks, hears, decides, decided, ended, approved, declined, terminated}
 use Rattle.rulebook.specs.Turn.{goesOn, opened, selected, managed, requested, allRead, readOn, withProfile, optioned, withRecord, recorded, answered, replied, online, byFirst, firstAllows, secondAllows, firstAnswered, secondAnswered, turn, heard}

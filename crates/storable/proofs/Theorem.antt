@@ -7,7 +7,7 @@ use mathlib.Core.Logic.{⊎-elim}
 use Prim.Native.Nat.{ℕ}
 use Rattle.lists.proofs.Choice.{and-both}
 use Rattle.terminal.specs.Reading.{Terminal}
-use Rattle.terminal.proofs.Laws.{handed-over}
+use Rattle.start.proofs.Laws.{handed-over}
 use Rattle.tape.specs.Entries.{Entry, entry, start, command, answer, silence, host, decision, isKind, storable, allStorable}
 use Rattle.tape.proofs.Roundtrip.{first-storable, rest-storable}
 use Rattle.rulebook.specs.Phase.{Phase}

@@ -11,16 +11,16 @@ use lib.Pow.{areBytes}
 use Rattle.lists.specs.Shorter.{counted, shorter}
 use Rattle.lists.proofs.Choice.{picked, and-left, and-right, and-both}
 use Rattle.crc.proofs.Bytes.{bytes-take, bytes-drop}
-use Rattle.objects.specs.Head.{valueStart, valueEnd, whole}
+use Rattle.heads.specs.Head.{valueStart, valueEnd, whole}
 use Rattle.objects.specs.Objects.{Object, between, firstObject, before, rightInside, listed, objects}
 use Rattle.objects.specs.Place.{dataField}
 use Rattle.objects.specs.Lookup.{Lookup, absent, once, twice, met, lookup}
 use Rattle.card_data.specs.Answer.{sizeBad, only, outer, valueUnder, isOne, inside}
 use Rattle.card_data.specs.Named.{membersIn, among, direct, told, valueOf}
 use Rattle.card_data.specs.Named.{listed as isNamed}
-use Rattle.answers.specs.Forms.{template, joined}
-use Rattle.answers.specs.Options.{profileOf, locatorOf}
-use Rattle.answers.specs.Records.{recordTag, recordNames, valueIn, namedIn}
+use Rattle.form_answers.specs.Forms.{template, joined}
+use Rattle.form_answers.specs.Options.{profileOf, locatorOf}
+use Rattle.record_answer.specs.Records.{recordTag, recordNames, valueIn, namedIn}
 
 -- values of bytes, in all of some objects
 unfoldable allBytes : List Object → Bool

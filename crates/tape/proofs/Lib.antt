@@ -8,6 +8,3 @@ pub mod Steps
 pub mod Roundtrip
 pub mod Unique
 pub mod OneReading
-pub mod Refusals
-pub mod Filling
-pub mod Growing

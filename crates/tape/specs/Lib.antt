@@ -3,4 +3,3 @@ pub mod Numbers
 pub mod Entries
 pub mod Blocks
 pub mod Tapes
-pub mod Appending

@@ -1,6 +1,5 @@
 // The tape: entries in blocks of 512 bytes, written one by one and read back from any bytes.
 mod read;
-mod write;
 
 pub use read::block_at;
 pub use read::code;
@@ -8,8 +7,6 @@ pub use read::kind;
 pub use read::number;
 pub use read::payload;
 pub use read::session;
-pub use write::Appended;
-pub use write::Writer;
 ghost use mathlib.Core.Path.{_≡_};
 ghost use mathlib.Core.Bool.{not};
 ghost use Rattle.tape.specs.Entries.{isKind};
@@ -30,17 +27,15 @@ pub const DECISION: u8 = 6;
 // The limits.
 pub const BLOCK: usize = 512;
 
-pub const BLOCKS: usize = 128;
-
 pub const PAYLOAD: usize = 496;
 
 // Where a block's payload starts, and its check.
-const PAYLOAD_AT: usize = 12;
+pub const PAYLOAD_AT: usize = 12;
 
-const CHECK_AT: usize = 508;
+pub const CHECK_AT: usize = 508;
 
 // Whether a number is none of the kinds.
-fn no_kind(k: u8) -> bool
+pub fn no_kind(k: u8) -> bool
     ensures { λ r. ⌜ r ≡ not (isKind k) ⌝ }
 {
     if k < START {

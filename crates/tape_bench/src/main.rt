@@ -4,7 +4,7 @@
 // is place and code.
 use libc::STDIN_FILENO;
 use libc::STDOUT_FILENO;
-use tape::Writer;
+use tape_writer::Writer;
 ghost use Prim.Native.Nat.{_≤_};
 ghost use lib.ListN.{length};
 
@@ -67,7 +67,7 @@ fn repeat(t: &mut [u8], s: &[u8], times: usize) -> usize
 }
 
 fn read(t: &[u8]) {
-    if tape::BLOCKS * tape::BLOCK < t.len() {
+    if tape_writer::BLOCKS * tape::BLOCK < t.len() {
         bad(0, 1);
         return;
     }

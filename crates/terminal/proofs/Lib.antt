@@ -1,4 +1,2 @@
 pub mod Reading
-mod Digits
-mod Examples
-pub mod Laws
+pub mod Sample

@@ -8,7 +8,7 @@ use Rattle.terminal.specs.declared.fields.Field.the-variants.{Amount, Ot
 use Rattle.terminal.specs.declared.fields.Octet.{Octet}
 use Rattle.terminal.specs.declared.fields.Octet.the-variants.{Kind, Random, Target, Maximum}
 use Rattle.terminal.specs.Layout.{beginOf, sizeOf, octetAt, aidLengthAt, aidAt, aidRoom}
-use Rattle.terminal.specs.Decimal.{decimal}
+use Rattle.decimals.specs.Decimal.{decimal}
 
 pub record Terminal : Type 0 where
   -- the terminal's type: 0 offline-only, 1 online-only, 2 both

@@ -1,12 +1,12 @@
 // The fields of a lent START. No other file knows where they stand. Bytes that are not there are left out of a field of
 // bytes, and read as 0 in a field of one byte.
 ghost use mathlib.Core.Path.{_≡_};
-ghost use Prim.Native.Nat.{_<_};
-ghost use lib.ListN.{take, drop};
+ghost use Prim.Native.Nat.{_<_, _≤_};
+ghost use lib.ListN.{length, take, drop};
 ghost use Rattle.terminal.specs.Layout.{beginOf, sizeOf, octetAt};
 ghost use Rattle.terminal.specs.Reading.{readingOf, bytesOf, octetOf, amountOf, otherAmountOf, floorLimitOf, thresholdOf, digitsIn, aidLengthIn, aidRoomIn};
-ghost use Rattle.terminal.specs.Decimal.{decimal as decimalOf, sixBytesLimit};
-use super::decimal::decimal;
+ghost use Rattle.decimals.specs.Decimal.{decimal as decimalOf, sixBytesLimit};
+use decimals::decimal::two_digits;
 use lists::part;
 
 // The fields that are runs of bytes.
@@ -133,6 +133,20 @@ pub fn maximum(s: &[u8]) -> u8
     octet_in(s, Octet::Maximum)
 }
 
+// The longest number in START has six bytes; halves above 9 count as they stand.
+fn decimal(s: &[u8]) -> u64
+    requires { ⌜ length (now s) ≤ 6 ⌝ }
+    ensures { λ r. ⌜ (r ≡ decimalOf (now (s .entry))) × (r < sixBytesLimit) ⌝ }
+{
+    let mut n: u64 = 0;
+    let mut i = 0;
+    while i < s.len() {
+        n = n * 100 + two_digits(s[i] as u64);
+        i += 1;
+    }
+    n
+}
+
 // The number of a field that is written in digits.
 fn number(s: &[u8], f: Field) -> u64
     ensures { λ r. ⌜ (r ≡ decimalOf (bytesOf f (readingOf (now (s .entry))))) × (r < sixBytesLimit) ⌝ }
@@ -169,9 +183,6 @@ const AID_LENGTH: usize = 57;
 const AID: usize = 58;
 
 pub const AID_ROOM: usize = 16;
-
-// START as a whole.
-pub const LENGTH: usize = 74;
 
 pub fn aid_length(s: &[u8]) -> usize
     ensures { λ r. ⌜ r ≡ aidLengthIn (now (s .entry)) ⌝ }

@@ -1,6 +1,2 @@
 // START, the terminal's data: where its fields stand, what they hold, and whether it is valid.
-pub mod dates;
-mod decimal;
 pub mod fields;
-mod limits;
-pub mod start;

@@ -11,9 +11,9 @@ use lib.Seq.{drop-cons}
 use borrow.Author.Tests.{lt-ltb, ltb-true, le-leb, leb-true}
 use Rattle.lists.specs.Choice.{pick}
 use Rattle.lists.proofs.Choice.{pick-yes, pick-no, and-both}
-use Rattle.text.specs.Digits.{digit}
+use Rattle.hexadecimal.specs.Digits.{digit}
 use Rattle.text.specs.Numbers.{continued}
-use Rattle.text.proofs.Extra.{and-no}
+use Rattle.hexadecimal.proofs.Extra.{and-no}
 
 module _ (base most n : ℕ) (s : List ℕ) (i d : ℕ) (told : d ≡ digit (getD s i 0)) where
   step : i < length s

@@ -5,7 +5,7 @@ use mathlib.Core.List.{List, [], _∷_}
 use Prim.Native.Nat.{ℕ, _+_, _*_}
 use lib.Dec.{ltb, leb}
 use Rattle.lists.specs.Choice.{pick}
-use Rattle.text.specs.Digits.{digit}
+use Rattle.hexadecimal.specs.Digits.{digit}
 
 -- the number n with the digits of a base that follow it. It ends before what is no digit of the base, and before a
 -- digit that would take it past the most that is allowed

@@ -1,11 +1,7 @@
 // Bytes as text, for programs that read and print a line at a time.
-mod digits;
 mod lines;
 mod numbers;
 
-pub use digits::digit_of;
-pub use digits::hex;
-pub use digits::unhex;
 pub use lines::after_word;
 pub use lines::line_end;
 pub use lines::word_end;

@@ -1,5 +1,5 @@
 // Numbers at the start of a text. What is no digit ends a number, and so does a digit that would make it too large.
-use crate::digits::digit_of;
+use hexadecimal::digit_of;
 use lists::byte;
 ghost use mathlib.Core.Path.{_≡_};
 ghost use Prim.Native.Nat.{_≤_, _<_};

@@ -7,6 +7,3 @@ pub mod Endings
 pub mod Silence
 pub mod Stored
 pub mod ShutOut
-pub mod Digits
-pub mod Printing
-pub mod Pinned

@@ -10,7 +10,7 @@ use native.Mathlib.Omega.{arith}
 use lib.ListN.{length, length-append}
 use Rattle.lists.proofs.Choice.{pick-no}
 use Rattle.terminal.specs.Reading.{Terminal}
-use Rattle.terminal.specs.Start.{terminalOf}
+use Rattle.start.specs.Start.{terminalOf}
 use Rattle.tape.specs.Entries.{Entry, entry, start, command, answer, silence, host, decision}
 use Rattle.rulebook.specs.Phase.{Asked, opens, asks, hears, decides}
 use Rattle.rulebook.specs.Session.{isPayload, Session, Beginning, AwaitsCard, Closed, Open, Lawful}

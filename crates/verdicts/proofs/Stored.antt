@@ -12,9 +12,9 @@ use lib.Seq.{length-take-le}
 use Rattle.lists.proofs.Choice.{and-both}
 use Rattle.tape.specs.Entries.{Entry, entry, answer, silence, blockSize, blocksMost, isKind, storable, allStorable}
 use Rattle.tape.specs.Tapes.{written}
-use Rattle.tape.specs.Appending.{appendAll, fresh}
+use Rattle.tape_writer.specs.Appending.{appendAll, fresh}
 use Rattle.tape.proofs.Roundtrip.{first-storable, rest-storable, tape-back, cut-back}
-use Rattle.tape.proofs.Growing.{appends-read}
+use Rattle.tape_writer.proofs.Growing.{appends-read}
 use Rattle.rulebook.specs.Session.{Session, AwaitsCard, Open}
 use Rattle.rulebook.proofs.Bound.{session-bound}
 use Rattle.rulebook.proofs.Breaks.{session-part}

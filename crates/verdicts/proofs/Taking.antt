@@ -12,7 +12,7 @@ use borrow.Author.Tests.{ne-eqb}
 use Rattle.lists.specs.Choice.{pick}
 use Rattle.lists.proofs.Choice.{pick-yes, pick-no, pick-same, either, and-both}
 use Rattle.terminal.specs.Reading.{Terminal}
-use Rattle.terminal.specs.Start.{terminalOf}
+use Rattle.start.specs.Start.{terminalOf}
 use Rattle.tape.specs.Entries.{Entry, entry, start, command, answer, silence, host, decision}
 use Rattle.decide.specs.Replies.{replyOf}
 use Rattle.decide.specs.declared.reply.Reply.{Reply}

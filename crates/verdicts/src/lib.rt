@@ -1,5 +1,4 @@
 // What is said of a tape: a verdict, a place and a code.
-pub mod line;
 
 pub enum Verdict {
     Pass,

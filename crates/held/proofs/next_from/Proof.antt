@@ -37,9 +37,9 @@ use denote.Triple.Walked.{says, Stays, stay-none, stay-none-slice, walkOf, goes-
 use denote.Exit.{yes}
 use denote.Triple.Clauses.{ensured, lasts}
 use Rattle.objects.specs.Place.{nextAt}
-use Rattle.objects.specs.declared.Next.{Next}
-use Rattle.objects.proofs.Next as N
-use Rattle.objects.proofs.Next.Laws as N′
+use Rattle.heads.specs.declared.Next.{Next}
+use Rattle.heads.proofs.Next as N
+use Rattle.heads.proofs.Next.Laws as N′
 use Rattle.held.proofs.Reader.next as callee
 use Rattle.held.proofs.Reader.next.Symbol as callee-def
 use Rattle.held.proofs.Reader.next.Symbol.{name as #held·Reader·next}

@@ -6,7 +6,7 @@ use Prim.Native.Nat.{ℕ, zero, suc, _+_, _-_, _<_, _≤_}
 use borrow.Author.Needs.{needs}
 use native.Mathlib.Omega.{arith}
 use Rattle.objects.specs.Place.{nextAt}
-use Rattle.objects.specs.declared.Next.the-variants.{Member, End, Broken}
+use Rattle.heads.specs.declared.Next.the-variants.{Member, End, Broken}
 use Rattle.held.specs.Held.{goOn, placeAfter, nthFrom}
 use Rattle.held.proofs.object_at.Statement.{statement}
 use Rattle.held.proofs.object_at.Tie as tie

@@ -6,7 +6,7 @@ use Prim.Native.Nat.{ℕ}
 use borrow.Author.Needs.{needs}
 use Rattle.kernel.specs.declared.Reply.{Reply}
 use Rattle.kernel.specs.declared.Session.{Session}
-use Rattle.tape.specs.declared.write.Writer.{Writer}
+use Rattle.tape_writer.specs.declared.Writer.{Writer}
 use Rattle.tape.specs.Entries.{Entry, entry, command, decision}
 use Rattle.recorder.specs.Recording.{recorded, kept, keptAll}
 use Rattle.recorder.proofs.Keeping.{only}

@@ -4,7 +4,7 @@ use mathlib.Core.Path.{_≡_, sym, _∙_}
 use mathlib.Core.Bool.{true}
 use Rattle.objects.specs.Objects.{isList}
 use Rattle.objects.specs.Place.{nextAt}
-use Rattle.objects.specs.declared.Next.the-variants.{Member}
+use Rattle.heads.specs.declared.Next.the-variants.{Member}
 use Rattle.card_data.proofs.Outer.{refused, not-refused, only-refused, only-end, only-broken, only-one, only-then-broken, only-and-more}
 use borrow.Author.Needs.{needs}
 use Rattle.card_data.proofs.answer.only.Statement.{statement}

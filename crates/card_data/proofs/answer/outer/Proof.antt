@@ -9,8 +9,8 @@ use native.Mathlib.Omega.{arith}
 use lib.ListN.{length}
 use Rattle.objects.specs.Objects.{Object, objects}
 use Rattle.objects.specs.Place.{dataField}
-use Rattle.objects.specs.declared.Next.{Next}
-use Rattle.objects.specs.declared.Next.the-variants.{Broken}
+use Rattle.heads.specs.declared.Next.{Next}
+use Rattle.heads.specs.declared.Next.the-variants.{Broken}
 use Rattle.card_data.specs.Answer.{sizeBad, only, outer, theOne}
 use Rattle.card_data.proofs.Outer.{outer-refused, outer-looked, data-short}
 use borrow.Author.Needs.{needs}

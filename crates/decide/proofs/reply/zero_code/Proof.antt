@@ -5,7 +5,7 @@ use Prim.Native.Nat.{ℕ}
 use borrow.Author.Needs.{needs}
 use borrow.Author.Tests.{eq-eqb, ne-eqb}
 use lib.Dec.{eqb}
-use Rattle.terminal.specs.Decimal.{zerosOnly}
+use Rattle.decimals.specs.Decimal.{zerosOnly}
 use Rattle.lists.proofs.Tests.{held, failed, last}
 use Rattle.decide.specs.Replies.{codeIn}
 use Rattle.decide.proofs.reply.zero_code.Statement.{statement}

@@ -4,9 +4,9 @@ use mathlib.Core.Path.{sym, ap, _∙_}
 use mathlib.Core.List.{List}
 use Prim.Native.Nat.{ℕ}
 use borrow.Author.Needs.{needs}
-use Rattle.decide.specs.Bits.{meet}
+use Rattle.checks.specs.Bits.{meet}
 use Rattle.decide.specs.Requests.{codeMatch}
-use Rattle.decide.proofs.Rows.{meet-first, meet-second}
+use Rattle.checks.proofs.Rows.{meet-first, meet-second}
 use Rattle.decide.proofs.requests.code_match.Statement.{statement}
 use Rattle.decide.proofs.requests.code_match.Tie as tie
 

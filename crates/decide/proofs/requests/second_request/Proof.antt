@@ -7,7 +7,7 @@ use borrow.Author.Needs.{needs}
 use Rattle.terminal.specs.Reading.{readingOf}
 use Rattle.decide.specs.declared.reply.Reply.{Reply}
 use Rattle.decide.specs.declared.requests.Codes.{Codes}
-use Rattle.decide.specs.Card.{codesOf}
+use Rattle.decide.specs.Codes.{codesOf}
 use Rattle.decide.specs.Requests.{whenUnable, secondRequest}
 use Rattle.decide.proofs.requests.second_request.Statement.{statement}
 use Rattle.decide.proofs.requests.second_request.Tie as tie

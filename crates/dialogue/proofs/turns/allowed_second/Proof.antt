@@ -2,7 +2,7 @@
 -- Assumes nothing.
 use mathlib.Core.Path.{_≡_, refl, sym, ap, _∙_}
 use borrow.Author.Needs.{needs}
-use Rattle.answers.specs.Cryptogram.{allows}
+use Rattle.form_answers.specs.Cryptogram.{allows}
 use Rattle.decide.specs.Requests.{secondAllowed}
 use Rattle.rulebook.specs.Turn.{secondAllows}
 use Rattle.dialogue.proofs.Allowing.{allows-all}

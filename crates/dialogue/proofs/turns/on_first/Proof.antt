@@ -6,7 +6,7 @@ use mathlib.Core.List.{List, [], _∷_}
 use Prim.Native.Nat.{ℕ}
 use mathlib.Core.Bool.{Bool}
 use borrow.Author.Needs.{needs}
-use Rattle.answers.specs.Cryptogram.{allows, cryptogramReason, cryptogramOf}
+use Rattle.form_answers.specs.Cryptogram.{allows, cryptogramReason, cryptogramOf}
 use Rattle.rulebook.specs.Situation.{Situation}
 use Rattle.rulebook.specs.Phase.{first}
 use Rattle.rulebook.specs.Turn.{answered, byFirst, firstAllows, firstAnswered, turn}
@@ -14,7 +14,7 @@ use Rattle.state.specs.declared.State.{State}
 use Rattle.state.specs.Reading.{late}
 use Rattle.moves.specs.Moves.{moved}
 use Rattle.dialogue.specs.Events.{answeredState}
-use Rattle.decide.specs.Results.{tsiAfterFirstAnswer}
+use Rattle.checks.specs.Results.{tsiAfterFirstAnswer}
 use Rattle.moves.proofs.Moving.{late-refused, reason-next}
 use Rattle.dialogue.proofs.Allowing.{late-answered}
 use Rattle.moves.proofs.Bits.{bits-moved}

@@ -8,7 +8,7 @@ use lib.Dec.{eqb}
 use borrow.Author.Tests.{eq-eqb, ne-eqb}
 use borrow.Author.Needs.{needs}
 use Rattle.lists.proofs.Choice.{pick-yes, pick-no}
-use Rattle.answers.specs.Options.{optionsReason, profileOf, locatorOf}
+use Rattle.form_answers.specs.Options.{optionsReason, profileOf, locatorOf}
 use Rattle.locator.specs.Entries.{toRead}
 use Rattle.rulebook.specs.Phase.{optioning}
 use Rattle.rulebook.specs.Turn.{withProfile, readOn, optioned, turn}

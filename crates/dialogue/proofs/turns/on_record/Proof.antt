@@ -10,16 +10,18 @@ use borrow.Author.Tests.{eq-eqb, ne-eqb}
 use borrow.Author.Needs.{needs}
 use Rattle.lists.proofs.Choice.{pick-yes, pick-no}
 use Rattle.objects.specs.Objects.{isSome}
-use Rattle.answers.specs.Records.{recordReason, toldBy}
+use Rattle.record_answer.specs.Records.{recordReason, toldBy}
 use Rattle.rulebook.specs.Situation.{Situation}
 use Rattle.rulebook.specs.Phase.{reading}
 use Rattle.rulebook.specs.Turn.{withRecord as recordAdded, readOn, recorded, turn}
 use Rattle.state.specs.declared.State.{State}
-use Rattle.state.specs.declared.Told.{Told}
-use Rattle.state.specs.Reading.{factsIn, situationWith, late, recordsLeft}
-use Rattle.state.specs.Keeping.{withRecord, withTold}
-use Rattle.state.proofs.Agreeing.{seen-told}
-use Rattle.state.proofs.Telling.{late-told}
+use Rattle.told.specs.declared.Told.{Told}
+use Rattle.state.specs.Reading.{situationWith, late, recordsLeft}
+use Rattle.told.specs.Facts.{factsIn}
+use Rattle.state.specs.Keeping.{withTold}
+use Rattle.told.specs.Telling.{withRecord}
+use Rattle.readings.proofs.Agreeing.{seen-told}
+use Rattle.state.proofs.Starting.{late-told}
 use Rattle.moves.specs.Moves.{moved}
 use Rattle.dialogue.specs.Events.{keeping}
 use Rattle.moves.proofs.Moving.{late-refused, reason-next}

@@ -10,7 +10,7 @@ use borrow.Author.Tests.{eq-eqb, ne-eqb}
 use borrow.Author.Needs.{needs}
 use Rattle.lists.specs.Choice.{pick}
 use Rattle.lists.proofs.Choice.{pick-yes, pick-no}
-use Rattle.answers.specs.Cryptogram.{allows, cryptogramReason, cryptogramOf}
+use Rattle.form_answers.specs.Cryptogram.{allows, cryptogramReason, cryptogramOf}
 use Rattle.rulebook.specs.Phase.{Phase, second, decides, approved, declined, decided}
 use Rattle.rulebook.specs.Turn.{goesOn, secondAllows, secondAnswered, turn}
 use Rattle.state.specs.Reading.{late}

@@ -1,7 +1,7 @@
 -- `turns::on_select` meets its contract: a bad answer ends the session, and a good one leads to GPO, filled from 9F38.
 -- Assumes nothing.
 use borrow.Author.Needs.{needs}
-use Rattle.object_lists.specs.declared.Known.{Known}
+use Rattle.values.specs.declared.Known.{Known}
 use mathlib.Core.Path.{_≡_, refl, sym, ap, ap₂, _∙_}
 use native.Mathlib.Omega.{arith}
 use mathlib.Core.List.{List, [], _∷_}
@@ -10,7 +10,7 @@ use mathlib.Core.Option.{none}
 use Rattle.terminal.specs.Reading.{readingOf}
 use Rattle.object_lists.specs.Filled.{filling}
 use Rattle.commands.specs.Commands.{optionsCommand}
-use Rattle.answers.specs.Select.{selectReason, pdolOf}
+use Rattle.select_answer.specs.Select.{selectReason, pdolOf}
 use Rattle.rulebook.specs.Phase.{selecting, optioning, asks, situationOf, commandOf}
 use Rattle.rulebook.specs.Turn.{selected, turn}
 use Rattle.state.specs.Reading.{situationWith, early}

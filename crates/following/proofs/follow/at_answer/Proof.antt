@@ -5,7 +5,7 @@ use borrow.Author.Needs.{needs}
 use mathlib.Core.Path.{_≡_, refl, sym, ap, _∙_}
 use mathlib.Core.List.{List, [], _∷_}
 use Prim.Native.Nat.{ℕ}
-use Rattle.following.specs.declared.Stage.the-variants.{Answer, Done, Closed, Broken}
+use Rattle.stages.specs.declared.Stage.the-variants.{Answer, Done, Closed, Broken}
 use Rattle.lists.proofs.Choice.{pick-yes, pick-no}
 use Rattle.tape.specs.Entries.{answer}
 use Rattle.moves.specs.Moves.{Moved, played}

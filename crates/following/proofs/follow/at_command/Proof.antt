@@ -5,7 +5,7 @@ use mathlib.Core.List.{List, [], _∷_}
 use Prim.Native.Nat.{ℕ}
 use lib.ListN.{length, take, drop}
 use borrow.Author.Needs.{needs}
-use Rattle.following.specs.declared.Stage.the-variants.{Answer, Done, Closed, Broken}
+use Rattle.stages.specs.declared.Stage.the-variants.{Answer, Done, Closed, Broken}
 use Rattle.lists.specs.Tests.{alike}
 use Rattle.tape.specs.Entries.{command}
 use Rattle.following.specs.Following.{staged, atCommand}

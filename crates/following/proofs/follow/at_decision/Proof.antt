@@ -4,7 +4,7 @@ use mathlib.Core.Path.{_≡_, refl, sym, ap, _∙_}
 use mathlib.Core.List.{List, [], _∷_}
 use Prim.Native.Nat.{ℕ}
 use borrow.Author.Needs.{needs}
-use Rattle.following.specs.declared.Stage.the-variants.{Answer, Done, Closed, Broken}
+use Rattle.stages.specs.declared.Stage.the-variants.{Answer, Done, Closed, Broken}
 use Rattle.lists.specs.Tests.{alike}
 use Rattle.state.specs.Results.{decisionIn}
 use Rattle.tape.specs.Entries.{decision}

@@ -6,7 +6,7 @@ use mathlib.Core.Path.{_≡_, refl, sym, ap, _∙_}
 use mathlib.Core.List.{List, [], _∷_}
 use Prim.Native.Nat.{ℕ}
 use mathlib.Core.Bool.{Bool}
-use Rattle.following.specs.declared.Stage.the-variants.{Answer, Done, Closed, Broken}
+use Rattle.stages.specs.declared.Stage.the-variants.{Answer, Done, Closed, Broken}
 use Rattle.decide.specs.Replies.{replyOf, isReply}
 use Rattle.tape.specs.Entries.{host}
 use Rattle.moves.specs.Moves.{Moved, played}

@@ -7,7 +7,7 @@ use lib.Dec.{eqb}
 use lib.ListN.{length}
 use borrow.Author.Tests.{eq-eqb, ne-eqb}
 use borrow.Author.Needs.{needs}
-use Rattle.following.specs.declared.Stage.the-variants.{Answer, Done, Closed, Broken}
+use Rattle.stages.specs.declared.Stage.the-variants.{Answer, Done, Closed, Broken}
 use Rattle.tape.specs.Entries.{silence}
 use Rattle.following.specs.Following.{staged, atSilence}
 use Rattle.following.proofs.Deciding.{other-kind, test-fails, test-holds}

@@ -6,8 +6,8 @@ use mathlib.Core.Path.{_≡_, refl, sym, ap, _∙_}
 use mathlib.Core.List.{List, [], _∷_}
 use Prim.Native.Nat.{ℕ}
 use mathlib.Core.Bool.{Bool}
-use Rattle.following.specs.declared.Stage.the-variants.{Answer, Done, Closed, Broken}
-use Rattle.terminal.specs.Start.{validStart}
+use Rattle.stages.specs.declared.Stage.the-variants.{Answer, Done, Closed, Broken}
+use Rattle.start.specs.Start.{validStart}
 use Rattle.tape.specs.Entries.{start}
 use Rattle.moves.specs.Moves.{Moved, played}
 use Rattle.dialogue.specs.Events.{started}

@@ -4,7 +4,7 @@ use mathlib.Core.Path.{_≡_, refl, sym, ap, _∙_}
 use borrow.Author.Needs.{needs}
 use Rattle.state.specs.declared.State.{State}
 use Rattle.lists.specs.Writing.{zeros}
-use Rattle.following.specs.declared.Stage.the-variants.{Start}
+use Rattle.stages.specs.declared.Stage.the-variants.{Start}
 use Rattle.following.specs.Following.{begun}
 use Rattle.following.proofs.follow.begin.Statement.{statement}
 use Rattle.following.proofs.follow.begin.Tie as tie

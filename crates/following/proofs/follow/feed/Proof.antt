@@ -2,7 +2,7 @@
 -- Assumes nothing.
 use mathlib.Core.Path.{_≡_, refl, sym, ap, _∙_}
 use borrow.Author.Needs.{needs}
-use Rattle.following.specs.declared.Stage.{Stage}
+use Rattle.stages.specs.declared.Stage.{Stage}
 use Rattle.following.specs.Following.{fedAt, fed}
 use Rattle.following.proofs.follow.feed.Statement.{statement}
 use Rattle.following.proofs.follow.feed.Tie as tie

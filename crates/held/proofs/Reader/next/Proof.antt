@@ -34,9 +34,9 @@ use denote.Triple.Walked.{says, Stays, stay-none, walkOf, goes-none, Walks, ends
 use denote.Exit.{yes}
 use denote.Triple.Clauses.{ensured, lasts}
 use Rattle.objects.specs.Place.{nextAt}
-use Rattle.objects.specs.declared.Next.{Next}
-use Rattle.objects.proofs.Next as N
-use Rattle.objects.proofs.Next.Laws as N′
+use Rattle.heads.specs.declared.Next.{Next}
+use Rattle.heads.proofs.Next as N
+use Rattle.heads.proofs.Next.Laws as N′
 use Rattle.objects.proofs.place.next as callee
 use Rattle.objects.proofs.place.next.Symbol as callee-def
 use Rattle.objects.proofs.place.next.Symbol.{name as #objects·place·next}

@@ -46,9 +46,9 @@ use denote.Triple.Spec.{Meets, tripleOf}
 use denote.Triple.Table.{entered, cited}
 use denote.Triple.Walked.{says, Stays, stay-ref, walkOf, goes-ref, Walks, ends-at, walked, walk-meets}
 use Rattle.objects.specs.Place.{nextAt}
-use Rattle.objects.specs.declared.Next.{Next}
-use Rattle.objects.proofs.Next as N
-use Rattle.objects.proofs.Next.Laws as N′
+use Rattle.heads.specs.declared.Next.{Next}
+use Rattle.heads.proofs.Next as N
+use Rattle.heads.proofs.Next.Laws as N′
 use Rattle.objects.proofs.place.next as next
 use Rattle.objects.proofs.place.next.Symbol as next-def
 use Rattle.objects.proofs.place.next.Symbol.{name as #objects·place·next}

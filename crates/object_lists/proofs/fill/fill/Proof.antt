@@ -11,9 +11,9 @@ use Rattle.lists.proofs.Choice.{pick-same}
 use Rattle.lists.proofs.Writing.{laid-fits, laid-short, put-nothing}
 use Rattle.terminal.specs.Reading.{readingOf}
 use lib.Dec.{leb}
-use Rattle.object_lists.specs.Wanted.{tally, totalOf, fillable}
+use Rattle.wanted.specs.Wanted.{tally, totalOf, fillable}
 use Rattle.object_lists.specs.Filled.{filledList, filling}
-use Rattle.object_lists.proofs.Entries.{filling-yes, filling-no, list-length}
+use Rattle.object_lists.proofs.Filling.{filling-yes, filling-no, list-length}
 use borrow.Author.Needs.{needs}
 use native.Mathlib.Omega.{arith}
 use Rattle.object_lists.proofs.fill.fill.Statement.{statement}

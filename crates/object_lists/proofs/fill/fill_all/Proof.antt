@@ -5,15 +5,17 @@ use mathlib.Core.Bool.{true}
 use mathlib.Core.List.{List, [], _++_}
 use Prim.Native.Nat.{ℕ, _+_, _-_, _≤_, _<_}
 use lib.ListN.{length, take, drop, length-take, length-drop}
-use Rattle.objects.specs.Head.{tagSize}
+use Rattle.heads.specs.Head.{tagSize}
 use Rattle.objects.specs.Objects.{isSome}
 use Rattle.lists.specs.Writing.{put}
 use Rattle.lists.proofs.Cutting.{rest-part}
 use Rattle.lists.proofs.Writing.{put-length, put-nothing}
 use Rattle.terminal.specs.Reading.{readingOf}
-use Rattle.object_lists.specs.Wanted.{sizeAt, entriesOf, totalBy, totalOf}
+use Rattle.lists.proofs.Cutting.{none-left}
+use Rattle.wanted.specs.Wanted.{sizeAt, entriesOf, totalBy, totalOf}
 use Rattle.object_lists.specs.Filled.{firstBytes, filled, filledBy, filledList}
-use Rattle.object_lists.proofs.Entries.{turn-fits, turn-some, turn-total, turn-put, first-length, fillable-some, entries-empty, nothing-left}
+use Rattle.wanted.proofs.Entries.{turn-fits, turn-some, turn-total, fillable-some, entries-empty}
+use Rattle.object_lists.proofs.Filling.{turn-put, first-length}
 use native.Mathlib.Omega.{arith}
 use Rattle.object_lists.proofs.fill.fill_all.Statement.{statement}
 use Rattle.object_lists.proofs.fill.fill_all.Tie as tie
@@ -103,7 +105,7 @@ returns c =
     let l = c .before .loop in
     let a = c .before .before .before .before .before .args in
     let t = readingOf (a .start .now) in
-    let empty = nothing-left (l .rest .now) (omega arith) in
+    let empty = none-left (l .rest .now) (omega arith) in
     let written : filledBy t (a .known) (entriesOf (l .rest .now)) ≡ []
     = ap (λ (r : List ℕ). filledBy t (a .known) (entriesOf r)) empty ∙ ap (filledBy t (a .known)) entries-empty in
     sym (put-nothing (l .p) (l .buf)) ∙ (ap (λ (s : List ℕ). put s (l .p) (l .buf)) (sym written) ∙ l .inv .3)

@@ -8,12 +8,12 @@ use Prim.Native.Nat.{ℕ}
 use lib.ListN.{length, take}
 use Rattle.lists.proofs.Choice.{pick-yes, pick-no}
 use Rattle.lists.specs.Writing.{zeros}
-use Rattle.object_lists.specs.Shape.{shaped}
-use Rattle.object_lists.specs.Known.{held, withFormat}
+use Rattle.values.specs.Shape.{shaped}
+use Rattle.values.specs.Known.{held, withFormat}
 use Rattle.object_lists.specs.Filled.{entryBytes}
-use Rattle.object_lists.specs.declared.Format.{Format}
-use Rattle.object_lists.specs.declared.Value.{Value}
-use Rattle.object_lists.proofs.Tables.{counting}
+use Rattle.values.specs.declared.Format.{Format}
+use Rattle.values.specs.declared.Value.{Value}
+use Rattle.values.proofs.Tables.{counting}
 use borrow.Author.Needs.{needs}
 use Rattle.object_lists.proofs.fill.fill_entry.Statement.{statement}
 use Rattle.object_lists.proofs.fill.fill_entry.Tie as tie

@@ -4,17 +4,17 @@ use mathlib.Core.Path.{_≡_, sym, ap, ap₂, _∙_}
 use mathlib.Core.List.{List}
 use Prim.Native.Nat.{ℕ, _+_, _-_, _≤_}
 use lib.ListN.{length, take, drop}
-use Rattle.objects.specs.Head.{tagOf}
+use Rattle.heads.specs.Head.{tagOf}
 use Rattle.lists.specs.Writing.{put}
 use Rattle.lists.proofs.Writing.{put-back}
 use Rattle.terminal.specs.Reading.{readingOf}
 use mathlib.Core.Option.{Option}
-use Rattle.object_lists.specs.Wanted.{sizeAt}
-use Rattle.object_lists.specs.Known.{held, withFormat, valueFor, supplied}
-use Rattle.object_lists.specs.Shape.{formatOf}
+use Rattle.wanted.specs.Wanted.{sizeAt}
+use Rattle.values.specs.Known.{held, withFormat, valueFor, supplied}
+use Rattle.values.specs.Shape.{formatOf}
 use Rattle.object_lists.specs.Filled.{entryBytes, firstBytes}
-use Rattle.object_lists.specs.declared.Format.{Format}
-use Rattle.object_lists.proofs.Entries.{place-length, entry-length}
+use Rattle.values.specs.declared.Format.{Format}
+use Rattle.object_lists.proofs.Filling.{place-length, entry-length}
 use borrow.Author.Needs.{needs}
 use native.Mathlib.Omega.{arith}
 use Rattle.object_lists.proofs.fill.fill_first.Statement.{statement}

@@ -10,13 +10,13 @@ use borrow.Fn.Kinds.{In}
 use borrow.Fn.PlainCycle.{Measures, is, falls, and}
 use Rattle.objects.specs.Objects.{isList, between}
 use Rattle.objects.specs.Place.{nextAt}
-use Rattle.objects.specs.declared.Next.the-variants.{Member}
+use Rattle.heads.specs.declared.Next.the-variants.{Member}
 use Rattle.objects.proofs.Reading.{Ahead, next-ahead, next-end}
 use Rattle.objects.proofs.ListCheck.{check-end, check-broken, check-plain, check-inside, check-outside}
 use Rattle.objects.proofs.list.is_list.Reads as is-list
 use Rattle.objects.proofs.list.is_list.Kinds as is-list-kinds
 use Rattle.objects.proofs.list.+is_list.Lts-is_list as is-list-lts
-use Rattle.objects.proofs.tag.is_constructed.Reads as is-constructed-reads
+use Rattle.heads.proofs.tag.is_constructed.Reads as is-constructed-reads
 use Rattle.objects.proofs.place.next.Reads as next-reads
 use Rattle.objects.proofs.list.+is_list.{statement}
 use Rattle.objects.proofs.list.+is_list.Tie.{close}

@@ -9,8 +9,8 @@ use borrow.Author.Tests.{eq-eqb, ne-eqb}
 use Rattle.lists.proofs.Choice.{pick-yes, pick-no}
 use Rattle.objects.specs.Place.{nextAt, placesFrom, follow}
 use Rattle.objects.specs.Lookup.{firstAmong, firstFrom}
-use Rattle.objects.specs.declared.Next.{Next}
-use Rattle.objects.specs.declared.Next.the-variants.{Member, End, Broken}
+use Rattle.heads.specs.declared.Next.{Next}
+use Rattle.heads.specs.declared.Next.the-variants.{Member, End, Broken}
 use Rattle.objects.specs.declared.Found.{Found}
 use Rattle.objects.specs.declared.Found.the-variants.{Absent, Once}
 use Rattle.objects.proofs.Reading.{next-ahead, next-end}

@@ -7,9 +7,10 @@ use lib.ListN.{length, drop}
 use lib.Dec.{leb}
 use borrow.Author.Tests.{le-leb, lt-leb}
 use Rattle.lists.proofs.Choice.{pick-yes, pick-no}
-use Rattle.objects.specs.Place.{fillers, memberAt, nextAt}
-use Rattle.objects.specs.declared.Next.{Next}
-use Rattle.objects.specs.declared.Next.the-variants.{End}
+use Rattle.objects.specs.Place.{fillers, nextAt}
+use Rattle.heads.specs.Member.{memberAt}
+use Rattle.heads.specs.declared.Next.{Next}
+use Rattle.heads.specs.declared.Next.the-variants.{End}
 use Rattle.objects.proofs.Reading.{next-end}
 use borrow.Author.Needs.{needs}
 use Rattle.objects.proofs.place.next.Statement.{statement}

@@ -3,7 +3,7 @@
 use mathlib.Core.List.{[], _∷_}
 use borrow.Author.Needs.{needs}
 use Rattle.locator.specs.Cursor.{start}
-use Rattle.state.specs.Reading.{keptRun}
+use Rattle.told.specs.Runs.{keptRun}
 use mathlib.Core.Path.{_≡_, refl, sym, ap, _∙_}
 use Rattle.lists.specs.Writing.{laid, zeros}
 use Rattle.state.specs.Keeping.{withOptions}

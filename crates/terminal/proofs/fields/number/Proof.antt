@@ -4,7 +4,7 @@ use mathlib.Core.Path.{ap, _∙_}
 use native.Mathlib.Omega.{arith}
 use borrow.Author.Needs.{needs}
 use lib.ListN.{length}
-use Rattle.terminal.specs.Decimal.{decimal}
+use Rattle.decimals.specs.Decimal.{decimal}
 use Rattle.terminal.proofs.Reading.{short-read}
 use Rattle.terminal.proofs.fields.number.Statement.{statement}
 use Rattle.terminal.proofs.fields.number.Tie as tie

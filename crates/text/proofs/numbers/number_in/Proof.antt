@@ -6,7 +6,7 @@ use native.Mathlib.Nat.{mul-le-mul}
 use native.Mathlib.Omega.{arith}
 use lib.ListN.{length, getD, drop}
 use borrow.Author.Needs.{needs}
-use Rattle.text.specs.Digits.{digit}
+use Rattle.hexadecimal.specs.Digits.{digit}
 use Rattle.text.specs.Numbers.{continued}
 use Rattle.text.proofs.Counting.{goes-on, ends-here, all-read}
 use Rattle.text.proofs.numbers.number_in.Statement.{statement}

@@ -1,0 +1,6 @@
+mod Signed
+mod Words
+pub mod Rows
+pub mod Laws
+pub mod Interpolation
+mod ExampleResults

@@ -1,0 +1,3 @@
+pub mod Templates
+mod OptionsWorked
+mod CryptogramWorked

@@ -1,0 +1,34 @@
+-- Where the parts of a whole object lie: at least two bytes of head, then the value, within the bytes.
+-- Assumes nothing.
+use mathlib.Core.Path.{_≡_, refl, sym, ap, _∙_, subst}
+use mathlib.Core.Bool.{Bool, true, false, not, _&&_}
+use mathlib.Core.List.{List}
+use Prim.Native.Nat.{ℕ, _+_, _≤_, _<_}
+use native.Mathlib.Nat.{le-refl, le-add-right}
+use native.Mathlib.Omega.{arith}
+use lib.Dec.{leb, eqb}
+use lib.ListN.{length, getD}
+use borrow.Author.Tests.{leb-true, eqb-false, not-true}
+use Rattle.lists.proofs.Choice.{picked, and-left, and-right}
+use Rattle.heads.specs.Head.{twoBytes, tagSize, tagRight, lengthSize, lengthOf, valueStart, valueEnd, whole}
+
+pub record Within (start end size : ℕ) : Type 0 where
+  pub head : 2 ≤ start
+  pub order : start ≤ end
+  pub fits : end ≤ size
+
+tag-size-least : (s : List ℕ) → 1 ≤ tagSize s
+unfolding tagSize
+tag-size-least s = picked (λ n. 1 ≤ n) (twoBytes (getD s 0 0)) 2 1 (λ e. omega arith) (λ e. omega arith)
+
+pub whole-within : (s : List ℕ) → whole s ≡ true → Within (valueStart s) (valueEnd s) (length s)
+unfolding whole valueStart valueEnd
+whole-within s e =
+    let rest = and-right (tagRight s) _ e in
+    let some-form : lengthSize s ≡ 0 → ⊥ = eqb-false _ _ (not-true _ (and-left _ _ rest)) in
+    let long = tag-size-least s in
+    record {
+      head = omega arith;
+      order = le-add-right _ _;
+      fits = leb-true _ _ (and-right (not (eqb (lengthSize s) 0)) _ rest);
+    }

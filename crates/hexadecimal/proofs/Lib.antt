@@ -1,0 +1,5 @@
+pub mod Extra
+pub mod Values
+pub mod Reading
+pub mod Printing
+pub mod DigitsPinned

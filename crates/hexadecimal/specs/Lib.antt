@@ -1,0 +1,2 @@
+-- Bytes as hexadecimal digits, two to a byte.
+pub mod Digits

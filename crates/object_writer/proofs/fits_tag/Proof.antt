@@ -1,0 +1,20 @@
+-- `writer::fits_tag` meets its contract: the list check, asked only of a constructed object's value.
+-- Assumes nothing.
+use mathlib.Core.Path.{sym, _∙_}
+use Rattle.lists.proofs.Choice.{pick-yes, pick-no}
+use Rattle.object_writer.specs.Written.{fitsTag}
+use borrow.Author.Needs.{needs}
+use Rattle.object_writer.proofs.fits_tag.Statement.{statement}
+use Rattle.object_writer.proofs.fits_tag.Tie as tie
+
+returns : tie.Need-returns
+unfolding fitsTag
+returns c =
+    c .is-list .ensures ∙ sym (pick-yes _ _ _ (sym (c .before .before .is-constructed .ensures) ∙ c .before .if1 .taken))
+
+returns-2 : tie.Need-returns-2
+unfolding fitsTag
+returns-2 c = sym (pick-no _ _ _ (sym (c .before .is-constructed .ensures) ∙ c .if1 .left))
+
+pub fits-tag-spec : {M : Type 1} → statement M
+fits-tag-spec = tie.close (tie.spec (λ c κs. search needs) (λ c κs. search needs) returns returns-2)

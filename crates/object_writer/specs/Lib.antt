@@ -1,0 +1,2 @@
+-- How a data object is written: document 01, "Data objects".
+pub mod Written

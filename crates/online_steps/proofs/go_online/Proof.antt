@@ -1,0 +1,61 @@
+-- `online::go_online` meets its contract: a terminal of type 0 goes on as unable, whatever code stands beside that.
+-- Assumes nothing.
+use mathlib.Core.Path.{_≡_, refl, sym, ap, _∙_}
+use mathlib.Core.List.{List, [], _∷_}
+use Prim.Native.Nat.{ℕ}
+use borrow.Author.Tests.{eq-eqb, ne-eqb}
+use borrow.Author.Needs.{needs}
+use Rattle.lists.proofs.Choice.{pick-yes, pick-no}
+use Rattle.lists.specs.Choice.{pick}
+use Rattle.terminal.specs.Reading.{readingOf}
+use Rattle.wanted.specs.Wanted.{fillable}
+use Rattle.decide.specs.Requests.{secondRequest}
+use Rattle.decide.specs.declared.reply.Reply.the-variants.{Unable}
+use Rattle.rulebook.specs.Situation.{issuerCodes, listIn}
+use Rattle.rulebook.specs.Phase.{second, Phase, asks, ended}
+use Rattle.rulebook.specs.Turn.{replied, online}
+use Rattle.state.specs.Reading.{situationWith, late}
+use Rattle.moves.specs.Moves.{moved}
+use Rattle.moves.proofs.Moving.{late-hears}
+use Rattle.decide.proofs.Replying.{unable-code}
+use Rattle.online_steps.proofs.go_online.Statement.{statement}
+use Rattle.online_steps.proofs.go_online.Tie as tie
+
+returns : tie.Need-returns
+unfolding online replied late situationWith
+returns c =
+    let args = c .before .before .before .before .before .before .before .before .before .args in
+    let s = args .s in
+    let buf = args .buf .now in
+    let z = late s in
+    let q = secondRequest Unable (readingOf (s .start)) (issuerCodes z) (s .tvr) in
+    let same = ap (λ (x : List ℕ). pick (fillable (listIn z 0x8D)) (asks (second z q x)) (ended 9 z)) (unable-code q (0 ∷ 0 ∷ []) []) in
+    c .before .before .request-second .ensures
+    ∙ ap (λ (p : Phase). moved p s buf) (same
+    ∙ sym
+    (pick-yes _ _ _
+    (eq-eqb (readingOf (s .start) .kind) 0
+    (sym (c .before .before .before .before .before .kind .ensures) ∙ c .before .before .before .before .if1 .taken))))
+
+returns-2 : tie.Need-returns-2
+unfolding online late situationWith
+returns-2 c =
+    let args = c .before .before .before .before .before .before .args in
+    let s = args .s in
+    let buf = args .buf .now in
+    late-hears s buf (c .wait .ensures)
+    ∙ sym
+    (ap (λ (p : Phase). moved p s buf)
+    (pick-no _ _ _ (ne-eqb (readingOf (s .start) .kind) 0 (λ e. c .before .if1 .left (c .before .before .kind .ensures ∙ e)))))
+
+pub go-online-spec : {M : Type 1} → statement M
+go-online-spec =
+    tie.close
+    (tie.spec
+    (λ c. search needs)
+    (λ c κs. search needs)
+    (λ c κs. search needs)
+    (λ c κs. search needs)
+    (λ c. search needs)
+    returns
+    returns-2)

@@ -1,0 +1,2 @@
+pub mod Standing
+mod RecordsWorked

@@ -1,0 +1,2 @@
+-- The state after the last record.
+pub mod Storing

@@ -1,0 +1,128 @@
+// From record to record, and after the last of them.
+use checks::results::tsi_after_records;
+use checks::results::tvr_after_records;
+use decide::requests::first_request;
+use locator::cursor;
+use locator::cursor::Cursor;
+use moves::Due;
+use moves::Step;
+use moves::command::generate;
+use moves::command::read;
+use moves::ends::end;
+use moves::ends::wait;
+use readings::facts::codes;
+use readings::facts::facts;
+use readings::facts::seen;
+use readings::known::at_first;
+use record_answer::complete_reason;
+use state::Phase;
+use state::State;
+use state::change::change;
+use told::runs::bytes_of;
+use told::runs::size_of;
+ghost use mathlib.Core.Path.{_≡_};
+ghost use Prim.Native.Nat.{_<_};
+ghost use Rattle.locator.specs.Cursor.{isLeft, stepped};
+ghost use Rattle.record_answer.specs.Records.{afterRecords};
+ghost use Rattle.rulebook.specs.Turn.{requested, allRead, readOn};
+ghost use Rattle.state.specs.Reading.{late, recordsLeft};
+ghost use Rattle.told.specs.Facts.{factsIn};
+ghost use Rattle.told.specs.Runs.{inRun};
+ghost use Rattle.moves.specs.Moves.{played, moved};
+ghost use Rattle.record_steps.specs.Storing.{managedState};
+
+fn is_left(s: State) -> bool
+    ensures { λ r. ⌜ r ≡ isLeft (inRun (s .locator)) (s .cursor) ⌝ }
+{
+    let run = s.locator;
+    let place = s.cursor;
+    let n = size_of(run);
+    let bytes = bytes_of(run);
+    cursor::is_left(&bytes[..n], place)
+}
+
+fn next(s: State) -> Cursor
+    ensures { λ r. ⌜ r ≡ stepped (inRun (s .locator)) (s .cursor) ⌝ }
+{
+    let run = s.locator;
+    let place = s.cursor;
+    let n = size_of(run);
+    let bytes = bytes_of(run);
+    cursor::step(&bytes[..n], place)
+}
+
+// Reasons 8 and 9 over all that the records told.
+fn reason(s: State) -> usize
+    ensures { λ r. ⌜ r ≡ afterRecords (factsIn (s .told)) ⌝ }
+{
+    let told = s.told;
+    let list = told.first_list;
+    let n = size_of(list);
+    let bytes = bytes_of(list);
+    complete_reason(seen(told), &bytes[..n])
+}
+
+// The bits that the facts set.
+fn managed(s: State) -> State
+    ensures { λ r. ⌜ r ≡ managedState s ⌝ }
+{
+    let start = s.start;
+    let tvr = s.tvr;
+    let tsi = s.tsi;
+    let phase = s.phase;
+    let place = s.cursor;
+    let told = facts(s);
+    change(
+        s,
+        phase,
+        tvr_after_records(&start, told, tvr),
+        tsi_after_records(told, tsi),
+        place,
+    )
+}
+
+// The first request, or the end where its list cannot be filled.
+fn request_first(s: State, why: usize, buf: &mut [u8]) -> Step
+    requires { ⌜ why < 256 ⌝ }
+    ensures { λ r. ⌜ played r (now (buf .exit)) ≡ moved (requested why (late s)) s (now (buf .entry)) ⌝ }
+{
+    if why != 0 {
+        return end(s, why);
+    }
+    let start = s.start;
+    let tvr = s.tvr;
+    let told = s.told;
+    let list = told.first_list;
+    let request = first_request(&start, codes(s), tvr);
+    let n = generate(s, request, list, at_first(s), buf);
+    wait(s, Phase::First(request), Due::Command(n))
+}
+
+// After the last record.
+fn all_read(s: State, buf: &mut [u8]) -> Step
+    ensures { λ r. ⌜ played r (now (buf .exit)) ≡ moved (allRead (late s)) s (now (buf .entry)) ⌝ }
+{
+    let why = reason(s);
+    if why == 8 {
+        return end(s, 8);
+    }
+    request_first(managed(s), why, buf)
+}
+
+// The next record, or the end of them.
+pub fn read_on(s: State, buf: &mut [u8]) -> Step
+    ensures { λ r. ⌜ played r (now (buf .exit)) ≡ moved (readOn (late s) (recordsLeft s)) s (now (buf .entry)) ⌝ }
+{
+    if is_left(s) {
+        let n = read(s, buf);
+        let tvr = s.tvr;
+        let tsi = s.tsi;
+        let place = next(s);
+        Step {
+            state: change(s, Phase::Record, tvr, tsi, place),
+            due: Due::Command(n),
+        }
+    } else {
+        all_read(s, buf)
+    }
+}

@@ -1,0 +1,2 @@
+pub mod Inside
+mod SelectWorked

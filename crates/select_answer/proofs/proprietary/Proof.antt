@@ -1,0 +1,16 @@
+-- `select_answer::proprietary` meets its contract: A5 in 6F's value.
+-- Assumes nothing.
+use mathlib.Core.Path.{ap, _∙_}
+use Prim.Native.Nat.{ℕ}
+use borrow.Author.Needs.{needs}
+use Rattle.objects.specs.Lookup.{Lookup}
+use Rattle.card_data.specs.Named.{valueOf}
+use Rattle.select_answer.proofs.Inside.{select-found}
+use Rattle.select_answer.proofs.proprietary.Statement.{statement}
+use Rattle.select_answer.proofs.proprietary.Tie as tie
+
+returns : tie.Need-returns
+returns c = c .value-of .ensures ∙ ap (λ (look : ℕ → Lookup). valueOf (look 0xA5)) (select-found _ (c .before .inside .ensures))
+
+pub proprietary-spec : {M : Type 1} → statement M
+proprietary-spec = tie.close (tie.spec (λ c κs. search needs) (λ c κs. search needs) returns)

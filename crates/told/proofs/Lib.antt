@@ -1,0 +1,3 @@
+pub mod There
+pub mod Overlay
+pub mod Telling

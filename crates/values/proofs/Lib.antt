@@ -1,0 +1,3 @@
+pub mod Shaping
+pub mod Tables
+pub mod ShapesPinned

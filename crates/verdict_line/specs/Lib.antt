@@ -1,0 +1,2 @@
+-- The line that says a verdict, its place and its code.
+pub mod Line

@@ -1,0 +1,37 @@
+-- The line that says a verdict (01, "The tape": verdict, place, code, and a line feed).
+-- Assumes nothing.
+use mathlib.Core.List.{List, [], _∷_, _++_}
+use Prim.Native.Nat.{ℕ, zero, suc, _+_, _/_, _%_}
+use lib.Dec.{leb, ltb}
+use lib.ListN.{length}
+use Rattle.lists.specs.Choice.{pick}
+use Rattle.verdicts.specs.declared.Verdict.{Verdict}
+use Rattle.verdicts.specs.declared.Verdict.the-variants.{Pass, Fail, Inconclusive, Unreadable}
+use Rattle.verdicts.specs.declared.Answer.{Answer}
+
+-- PASS, FAIL, INCONCLUSIVE, UNREADABLE
+unfoldable pub wordOf : Verdict → List ℕ
+wordOf Pass = 0x50 ∷ 0x41 ∷ 0x53 ∷ 0x53 ∷ []
+wordOf Fail = 0x46 ∷ 0x41 ∷ 0x49 ∷ 0x4C ∷ []
+wordOf Inconclusive = 0x49 ∷ 0x4E ∷ 0x43 ∷ 0x4F ∷ 0x4E ∷ 0x43 ∷ 0x4C ∷ 0x55 ∷ 0x53 ∷ 0x49 ∷ 0x56 ∷ 0x45 ∷ []
+wordOf Unreadable = 0x55 ∷ 0x4E ∷ 0x52 ∷ 0x45 ∷ 0x41 ∷ 0x44 ∷ 0x41 ∷ 0x42 ∷ 0x4C ∷ 0x45 ∷ []
+
+-- a number's decimal digits, at most so many: the last one, after those of the tenth part where there is one
+unfoldable pub digitsOf : ℕ → ℕ → List ℕ
+digitsOf zero n = []
+digitsOf (suc most) n = pick (ltb n 10) ((0x30 + n) ∷ []) (digitsOf most (n / 10) ++ ((0x30 + n % 10) ∷ []))
+
+-- no number n has more than n + 1
+unfoldable pub decimal : ℕ → List ℕ
+decimal n = digitsOf (suc n) n
+
+-- a space, and a number
+unfoldable pub fieldOf : ℕ → List ℕ
+fieldOf n = 0x20 ∷ decimal n
+
+unfoldable pub lineOf : Answer → List ℕ
+lineOf a = wordOf (a .verdict) ++ (fieldOf (a .place) ++ (fieldOf (a .code) ++ (0x0A ∷ [])))
+
+-- how many bytes of a buffer the line takes: none where it has no room, and then it is not written
+unfoldable pub lineSize : ℕ → Answer → ℕ
+lineSize room a = pick (leb (length (lineOf a)) room) (length (lineOf a)) 0
