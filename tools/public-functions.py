@@ -23,8 +23,8 @@ afterwards. None has a `requires`. Programs have no public functions.
 
 # Promises that are not an equation of the answer itself: why they fit one answer all the same.
 OTHERWISE = {
-    "objects writer::write": "`one-answer` in `crates/objects/proofs/Refusals.antt`: refusal and size together are the answer",
-    "state runs::size_of": "the first r of the run's 252 bytes are what it holds, so r is how many that are",
+    "object_writer write": "`one-answer` in `crates/object_writer/proofs/Refusals.antt`: refusal and size together are the answer",
+    "told runs::size_of": "the first r of the run's 252 bytes are what it holds, so r is how many that are",
     "judge judge": "`judged-once` in `crates/verdicts/proofs/Once.antt`: no tape has two answers",
     "input read_line": "it does not: see EXCEPTIONS.md",
 }
