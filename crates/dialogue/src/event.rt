@@ -1,5 +1,4 @@
 // One event, one step on.
-use crate::turns;
 use commands::write;
 use decide::reply::Heard;
 use decide::reply::code_in;

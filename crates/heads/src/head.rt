@@ -1,5 +1,5 @@
-// The head of a data object at the front of some bytes. A byte past the end reads as 0; `head` then finds that the
-// object does not fit.
+// The head of a data object at the front of some bytes. A byte past the end reads as 0; `is_whole` then finds that
+// the object does not fit.
 use crate::Next;
 use crate::tag::is_tag_right;
 use crate::tag::tag_of;

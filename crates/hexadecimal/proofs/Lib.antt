@@ -2,4 +2,4 @@ pub mod Extra
 pub mod Values
 pub mod Reading
 pub mod Printing
-pub mod DigitsPinned
+pub mod Pinned

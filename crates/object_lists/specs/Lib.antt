@@ -1,3 +1,2 @@
--- Object lists, as document 01, "The commands", has them: which bytes are one, what it asks for, what the terminal knows, and
--- the bytes that it is filled with.
+-- The bytes that an object list is filled with: document 01, "The commands".
 pub mod Filled

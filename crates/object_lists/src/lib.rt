@@ -1,2 +1,2 @@
-// Object lists: whether one can be filled, and filling it from what the terminal knows.
+// Object lists, filled from what the terminal knows.
 pub mod fill;

@@ -1,3 +1,3 @@
 pub mod Refusals
 pub mod ReadBack
-mod WrittenPinned
+mod Pinned

@@ -1,4 +1,4 @@
-// Data objects: tag, length and value, as a card sends them and as a command carries them.
+// Lists of data objects: which bytes are one, what stands at a place of it, and an object looked up by its tag.
 pub mod list;
 pub mod lookup;
 pub mod place;

@@ -21,7 +21,8 @@ use Rattle.state.specs.declared.State.{State}
 use Rattle.state.specs.declared.Phase.{Phase as Kept}
 use Rattle.state.specs.declared.Phase.the-variants.{Start, Select, Options, Record, First, Second, Host, Decided, Closed}
 use Rattle.moves.specs.Moves.{standing, moved, unmoved}
-use Rattle.dialogue.specs.Events.{keeping, started, answeredTo, answered, heardAs, heardIn, hostHeard}
+use Rattle.dialogue.specs.Events.{started, answeredTo, answered, heardAs, heardIn, hostHeard}
+use Rattle.turns.specs.Keeping.{keeping}
 use Rattle.refinement.proofs.Standing.{asked-tvr, asked-tsi}
 
 -- every bit that is set in one state is set in another

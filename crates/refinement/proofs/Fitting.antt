@@ -37,7 +37,7 @@ use Rattle.state.specs.declared.Phase.{Phase as Kept}
 use Rattle.state.proofs.Starting.{late-told}
 use Rattle.state.proofs.Starting.{early-begun, late-options, left-options}
 use Rattle.moves.specs.Moves.{awaiting, keptAs, cursorAsking, cursorAfter, standing}
-use Rattle.dialogue.specs.Events.{keeping}
+use Rattle.turns.specs.Keeping.{keeping}
 use Rattle.refinement.specs.Agreeing.{forgets, StandsAt}
 use Rattle.refinement.proofs.Standing.{asked-one}
 

@@ -15,7 +15,7 @@ use Rattle.state.specs.Reading.{situationWith, early, late, recordsLeft, askedB
 use Rattle.state.specs.declared.State.{State}
 use Rattle.state.specs.declared.Phase.{Phase as Kept}
 use Rattle.state.specs.declared.Phase.the-variants.{Start, Select, Options, Record, First, Second, Host, Decided, Closed}
-use Rattle.dialogue.specs.Events.{keeping}
+use Rattle.turns.specs.Keeping.{keeping}
 use Rattle.refinement.specs.Agreeing.{forgets, StandsAt}
 
 -- what is forgotten has no part in the turn, nor in what is kept of the answer, nor in the situation

@@ -24,7 +24,8 @@ use Rattle.state.specs.Keeping.{stateAt, fresh, begun}
 use Rattle.state.specs.declared.State.{State}
 use Rattle.state.specs.declared.Phase.{Phase as Kept}
 use Rattle.moves.specs.Moves.{Moved, standing, moved}
-use Rattle.dialogue.specs.Events.{keeping, started, answeredTo, answered, heardAs, heardIn, hostHeard}
+use Rattle.dialogue.specs.Events.{started, answeredTo, answered, heardAs, heardIn, hostHeard}
+use Rattle.turns.specs.Keeping.{keeping}
 use Rattle.refinement.specs.Agreeing.{forgets, StandsAt, Agrees}
 use Rattle.refinement.specs.Logging.{logged, landing, Follows}
 use Rattle.refinement.proofs.Standing.{turn-forgets, keeping-forgets}

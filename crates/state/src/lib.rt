@@ -1,4 +1,4 @@
-// The state of a session: what it keeps, what is read off it, and how what an answer tells is kept.
+// The state of a session: what it keeps, how it changes, and the outcome that it says.
 pub mod change;
 pub mod result;
 

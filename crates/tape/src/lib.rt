@@ -1,4 +1,4 @@
-// The tape: entries in blocks of 512 bytes, written one by one and read back from any bytes.
+// The tape: entries in blocks of 512 bytes, read from any bytes.
 mod read;
 
 pub use read::block_at;

@@ -1,2 +1,2 @@
-// START, the terminal's data: where its fields stand, what they hold, and whether it is valid.
+// START, the terminal's data: where its fields stand, and what they hold.
 pub mod fields;

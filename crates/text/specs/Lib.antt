@@ -1,3 +1,3 @@
--- Bytes as text, as the programs read and print it: where lines and words end, bytes in hexadecimal, and numbers.
+-- Bytes as text, as the programs read and print it: where lines and words end, and numbers.
 pub mod Lines
 pub mod Numbers

@@ -1,3 +1,3 @@
 pub mod Shaping
 pub mod Tables
-pub mod ShapesPinned
+pub mod Pinned

@@ -1,3 +1,3 @@
--- The verdict of a tape, how it is found entry by entry, and the line that says it.
+-- The verdict of a tape, and how it is found entry by entry.
 pub mod Judged
 pub mod Progress

@@ -1,5 +1,4 @@
 // What is said of a tape: a verdict, a place and a code.
-
 pub enum Verdict {
     Pass,
     Fail,

@@ -4,7 +4,8 @@ use mathlib.Core.Path.{_≡_, refl, sym, ap, _∙_}
 use borrow.Author.Needs.{needs}
 use Rattle.state.specs.declared.Phase.{Phase}
 use Rattle.state.specs.Reading.{askedBy, askedIn}
-use Rattle.dialogue.specs.Events.{keeping, answeredTo, answered}
+use Rattle.dialogue.specs.Events.{answeredTo, answered}
+use Rattle.turns.specs.Keeping.{keeping}
 use Rattle.moves.proofs.Moving.{stays}
 use Rattle.dialogue.proofs.event.answer.Statement.{statement}
 use Rattle.dialogue.proofs.event.answer.Tie as tie

@@ -5,9 +5,9 @@ use borrow.Author.Needs.{needs}
 use Rattle.form_answers.specs.Cryptogram.{allows}
 use Rattle.decide.specs.Requests.{firstAllowed}
 use Rattle.rulebook.specs.Turn.{firstAllows}
-use Rattle.dialogue.proofs.Allowing.{allows-all}
-use Rattle.dialogue.proofs.turns.allowed_first.Statement.{statement}
-use Rattle.dialogue.proofs.turns.allowed_first.Tie as tie
+use Rattle.turns.proofs.Allowing.{allows-all}
+use Rattle.turns.proofs.allowed_first.Statement.{statement}
+use Rattle.turns.proofs.allowed_first.Tie as tie
 
 returns : tie.Need-returns
 unfolding firstAllows

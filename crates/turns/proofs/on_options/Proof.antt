@@ -17,11 +17,11 @@ use Rattle.state.specs.Reading.{early, late, recordsLeft}
 use Rattle.state.specs.Keeping.{withOptions}
 use Rattle.state.proofs.Starting.{late-options, left-options}
 use Rattle.moves.specs.Moves.{moved}
-use Rattle.dialogue.specs.Events.{keeping}
+use Rattle.turns.specs.Keeping.{keeping}
 use Rattle.moves.proofs.Moving.{early-refused, reason-next}
 use Rattle.answers.proofs.Reasons.{options-small}
-use Rattle.dialogue.proofs.turns.on_options.Statement.{statement}
-use Rattle.dialogue.proofs.turns.on_options.Tie as tie
+use Rattle.turns.proofs.on_options.Statement.{statement}
+use Rattle.turns.proofs.on_options.Tie as tie
 
 returns : tie.Need-returns
 unfolding turn optioned keeping

@@ -17,8 +17,8 @@ use Rattle.state.specs.Reading.{late}
 use Rattle.moves.specs.Moves.{moved}
 use Rattle.moves.proofs.Moving.{late-decided, late-refused, reason-next}
 use Rattle.answers.proofs.Reasons.{cryptogram-small}
-use Rattle.dialogue.proofs.turns.on_second.Statement.{statement}
-use Rattle.dialogue.proofs.turns.on_second.Tie as tie
+use Rattle.turns.proofs.on_second.Statement.{statement}
+use Rattle.turns.proofs.on_second.Tie as tie
 
 returns : tie.Need-returns
 unfolding turn secondAnswered

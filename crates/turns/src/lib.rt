@@ -31,7 +31,7 @@ ghost use Rattle.rulebook.specs.Phase.{selecting, optioning, reading as reading
 ghost use Rattle.rulebook.specs.Turn.{turn, firstAllows, secondAllows};
 ghost use Rattle.state.specs.Reading.{early, late, recordsLeft};
 ghost use Rattle.moves.specs.Moves.{played, moved};
-ghost use Rattle.dialogue.specs.Events.{keeping, answeredState};
+ghost use Rattle.turns.specs.Keeping.{keeping, answeredState};
 
 pub fn on_select(s: State, a: &[u8], buf: &mut [u8]) -> Step
     ensures { λ r. ⌜ played r (now (buf .exit)) ≡ moved (turn (selecting (early s)) (now (a .entry))) (keeping (selecting (early s)) (now (a .entry)) s) (now (buf .entry)) ⌝ }

@@ -23,11 +23,11 @@ use Rattle.told.specs.Telling.{withRecord}
 use Rattle.readings.proofs.Agreeing.{seen-told}
 use Rattle.state.proofs.Starting.{late-told}
 use Rattle.moves.specs.Moves.{moved}
-use Rattle.dialogue.specs.Events.{keeping}
+use Rattle.turns.specs.Keeping.{keeping}
 use Rattle.moves.proofs.Moving.{late-refused, reason-next}
 use Rattle.answers.proofs.Reasons.{record-small}
-use Rattle.dialogue.proofs.turns.on_record.Statement.{statement}
-use Rattle.dialogue.proofs.turns.on_record.Tie as tie
+use Rattle.turns.proofs.on_record.Statement.{statement}
+use Rattle.turns.proofs.on_record.Tie as tie
 
 returns : tie.Need-returns
 unfolding turn recorded keeping late situationWith

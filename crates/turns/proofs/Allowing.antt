@@ -19,7 +19,7 @@ use Rattle.rulebook.specs.Turn.{answered}
 use Rattle.state.specs.Reading.{situationWith, late}
 use Rattle.state.specs.Keeping.{changed}
 use Rattle.state.specs.declared.State.{State}
-use Rattle.dialogue.specs.Events.{answeredState}
+use Rattle.turns.specs.Keeping.{answeredState}
 
 pub late-answered : (s : State) → late (answeredState s) ≡ answered (late s)
 unfolding late situationWith answeredState changed answered

@@ -15,11 +15,11 @@ use Rattle.rulebook.specs.Phase.{selecting, optioning, asks, situationOf, comma
 use Rattle.rulebook.specs.Turn.{selected, turn}
 use Rattle.state.specs.Reading.{situationWith, early}
 use Rattle.moves.specs.Moves.{awaiting, cursorAsking}
-use Rattle.dialogue.specs.Events.{keeping}
+use Rattle.turns.specs.Keeping.{keeping}
 use Rattle.moves.proofs.Moving.{early-refused, asking-on, reason-next}
 use Rattle.answers.proofs.Reasons.{select-small}
-use Rattle.dialogue.proofs.turns.on_select.Statement.{statement}
-use Rattle.dialogue.proofs.turns.on_select.Tie as tie
+use Rattle.turns.proofs.on_select.Statement.{statement}
+use Rattle.turns.proofs.on_select.Tie as tie
 
 returns : tie.Need-returns
 unfolding turn selected keeping early situationWith

@@ -13,14 +13,14 @@ use Rattle.rulebook.specs.Turn.{answered, byFirst, firstAllows, firstAnswered, 
 use Rattle.state.specs.declared.State.{State}
 use Rattle.state.specs.Reading.{late}
 use Rattle.moves.specs.Moves.{moved}
-use Rattle.dialogue.specs.Events.{answeredState}
+use Rattle.turns.specs.Keeping.{answeredState}
 use Rattle.checks.specs.Results.{tsiAfterFirstAnswer}
 use Rattle.moves.proofs.Moving.{late-refused, reason-next}
-use Rattle.dialogue.proofs.Allowing.{late-answered}
+use Rattle.turns.proofs.Allowing.{late-answered}
 use Rattle.moves.proofs.Bits.{bits-moved}
 use Rattle.answers.proofs.Reasons.{cryptogram-small}
-use Rattle.dialogue.proofs.turns.on_first.Statement.{statement}
-use Rattle.dialogue.proofs.turns.on_first.Tie as tie
+use Rattle.turns.proofs.on_first.Statement.{statement}
+use Rattle.turns.proofs.on_first.Tie as tie
 
 returns : tie.Need-returns
 unfolding turn firstAnswered

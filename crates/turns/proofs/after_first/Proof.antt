@@ -5,9 +5,9 @@ use mathlib.Core.List.{List, [], _∷_}
 use Prim.Native.Nat.{ℕ}
 use borrow.Author.Needs.{needs}
 use Rattle.state.specs.Keeping.{changed}
-use Rattle.dialogue.specs.Events.{answeredState}
-use Rattle.dialogue.proofs.turns.after_first.Statement.{statement}
-use Rattle.dialogue.proofs.turns.after_first.Tie as tie
+use Rattle.turns.specs.Keeping.{answeredState}
+use Rattle.turns.proofs.after_first.Statement.{statement}
+use Rattle.turns.proofs.after_first.Tie as tie
 
 returns : tie.Need-returns
 unfolding answeredState

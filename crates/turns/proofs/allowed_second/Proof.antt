@@ -5,9 +5,9 @@ use borrow.Author.Needs.{needs}
 use Rattle.form_answers.specs.Cryptogram.{allows}
 use Rattle.decide.specs.Requests.{secondAllowed}
 use Rattle.rulebook.specs.Turn.{secondAllows}
-use Rattle.dialogue.proofs.Allowing.{allows-all}
-use Rattle.dialogue.proofs.turns.allowed_second.Statement.{statement}
-use Rattle.dialogue.proofs.turns.allowed_second.Tie as tie
+use Rattle.turns.proofs.Allowing.{allows-all}
+use Rattle.turns.proofs.allowed_second.Statement.{statement}
+use Rattle.turns.proofs.allowed_second.Tie as tie
 
 returns : tie.Need-returns
 unfolding secondAllows

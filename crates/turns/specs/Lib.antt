@@ -1,0 +1,2 @@
+-- What an answer leaves in the state.
+pub mod Keeping
