@@ -8,8 +8,7 @@ use Rattle.heads.specs.Head.{firstByte, constructed, twoBytes, tagSize, tagOf, 
 use Rattle.objects.specs.Objects.{between, firstObject, isSome, before, rightInside, listed, objects}
 use Rattle.objects.specs.Place.{dataField}
 use Rattle.objects.specs.Lookup.{met, lookup}
-use Rattle.lists.specs.Tests.{every}
-use Rattle.lists.specs.Tests.{between as within}
+use Rattle.lists.specs.Tests.{every, between as within}
 use Rattle.values.specs.Shape.{shaped, numeric, formatOf}
 use Rattle.commands.specs.Commands.{recordCommand}
 use Rattle.lists.specs.Tables.{anyOf, beside}

@@ -6,10 +6,9 @@ use Prim.Native.Nat.{ℕ}
 use lib.ListN.{take, drop}
 use Rattle.lists.specs.Choice.{pick, firstOf}
 use Rattle.card_data.specs.Answer.{isOne, inside, frame}
-use Rattle.locator.specs.Entries.{wholeEntries}
+use Rattle.locator.specs.Entries.{wholeEntries, entriesRight, tooMany}
 use Rattle.card_data.specs.Named.{direct, valueOf, anyTwice, anyWrong}
 use Rattle.form_answers.specs.Forms.{template, joined, bothForms, lacks}
-use Rattle.locator.specs.Entries.{entriesRight, tooMany}
 
 abbrev pub optionNames : List ℕ
 optionNames = 0x82 ∷ 0x94 ∷ []

@@ -8,6 +8,7 @@ ghost use Prim.Native.Nat.{_+_, _<_, _≤_};
 ghost use lib.ListN.{length};
 ghost use Rattle.lists.specs.Writing.{laid, put};
 ghost use Rattle.object_writer.specs.Written.{isTag, tagBytes, lengthBytes, fitsTag, written, writeRefusal, refusalOf, sizeOf, sizeWritten, bufferAfter};
+
 // What the writer did: bytes written, or why it did not write.
 pub enum Wrote {
     Bytes(usize),

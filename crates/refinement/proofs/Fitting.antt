@@ -34,8 +34,7 @@ use Rattle.state.specs.Keeping.{withTold, withOptions, changed, stateAt, begun}
 use Rattle.told.specs.Telling.{withRecord}
 use Rattle.state.specs.declared.State.{State}
 use Rattle.state.specs.declared.Phase.{Phase as Kept}
-use Rattle.state.proofs.Starting.{late-told}
-use Rattle.state.proofs.Starting.{early-begun, late-options, left-options}
+use Rattle.state.proofs.Starting.{late-told, early-begun, late-options, left-options}
 use Rattle.moves.specs.Moves.{awaiting, keptAs, cursorAsking, cursorAfter, standing}
 use Rattle.turns.specs.Keeping.{keeping}
 use Rattle.refinement.specs.Agreeing.{forgets, StandsAt}

@@ -16,8 +16,7 @@ use Rattle.objects.specs.Objects.{Object, between, firstObject, before, rightIn
 use Rattle.objects.specs.Place.{dataField}
 use Rattle.objects.specs.Lookup.{Lookup, absent, once, twice, met, lookup}
 use Rattle.card_data.specs.Answer.{sizeBad, only, outer, valueUnder, isOne, inside}
-use Rattle.card_data.specs.Named.{membersIn, among, direct, told, valueOf}
-use Rattle.card_data.specs.Named.{listed as isNamed}
+use Rattle.card_data.specs.Named.{membersIn, among, direct, told, valueOf, listed as isNamed}
 use Rattle.form_answers.specs.Forms.{template, joined}
 use Rattle.form_answers.specs.Options.{profileOf, locatorOf}
 use Rattle.record_answer.specs.Records.{recordTag, recordNames, valueIn, namedIn}

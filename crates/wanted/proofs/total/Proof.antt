@@ -6,8 +6,7 @@ use mathlib.Core.List.{List, []}
 use Prim.Native.Nat.{ℕ, _+_, _-_, _≤_, _<_}
 use lib.ListN.{length, take, drop, getD, length-take, length-drop}
 use Rattle.heads.specs.Head.{tagSize}
-use Rattle.lists.proofs.Cutting.{rest-part}
-use Rattle.lists.proofs.Cutting.{none-left}
+use Rattle.lists.proofs.Cutting.{rest-part, none-left}
 use Rattle.wanted.specs.Wanted.{sizeAt, asks, entriesOf, tally}
 use Rattle.wanted.proofs.Entries.{countedOn, tally-counted, turn-counted, turn-malformed, counted-over, counted-end, entries-empty, entry-fits}
 use native.Mathlib.Omega.{arith}

@@ -8,10 +8,9 @@ use lib.ListN.{length, take, drop, length-take, length-drop}
 use Rattle.heads.specs.Head.{tagSize}
 use Rattle.objects.specs.Objects.{isSome}
 use Rattle.lists.specs.Writing.{put}
-use Rattle.lists.proofs.Cutting.{rest-part}
+use Rattle.lists.proofs.Cutting.{rest-part, none-left}
 use Rattle.lists.proofs.Writing.{put-length, put-nothing}
 use Rattle.terminal.specs.Reading.{readingOf}
-use Rattle.lists.proofs.Cutting.{none-left}
 use Rattle.wanted.specs.Wanted.{sizeAt, entriesOf, totalBy, totalOf}
 use Rattle.object_lists.specs.Filled.{firstBytes, filled, filledBy, filledList}
 use Rattle.wanted.proofs.Entries.{turn-fits, turn-some, turn-total, fillable-some, entries-empty}
