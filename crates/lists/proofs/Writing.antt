@@ -4,13 +4,10 @@
 use mathlib.Core.Path.{_≡_, refl, ap, sym, _∙_}
 use mathlib.Core.List.{List, [], _∷_, _++_, append-assoc}
 use Prim.Native.Nat.{ℕ, _+_, _≤_, _<_, _-_}
-use native.Mathlib.Numerals.{add-one}
 use native.Mathlib.Omega.{arith}
-use lib.Dec.{leb}
-use lib.ListN.{length, take, drop, getD, set, replicate, length-append, length-take, length-drop, length-replicate, take-append-drop}
-use lib.Seq.{length-take-le, take-length, take-append-seam, drop-append-seam, take-append-le, take-at, drop-at, drop-drop, drop-append-le, set-split, drop-append-add, take-suc, take-add, paste, paste-zero, paste-suc}
+use lib.ListN.{length, take, drop, length-append, length-take, length-drop, length-replicate, take-append-drop}
+use lib.Seq.{length-take-le, take-length, take-append-seam, take-at, drop-at, drop-drop, paste}
 use borrow.Author.Tests.{le-leb, lt-leb}
-use Rattle.lists.specs.Choice.{pick}
 use Rattle.lists.specs.Writing.{put, laid, zeros}
 use Rattle.lists.proofs.Choice.{pick-yes, pick-no}
 
@@ -31,13 +28,6 @@ put-nothing p d = take-append-drop p d
 pub put-take : (s : List ℕ) (p : ℕ) (d : List ℕ) → p ≤ length d → take p (put s p d) ≡ take p d
 unfolding put
 put-take s p d h = take-at (take p d) _ p (length-take-le p d h)
-
-pub put-drop : (s : List ℕ) (p : ℕ) (d : List ℕ) → p ≤ length d → drop (p + length s) (put s p d) ≡ drop (p + length s) d
-unfolding put
-put-drop s p d h =
-    sym (drop-drop (length s) p _)
-    ∙ (ap (drop (length s)) (drop-at (take p d) _ p (length-take-le p d h))
-    ∙ (drop-append-seam s _ ∙ drop-drop (length s) p d))
 
 -- the bytes written are what stands there
 pub put-there : (s : List ℕ) (p : ℕ) (d : List ℕ) → p ≤ length d → take (length s) (drop p (put s p d)) ≡ s

@@ -21,7 +21,7 @@ use Rattle.state.specs.declared.Phase.the-variants.{Start, Host}
 use Rattle.moves.specs.Moves.{awaiting}
 use Rattle.kernel.specs.declared.Session.{Session}
 use Rattle.refusals.specs.Waiting.{isOver, awaitsStart, awaitsCard, awaitsHost}
-use Rattle.refusals.specs.Refusals.{firstLines, startRefusal, answerRefusal, silenceRefusal, hostRefusal}
+use Rattle.refusals.specs.Refusals.{firstLines, startRefusal, answerRefusal, hostRefusal}
 
 asked-waits : (w : Asked) → (isOver (awaiting w) ≡ false) × (awaitsCard (awaiting w) ≡ true)
 unfolding awaiting isOver awaitsCard
@@ -51,10 +51,6 @@ module _ (s : Session) (buf : List ℕ) (room : longest ≤ length buf) where
     pub answer-free : (a : List ℕ) → length a ≤ payloadMost → answerRefusal (s .state .phase) a buf ≡ 0
     unfolding answerRefusal
     answer-free a most = first-free _ not-over (line-no refl 4 _ is-due ∙ last-no refl 5 (le-ltb payloadMost (length a) most))
-
-    pub silence-free : silenceRefusal (s .state .phase) buf ≡ 0
-    unfolding silenceRefusal
-    silence-free = first-free _ not-over (last-no refl 4 is-due)
 
   pub host-free : (h : List ℕ) (r : Said·Reply) → s .state .phase ≡ Host → replyOf h ≡ Said r → hostRefusal (s .state .phase) h buf ≡ 0
   unfolding hostRefusal isOver awaitsHost isReply

@@ -66,10 +66,6 @@ pub session-part : (es : List Entry) (n : ℕ) → n < length es → Session es 
 unfolding Lawful
 session-part es n h s = part-begins es n h (inl s)
 
-pub closed-part : (es : List Entry) (n : ℕ) → n < length es → Closed es → Beginning (take n es)
-unfolding Lawful Open
-closed-part es n h c = part-begins es n h (inr (inr c))
-
 pub lawful-part : (es : List Entry) (n : ℕ) → Lawful es → Lawful (take n es)
 lawful-part es n l =
     either (ltb n (length es)) (λ y. begins-lawful (take n es) (part-begins es n (ltb-true n (length es) y) l))

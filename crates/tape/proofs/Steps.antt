@@ -1,6 +1,6 @@
 -- A tape read one block at a time, as a loop over its blocks does it, and the two codes that go before all blocks.
 -- Assumes nothing.
-use mathlib.Core.Path.{_≡_, refl, ap, _∙_}
+use mathlib.Core.Path.{_≡_, ap, _∙_}
 use mathlib.Core.Bool.{not}
 use mathlib.Core.List.{List, [], _∷_}
 use Prim.Native.Nat.{ℕ, suc, _+_, _*_, _/_, _%_, _≤_, _<_}
@@ -11,7 +11,7 @@ use borrow.Author.Tests.{lt-ltb, le-ltb, eq-eqb, ne-eqb}
 use Rattle.lists.proofs.Choice.{pick-yes, pick-no}
 use Rattle.tape.specs.Entries.{blockSize, tapeMost}
 use Rattle.tape.specs.Blocks.{codeOf, entryIn}
-use Rattle.tape.specs.Tapes.{entries, unreadable, preceded, blockAt, cut, blocksOf, readBlocks, readFrom, sessionOf, readTape}
+use Rattle.tape.specs.Tapes.{entries, unreadable, preceded, cut, blocksOf, readBlocks, readFrom, sessionOf, readTape}
 
 -- no whole block is left
 blocks-end : (t : List ℕ) → length t < blockSize → blocksOf t ≡ []
@@ -43,11 +43,7 @@ module _ (n s : ℕ) (rest : List ℕ) where
     unfolding readFrom readBlocks
     read-good good = ap (readBlocks n s) (blocks-more rest more) ∙ pick-yes _ _ _ (eq-eqb _ _ good)
 
--- what is left of a tape from block n on: it begins with that block, and without it is what is left from the next
-pub rest-block : (n : ℕ) (t : List ℕ) → blockAt n t ≡ take blockSize (drop (n * blockSize) t)
-unfolding blockAt
-rest-block n t = refl
-
+-- what is left of a tape from block n on is, without that block, what is left from the next
 pub rest-next : (n : ℕ) (t : List ℕ) → drop blockSize (drop (n * blockSize) t) ≡ drop ((n + 1) * blockSize) t
 rest-next n t =
     let place : n * blockSize + blockSize ≡ (n + 1) * blockSize = omega arith in
