@@ -14,7 +14,6 @@ use Rattle.lists.proofs.Choice.{pick-yes, pick-no, either}
 use Rattle.lists.proofs.Writing.{zeros-length}
 use Rattle.terminal.specs.Reading.{readingOf}
 use Rattle.start.specs.Start.{validStart, terminalOf}
-use Rattle.start.proofs.Laws.{accepted, turned-away}
 use Rattle.tape.specs.Entries.{Entry, entry, start, command, answer, silence, host, decision}
 use Rattle.lists.specs.Tests.{alike}
 use Rattle.lists.proofs.Cutting.{none-left}
@@ -24,7 +23,7 @@ use Rattle.decide.specs.declared.reply.Reply.{Reply}
 use Rattle.decide.specs.declared.reply.Heard.{Heard}
 use Rattle.decide.specs.declared.reply.Heard.the-variants.{Said, Nothing as NoReply}
 use Rattle.rulebook.specs.Situation.{Situation}
-use Rattle.rulebook.specs.Phase.{Asked, Phase, opens, asks, hears, decides, commandOf, decisionOf}
+use Rattle.rulebook.specs.Phase.{issuer, terminal, Asked, Phase, opens, asks, hears, decides, commandOf, decisionOf}
 use Rattle.rulebook.specs.Turn.{opened, turn, heard}
 use Rattle.rulebook.specs.Session.{isPayload}
 use Rattle.rulebook.proofs.Running.{State as Machine, at, owes, done}
@@ -54,9 +53,9 @@ use Rattle.stages.specs.Stages.{saidAt}
 
 -- what the judge expects where the machine stands
 unfoldable pub Expects : Judgement → Machine → Type 0
-Expects j (at opens) = j .stage ≡ Start
+Expects j (at (hears terminal)) = j .stage ≡ Start
 Expects j (at (asks w)) = (n : ℕ) × ((j .stage ≡ Command n) × (take n (j .command) ≡ commandOf w) × StandsAt (j .state) (asks w))
-Expects j (at (hears z)) = (j .stage ≡ Host) × StandsAt (j .state) (hears z)
+Expects j (at (hears (issuer z))) = (j .stage ≡ Host) × StandsAt (j .state) (hears (issuer z))
 Expects j (at (decides outcome reason z)) = (j .stage ≡ Decision) × StandsAt (j .state) (decides outcome reason z)
 Expects j (owes w) = (j .stage ≡ Answer) × StandsAt (j .state) (asks w)
 Expects j done = j .stage ≡ Done
@@ -78,12 +77,12 @@ tracks-begun = record { room = zeros-length 261; tracking = (refl, refl) }
 -- a step of the dialogue is expected to go on as the phase says
 stands-next : (σ : Machine) (e : Entry) (p : Phase) (buf : List ℕ) (m : Moved) → length buf ≡ 261 → Follows σ e p buf m → Expects (moving m) (at p)
 unfolding Expects moving stageOf dueIn
-stands-next σ e opens buf m l f = ap stageOf (f .due)
+stands-next σ e (hears terminal) buf m l f = ap stageOf (f .due)
 stands-next σ e (asks w) buf m l f =
     let most = command-most (m .state) w (f .stands) in
     let fits : length (commandOf w) ≤ length buf = omega arith in
     (length (commandOf w), (ap stageOf (f .due ∙ command-due w buf fits), ap (take (length (commandOf w))) (f .buffer) ∙ command-there w buf fits, f .stands))
-stands-next σ e (hears z) buf m l f = (ap stageOf (f .due), f .stands)
+stands-next σ e (hears (issuer z)) buf m l f = (ap stageOf (f .due), f .stands)
 stands-next σ e (decides outcome reason z) buf m l f = (ap stageOf (f .due), f .stands)
 
 -- on equal judgements and equal progress
@@ -133,11 +132,11 @@ module _ (k : ℕ) (j : Judgement) (kind : ℕ) (p : List ℕ) (ok : isPayload p
       either (validStart p)
       (λ v.
       carried (k + 1) (test-holds kind start (validStart p) (moving (started p (j .command))) (staged (Broken k) j) e v)
-      (no-kind start e (reached (at opens) k) ∙ reads-start k p (readingOf p) ok (accepted p v))
+      (no-kind start e (reached (at opens) k) ∙ reads-start k p ok v)
       (moves (at opens) (entry start p) (opened (readingOf p)) (started p (j .command)) (start-step p (j .command) v ok)))
       (λ v.
       carried (k + 1) (test-fails kind start (validStart p) (moving (started p (j .command))) (staged (Broken k) j) e v)
-      (no-kind start e (reached (at opens) k) ∙ start-invalid k p (turned-away p v))
+      (no-kind start e (reached (at opens) k) ∙ start-invalid k p v)
       breaks))
       (λ n.
       let h = eqb-false kind start n in
@@ -194,21 +193,21 @@ module _ (k : ℕ) (j : Judgement) (kind : ℕ) (p : List ℕ) (ok : isPayload p
       (moves (owes w) (entry answer p) (turn w p) (answered (j .state) p (j .command)) (answer-step (j .state) w p (j .command) s ok)))
       (λ n. carried (k + 1) (sym (pick-no _ _ _ n)) refl (silence-tracks w (eqb-false kind answer n)))
 
-  replies : (z : Situation) → StandsAt (j .state) (hears z) → kind ≡ host → (x : Heard) → replyOf p ≡ x
+  replies : (z : Situation) → StandsAt (j .state) (hears (issuer z)) → kind ≡ host → (x : Heard) → replyOf p ≡ x
       → Tracks (k + 1)
       (pick (eqb kind host) (pick (isReply (replyOf p)) (moving (hostHeard (j .state) p (j .command))) (staged (Broken k) j)) (staged (Broken k) j))
-      (reads (reached (at (hears z)) k) (entry kind p))
+      (reads (reached (at (hears (issuer z))) k) (entry kind p))
   unfolding isReply Agrees
   replies z s e (Said r) x =
       carried (k + 1) (test-holds kind host (isReply (replyOf p)) (moving (hostHeard (j .state) p (j .command))) (staged (Broken k) j) e (ap isReply x))
-      (no-kind host e (reached (at (hears z)) k) ∙ reads-host k z p r ok x)
-      (moves (at (hears z)) (entry host p) (heard z r p) (hostHeard (j .state) p (j .command)) (host-step (j .state) z r p (j .command) s x ok))
+      (no-kind host e (reached (at (hears (issuer z))) k) ∙ reads-host k z p r ok x)
+      (moves (at (hears (issuer z))) (entry host p) (heard z r p) (hostHeard (j .state) p (j .command)) (host-step (j .state) z r p (j .command) s x ok))
   replies z s e NoReply x =
       carried (k + 1) (test-fails kind host (isReply (replyOf p)) (moving (hostHeard (j .state) p (j .command))) (staged (Broken k) j) e (ap isReply x))
-      (no-kind host e (reached (at (hears z)) k) ∙ host-invalid k z p x)
+      (no-kind host e (reached (at (hears (issuer z))) k) ∙ host-invalid k z p x)
       breaks
 
-  host-tracks : (z : Situation) → StandsAt (j .state) (hears z) → Tracks (k + 1) (atHost j k kind p) (reads (reached (at (hears z)) k) (entry kind p))
+  host-tracks : (z : Situation) → StandsAt (j .state) (hears (issuer z)) → Tracks (k + 1) (atHost j k kind p) (reads (reached (at (hears (issuer z))) k) (entry kind p))
   unfolding atHost
   host-tracks z s =
       either (eqb kind host)
@@ -242,16 +241,16 @@ module _ (k : ℕ) (j : Judgement) (kind : ℕ) (p : List ℕ) (ok : isPayload p
 -- every entry
 pub fed-tracks : (k : ℕ) (j : Judgement) (m : Progress) (kind : ℕ) (p : List ℕ) → isPayload p ≡ true → Tracks k j m → Tracks (k + 1) (fed j k kind p) (reads m (entry kind p))
 unfolding fed fedAt Tracking Expects
-fed-tracks k j (reached (at opens) n) kind p ok t =
+fed-tracks k j (reached (at (hears terminal)) n) kind p ok t =
     carried (k + 1) (sym (ap (λ (x : Stage). fedAt x j k kind p) (t .tracking .1))) (ap (λ (q : ℕ). reads (reached (at opens) q) (entry kind p)) (t .tracking .0))
     (start-tracks k j kind p ok (t .room))
 fed-tracks k j (reached (at (asks w)) n) kind p ok t =
     let c = t .tracking .1 in
     carried (k + 1) (sym (ap (λ (x : Stage). fedAt x j k kind p) (c .1 .0))) (ap (λ (q : ℕ). reads (reached (at (asks w)) q) (entry kind p)) (t .tracking .0))
     (command-tracks k j kind p ok (t .room) w (c .0) (c .1 .1) (c .1 .2))
-fed-tracks k j (reached (at (hears z)) n) kind p ok t =
+fed-tracks k j (reached (at (hears (issuer z))) n) kind p ok t =
     let c = t .tracking .1 in
-    carried (k + 1) (sym (ap (λ (x : Stage). fedAt x j k kind p) (c .0))) (ap (λ (q : ℕ). reads (reached (at (hears z)) q) (entry kind p)) (t .tracking .0))
+    carried (k + 1) (sym (ap (λ (x : Stage). fedAt x j k kind p) (c .0))) (ap (λ (q : ℕ). reads (reached (at (hears (issuer z))) q) (entry kind p)) (t .tracking .0))
     (host-tracks k j kind p ok (t .room) z (c .1))
 fed-tracks k j (reached (at (decides outcome reason z)) n) kind p ok t =
     let c = t .tracking .1 in
@@ -274,9 +273,9 @@ fed-tracks k j (broken place) kind p ok t =
 -- what is said at the end
 pub said : (k : ℕ) (j : Judgement) (m : Progress) → Tracks k j m → saidAt (j .stage) k ≡ concluded m
 unfolding saidAt concluded Tracking Expects
-said k j (reached (at opens) n) t = ap (λ (x : Stage). saidAt x k) (t .tracking .1) ∙ ap (λ (q : ℕ). says Inconclusive q 0) (sym (t .tracking .0))
+said k j (reached (at (hears terminal)) n) t = ap (λ (x : Stage). saidAt x k) (t .tracking .1) ∙ ap (λ (q : ℕ). says Inconclusive q 0) (sym (t .tracking .0))
 said k j (reached (at (asks w)) n) t = ap (λ (x : Stage). saidAt x k) (t .tracking .1 .1 .0) ∙ ap (λ (q : ℕ). says Inconclusive q 0) (sym (t .tracking .0))
-said k j (reached (at (hears z)) n) t = ap (λ (x : Stage). saidAt x k) (t .tracking .1 .0) ∙ ap (λ (q : ℕ). says Inconclusive q 0) (sym (t .tracking .0))
+said k j (reached (at (hears (issuer z))) n) t = ap (λ (x : Stage). saidAt x k) (t .tracking .1 .0) ∙ ap (λ (q : ℕ). says Inconclusive q 0) (sym (t .tracking .0))
 said k j (reached (at (decides outcome reason z)) n) t = ap (λ (x : Stage). saidAt x k) (t .tracking .1 .0) ∙ ap (λ (q : ℕ). says Inconclusive q 0) (sym (t .tracking .0))
 said k j (reached (owes w) n) t = ap (λ (x : Stage). saidAt x k) (t .tracking .1 .0) ∙ ap (λ (q : ℕ). says Inconclusive q 0) (sym (t .tracking .0))
 said k j (reached done n) t = ap (λ (x : Stage). saidAt x k) (t .tracking .1) ∙ ap (λ (q : ℕ). says Pass q 0) (sym (t .tracking .0))

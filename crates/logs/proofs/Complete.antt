@@ -17,9 +17,9 @@ use Rattle.lists.proofs.Choice.{either, and-both}
 use Rattle.lists.proofs.Writing.{zeros-length}
 use Rattle.tape.specs.Entries.{Entry, entry, command, decision, payloadMost}
 use Rattle.commands.specs.Commands.{longest}
-use Rattle.rulebook.specs.Phase.{Phase, opens}
+use Rattle.rulebook.specs.Phase.{Heard, terminal, issuer, Phase, opens, dueKind}
 use Rattle.rulebook.proofs.Payloads.{payload-bytes}
-use Rattle.rulebook.specs.Session.{Plays, started, exchanged, told, decided, Session as WholeSession}
+use Rattle.rulebook.specs.Session.{Plays, exchanged, heard, decided, Session as WholeSession}
 use Rattle.rulebook.proofs.Running.{at, done, run, taken, session-run}
 use Rattle.rulebook.proofs.Reading.{run-append}
 use Rattle.rulebook.proofs.Roles.{given, RightKernel}
@@ -29,11 +29,18 @@ use Rattle.logs.proofs.Lawful.{any-calls}
 use Rattle.logs.proofs.Playing.{pending, read-played, session-played}
 
 -- ---- what a session hands in are bytes
+heard-bytes : (buf : List ℕ) (h : Heard) (b : List ℕ) (cs : List Call) → areBytes b ≡ true → allBytes cs ≡ true
+    → allBytes (handing buf (eventIn (entry (dueKind h) b)) cs) ≡ true
+unfolding handing eventIn pick allBytes payloadOf dueKind
+heard-bytes buf terminal b cs x y = and-both (areBytes b) (allBytes cs) x y
+heard-bytes buf (issuer s) b cs x y = and-both (areBytes b) (allBytes cs) x y
+
 plays-bytes : (buf : List ℕ) {p : Phase} {es : List Entry} → Plays p es → allBytes (callsIn buf es) ≡ true
 unfolding callsIn handing eventIn pick allBytes payloadOf
-plays-bytes buf (started {b} {es} f ok rest) = and-both (areBytes b) (allBytes (callsIn buf es)) (payload-bytes b ok) (plays-bytes buf rest)
 plays-bytes buf (exchanged {a} {es} f ok rest) = and-both (areBytes a) (allBytes (callsIn buf es)) (payload-bytes a ok) (plays-bytes buf rest)
-plays-bytes buf (told {p = b} {es} f ok rest) = and-both (areBytes b) (allBytes (callsIn buf es)) (payload-bytes b ok) (plays-bytes buf rest)
+plays-bytes buf (heard {h} {k} {p = b} {es} f fits ok rest) =
+    ap (λ (n : ℕ). allBytes (handing buf (eventIn (entry n b)) (callsIn buf es))) f
+    ∙ heard-bytes buf h b (callsIn buf es) (payload-bytes b ok) (plays-bytes buf rest)
 plays-bytes buf (decided f) = refl
 
 -- ---- the kernel plays every session

@@ -8,7 +8,7 @@ use Prim.Native.Nat.{ℕ}
 use lib.Pow.{areBytes}
 use Rattle.lists.proofs.Choice.{and-left, and-right}
 use Rattle.tape.specs.Entries.{Entry, entry, decision}
-use Rattle.rulebook.specs.Phase.{Asked, selecting, optioning, reading, first, second, Phase, opens, asks, hears, decides}
+use Rattle.rulebook.specs.Phase.{issuer, terminal, Asked, selecting, optioning, reading, first, second, Phase, asks, hears, decides}
 use Rattle.state.specs.Results.{decisionIn}
 use Rattle.state.specs.Keeping.{stateAt, fresh}
 use Rattle.state.specs.declared.Phase.{Phase as Kept}
@@ -48,9 +48,9 @@ module _ (p : Played) (c : Call) where
   by-phase : (q : Phase) → Gives q (c .buffer) (call (p .session) c) → s .state .phase ≡ keptAs q
       → loggedBy (call (p .session) c) (c .event) ≡ entryOf (c .event) ∷ ruled q → Ends s longer
   unfolding Gives keptAs isDecided ruled
-  by-phase opens g k l = absurd g
+  by-phase (hears terminal) g k l = absurd g
   by-phase (asks w) g k l = undecided s longer (awaiting w) k (asked-undecided w)
-  by-phase (hears z) g k l = undecided s longer (keptAs (hears z)) k refl
+  by-phase (hears (issuer z)) g k l = undecided s longer (keptAs (hears (issuer z))) k refl
   by-phase (decides outcome reason z) g k l =
       λ d. (
         p .log ++ (entryOf (c .event) ∷ []),

@@ -12,7 +12,7 @@ use Rattle.terminal.specs.Reading.{Terminal}
 use Rattle.tape.specs.Entries.{Entry, entry, command, decision}
 use Rattle.commands.specs.Commands.{longest}
 use Rattle.rulebook.specs.Situation.{Situation}
-use Rattle.rulebook.specs.Phase.{Asked, Phase, opens, asks, hears, decides, commandOf, decisionOf}
+use Rattle.rulebook.specs.Phase.{issuer, terminal, Asked, Phase, asks, hears, decides, commandOf, decisionOf}
 use Rattle.rulebook.specs.Turn.{opened}
 use Rattle.rulebook.proofs.Running.{State as Machine}
 use Rattle.state.specs.Results.{outcomeOf, reasonOf, decisionIn}
@@ -51,7 +51,7 @@ opened-due room t e = let z : _≡_ {A = ℕ} 0 1 = cc e in omega arith
 module _ (σ : Machine) (e : Entry) (buf : List ℕ) (m : Moved) (room : longest ≤ length buf) where
   pub step-gives : (p : Phase) → Steps σ e p buf m → (dueIn (length buf) p ≡ Nothing → ⊥) → Gives p buf (accepted m)
   unfolding Gives accepted replyTo dueIn bufferIn
-  step-gives opens f h = h refl
+  step-gives (hears terminal) f h = h refl
   step-gives (asks w) f h =
       let most = command-most (m .state) w (f .stands) in
       let fits : length (commandOf w) ≤ length buf = omega arith in (
@@ -59,16 +59,16 @@ module _ (σ : Machine) (e : Entry) (buf : List ℕ) (m : Moved) (room : longest
         ap (take (length (commandOf w))) (f .buffer) ∙ command-there w buf fits,
         ap (drop (length (commandOf w))) (f .buffer) ∙ command-rest w buf fits,
       )
-  step-gives (hears z) f h = (ap replyTo (f .due), f .buffer)
+  step-gives (hears (issuer z)) f h = (ap replyTo (f .due), f .buffer)
   step-gives (decides outcome reason z) f h =
       (ap replyTo (f .due), decision-read (m .state) outcome reason z (f .stands), f .buffer)
 
 -- what is logged is the event, and the command or the decision of the phase
 pub gives-logged : (e : Event) (p : Phase) (buf : List ℕ) (r : Called) → Gives p buf r → loggedBy r e ≡ entryOf e ∷ ruled p
 unfolding Gives loggedBy logged ruled
-gives-logged e opens buf r h = absurd h
+gives-logged e (hears terminal) buf r h = absurd h
 gives-logged e (asks w) buf r h =
     ap (λ (x : Reply). logged x r e) (h .0) ∙ ap (λ (c : List ℕ). entryOf e ∷ entry command c ∷ []) (h .1)
-gives-logged e (hears z) buf r h = ap (λ (x : Reply). logged x r e) (h .0)
+gives-logged e (hears (issuer z)) buf r h = ap (λ (x : Reply). logged x r e) (h .0)
 gives-logged e (decides outcome reason z) buf r h =
     ap (λ (x : Reply). logged x r e) (h .0) ∙ ap (λ (d : List ℕ). entryOf e ∷ entry decision d ∷ []) (h .1)

@@ -10,7 +10,7 @@ use Prim.Native.Nat.{ℕ}
 use native.Mathlib.Omega.{arith}
 use Rattle.lists.proofs.Choice.{either}
 use Rattle.tape.specs.Entries.{Entry}
-use Rattle.rulebook.specs.Phase.{Phase, opens, asks, hears, decides}
+use Rattle.rulebook.specs.Phase.{issuer, terminal, Phase, asks, hears, decides}
 use Rattle.rulebook.specs.Session.{Session as WholeSession, Open, Lawful}
 use Rattle.rulebook.proofs.Running.{done, session-run}
 use Rattle.rulebook.proofs.Reading.{not-closed}
@@ -44,9 +44,9 @@ is-decided Closed e = absurd (false≢true e)
 -- the machine is at its end only after a decision
 decided-there : (s : State) (p : Phase) → StandsAt s p → landing p ≡ done → isDecided (s .phase) ≡ true
 unfolding landing keptAs isDecided
-decided-there s opens h e = absurd (let z : _≡_ {A = ℕ} 0 1 = cc e in omega arith)
+decided-there s (hears terminal) h e = absurd (let z : _≡_ {A = ℕ} 0 1 = cc e in omega arith)
 decided-there s (asks w) h e = absurd (let z : _≡_ {A = ℕ} 0 1 = cc e in omega arith)
-decided-there s (hears z) h e = absurd (let z : _≡_ {A = ℕ} 0 1 = cc e in omega arith)
+decided-there s (hears (issuer z)) h e = absurd (let z : _≡_ {A = ℕ} 0 1 = cc e in omega arith)
 decided-there s (decides outcome reason z) h e = ap isDecided (stands-phase s (decides outcome reason z) h)
 
 module _ (s : Session) (es : List Entry) where

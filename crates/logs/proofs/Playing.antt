@@ -3,7 +3,7 @@
 -- is the log of a kernel session.
 -- Assumes nothing.
 use mathlib.Core.Path.{_≡_, refl, sym, ap, _∙_, subst}
-use mathlib.Core.Bool.{true}
+use mathlib.Core.Bool.{true, false≢true}
 use mathlib.Core.List.{List, [], _∷_, _++_, append-nil, append-assoc}
 use mathlib.Core.Option.{Option, some}
 use Prim.Native.Nat.{ℕ, _≤_}
@@ -14,22 +14,22 @@ use borrow.Author.Tests.{leb-true}
 use Rattle.lists.specs.Choice.{pick}
 use Rattle.lists.proofs.Choice.{either, and-left}
 use Rattle.terminal.specs.Reading.{readingOf}
-use Rattle.start.specs.Start.{terminalOf, validStart}
-use Rattle.start.proofs.Laws.{accepted as valid-read, turned-away}
+use Rattle.start.specs.Start.{validStart}
 use Rattle.tape.specs.Entries.{Entry, entry, start as startKind, command, answer as answerKind, host as hostKind, decision, payloadMost}
 use Rattle.commands.specs.Commands.{longest}
 use Rattle.decide.specs.declared.reply.Reply.{Reply as Said·Reply}
 use Rattle.decide.specs.declared.reply.Heard.{Heard}
 use Rattle.decide.specs.declared.reply.Heard.the-variants.{Said, Nothing as NoReply}
-use Rattle.decide.specs.Replies.{replyOf}
+use Rattle.decide.specs.Replies.{replyOf, isReply}
 use Rattle.rulebook.specs.Situation.{Situation}
-use Rattle.rulebook.specs.Phase.{Asked, Phase, opens, asks, hears, decides, commandOf, decisionOf}
-use Rattle.rulebook.specs.Turn.{opened, turn, heard}
+use Rattle.rulebook.specs.Phase.{issuer, terminal, Asked, Phase, opens, asks, hears, decides, commandOf, dueKind, decisionOf}
+use Rattle.rulebook.specs.Turn.{opened, turn, allowed, heard, after as afterHearing}
 use Rattle.rulebook.proofs.Payloads.{payload-most}
 use Rattle.rulebook.specs.Session.{isPayload, Session as WholeSession}
 use Rattle.lists.specs.Tests.{alike}
 use Rattle.lists.proofs.Comparing.{alike-same}
-use Rattle.rulebook.proofs.Running.{State as Machine, at, owes, done, due, due-entry, due-test, ofTerminal, ofReply, next, run, chosen, taken, no-state, session-run}
+use Rattle.rulebook.proofs.Running.{State as Machine, at, owes, done, due, due-entry, due-test, sayable, said-allowed, said-payload, next, run, chosen, taken, no-state, session-run}
+use Rattle.rulebook.proofs.Named.{after-reply}
 use Rattle.moves.specs.Moves.{Moved, keptAs, dueIn}
 use Rattle.dialogue.specs.Events.{started as startMoved, answered as answerMoved, hostHeard}
 use Rattle.moves.specs.declared.Due.the-variants.{Nothing}
@@ -105,11 +105,11 @@ module _ (buf : List ℕ) (room : longest ≤ length buf) where
       es τ rest log
 
   host-goes : (z : Situation) (b : List ℕ) (r : Said·Reply) (es : List Entry) (τ : Machine) → replyOf b ≡ Said r → isPayload b ≡ true
-      → Goes (at (heard z r b)) es τ → Goes (at (hears z)) (entry hostKind b ∷ es) τ
+      → Goes (at (heard z r b)) es τ → Goes (at (hears (issuer z))) (entry hostKind b ∷ es) τ
   unfolding callsIn handing eventIn pick pending ruled entryOf takenBy refusalOf Agrees keptAs
   host-goes z b r es τ said ok rest s h log =
-      goes-one s (host b) (at (hears z)) (heard z r b) (hostHeard (s .state) b buf)
-      (host-free s buf room b r (stands-phase (s .state) (hears z) h) said) refl (host-step (s .state) z r b buf h said ok) (heard-due (length buf) z r b)
+      goes-one s (host b) (at (hears (issuer z))) (heard z r b) (hostHeard (s .state) b buf)
+      (host-free s buf room b r (stands-phase (s .state) (hears (issuer z)) h) said) refl (host-step (s .state) z r b buf h said ok) (heard-due (length buf) z r b)
       es τ rest log
 
   -- ---- an entry of the kernel's own: it was pending
@@ -141,35 +141,32 @@ module _ (buf : List ℕ) (room : longest ≤ length buf) where
     settled : (σ σ′ : Machine) (o : Option Machine) → o ≡ some σ → o ≡ some σ′ → run es σ ≡ some τ → Goes σ′ es τ
     settled σ σ′ o a b r = let same : some σ ≡ some σ′ = sym a ∙ b in on σ′ (subst (λ (x : Machine). run es x ≡ some τ) (cc same) r)
 
-    by-start : (b : List ℕ) (σ : Machine) → isPayload b ≡ true → ofTerminal (terminalOf b) ≡ some σ → run es σ ≡ some τ
-        → Goes (at opens) (entry startKind b ∷ es) τ
-    unfolding ofTerminal
-    by-start b σ ok h r =
-        either (validStart b)
-        (λ y. start-goes b es τ y ok (settled σ (at (opened (readingOf b))) _ h (ap ofTerminal (valid-read b y)) r))
-        (λ n. no-state σ (sym (ap ofTerminal (turned-away b n)) ∙ h))
-
-    by-reply : (z : Situation) (b : List ℕ) (σ : Machine) (x : Heard) → replyOf b ≡ x → isPayload b ≡ true → ofReply z b x ≡ some σ → run es σ ≡ some τ
-        → Goes (at (hears z)) (entry hostKind b ∷ es) τ
-    unfolding ofReply
-    by-reply z b σ (Said reply) said ok h r = host-goes z b reply es τ said ok (settled σ (at (heard z reply b)) _ h refl r)
-    by-reply z b σ NoReply said ok h r = no-state σ h
+    by-reply : (z : Situation) (b : List ℕ) (σ : Machine) (x : Heard) → replyOf b ≡ x → isPayload b ≡ true → isReply (replyOf b) ≡ true
+        → some (at (afterHearing (issuer z) b)) ≡ some σ → run es σ ≡ some τ → Goes (at (hears (issuer z))) (entry hostKind b ∷ es) τ
+    unfolding isReply
+    by-reply z b σ (Said reply) said ok fits h r =
+        host-goes z b reply es τ said ok (settled σ (at (heard z reply b)) _ h (ap (λ (q : Phase). some (at q)) (after-reply z b reply said)) r)
+    by-reply z b σ NoReply said ok fits h r = absurd (false≢true (sym (ap isReply said) ∙ fits))
 
     by-state : (e : Entry) (σ ρ : Machine) → next σ e ≡ some ρ → run es ρ ≡ some τ → Goes σ (e ∷ es) τ
-    unfolding next
-    by-state e (at opens) ρ h r =
-        let c = chosen (due startKind (isPayload (e .payload)) e) _ ρ h in
+    unfolding next dueKind allowed afterHearing
+    by-state e (at (hears terminal)) ρ h r =
+        let b = e .payload in
+        let c = chosen (due startKind (sayable terminal b) e) (some (at (opened (readingOf b)))) ρ h in
+        let said = due-test startKind _ e (c .0) in
         subst (λ (x : Entry). Goes (at opens) (x ∷ es) τ) (sym (due-entry startKind _ e (c .0)))
-        (by-start (e .payload) ρ (due-test startKind _ e (c .0)) (c .1) r)
+        (start-goes b es τ (said-allowed terminal b said) (said-payload terminal b said) (settled ρ (at (opened (readingOf b))) _ (c .1) refl r))
     by-state e (at (asks w)) ρ h r =
         let c = chosen (due command (alike (e .payload) (commandOf w)) e) (some (owes w)) ρ h in
         let same = alike-same (e .payload) (commandOf w) (due-test command _ e (c .0)) in
         subst (λ (x : Entry). Goes (at (asks w)) (x ∷ es) τ) (sym (due-entry command _ e (c .0) ∙ ap (entry command) same))
         (command-goes w es τ (settled ρ (owes w) _ (c .1) refl r))
-    by-state e (at (hears z)) ρ h r =
-        let c = chosen (due hostKind (isPayload (e .payload)) e) _ ρ h in
-        subst (λ (x : Entry). Goes (at (hears z)) (x ∷ es) τ) (sym (due-entry hostKind _ e (c .0)))
-        (by-reply z (e .payload) ρ (replyOf (e .payload)) refl (due-test hostKind _ e (c .0)) (c .1) r)
+    by-state e (at (hears (issuer z))) ρ h r =
+        let b = e .payload in
+        let c = chosen (due hostKind (sayable (issuer z) b) e) (some (at (afterHearing (issuer z) b))) ρ h in
+        let said = due-test hostKind _ e (c .0) in
+        subst (λ (x : Entry). Goes (at (hears (issuer z))) (x ∷ es) τ) (sym (due-entry hostKind _ e (c .0)))
+        (by-reply z b ρ (replyOf b) refl (said-payload (issuer z) b said) (said-allowed (issuer z) b said) (c .1) r)
     by-state e (at (decides outcome reason z)) ρ h r =
         let c = chosen (due decision (alike (e .payload) (decisionOf outcome reason z)) e) (some done) ρ h in
         let same = alike-same (e .payload) (decisionOf outcome reason z) (due-test decision _ e (c .0)) in

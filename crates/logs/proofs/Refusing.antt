@@ -9,7 +9,7 @@ use native.Mathlib.Omega.{arith}
 use lib.ListN.{length}
 use Rattle.terminal.specs.Reading.{readingOf}
 use Rattle.decide.specs.declared.reply.Heard.{Heard}
-use Rattle.rulebook.specs.Phase.{Asked, Phase, opens, asks, hears, decides}
+use Rattle.rulebook.specs.Phase.{issuer, terminal, Asked, Phase, asks, hears, decides}
 use Rattle.rulebook.specs.Turn.{opened, turn, heard}
 use Rattle.state.specs.Reading.{late}
 use Rattle.state.specs.declared.Phase.{Phase as Kept}
@@ -29,9 +29,9 @@ use Rattle.logs.proofs.Turning.{takenBy, call-taken, call-refused, zero
 -- no phase after an event is answered with a number
 no-number : (p : Phase) (room n : ℕ) → (dueIn room p ≡ Nothing → ⊥) → replyTo (dueIn room p) ≡ Refused n → ⊥
 unfolding replyTo dueIn
-no-number opens room n h e = h refl
+no-number (hears terminal) room n h e = h refl
 no-number (asks w) room n h e = let z : _≡_ {A = ℕ} 0 1 = cc e in omega arith
-no-number (hears z) room n h e = let z : _≡_ {A = ℕ} 0 1 = cc e in omega arith
+no-number (hears (issuer z)) room n h e = let z : _≡_ {A = ℕ} 0 1 = cc e in omega arith
 no-number (decides outcome reason z) room n h e = let z : _≡_ {A = ℕ} 0 1 = cc e in omega arith
 
 module _ (s : Session) (buf : List ℕ) where

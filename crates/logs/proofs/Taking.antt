@@ -19,7 +19,7 @@ use Rattle.commands.specs.Commands.{longest}
 use Rattle.decide.specs.Replies.{replyOf}
 use Rattle.decide.specs.declared.reply.Reply.{Reply as Said·Reply}
 use Rattle.decide.specs.declared.reply.Heard.the-variants.{Said}
-use Rattle.rulebook.specs.Phase.{Phase, opens, asks, hears, tvrOf, tsiOf}
+use Rattle.rulebook.specs.Phase.{issuer, Phase, opens, asks, hears, tvrOf, tsiOf}
 use Rattle.rulebook.specs.Turn.{opened, turn, heard}
 use Rattle.rulebook.proofs.Payloads.{payload}
 use Rattle.rulebook.proofs.Running.{State as Machine, at, owes, run}
@@ -103,7 +103,7 @@ module _ (s : Session) (es : List Entry) (buf : List ℕ) (there : Reached (s .s
       let size = said-length b r (p .1 .1) in
       let w = reached-host (s .state) es there (p .0) in
       record {
-        from = at (hears (late (s .state)));
+        from = at (hears (issuer (late (s .state))));
         read = w .0;
         to = heard (late (s .state)) r b;
         moved = hostHeard (s .state) b buf;

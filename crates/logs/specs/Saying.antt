@@ -8,7 +8,7 @@ use Prim.Native.Nat.{ℕ}
 use lib.ListN.{length, take, drop}
 use Rattle.tape.specs.Entries.{Entry, entry, silence}
 use Rattle.rulebook.specs.Situation.{Situation}
-use Rattle.rulebook.specs.Phase.{Asked, Phase, opens, asks, hears, decides, situationOf, commandOf, decisionOf, tvrOf, tsiOf}
+use Rattle.rulebook.specs.Phase.{issuer, terminal, Asked, Phase, opens, asks, hears, decides, situationOf, commandOf, decisionOf, tvrOf, tsiOf}
 use Rattle.rulebook.specs.Session.{Session as WholeSession, Open}
 use Rattle.rulebook.proofs.Running.{at, owes, run}
 use Rattle.state.specs.Results.{decisionIn}
@@ -30,12 +30,12 @@ pub record Lawfully (s : Session) (log : List Entry) : Type 0 where
 -- what a phase of the rulebook asks of a call that leads to it: the reply, and the command or the decision. The buffer behind the
 -- command stays as it was lent
 unfoldable pub Gives : Phase → List ℕ → Called → Type 0
-Gives opens buf r = ⊥
+Gives (hears terminal) buf r = ⊥
 Gives (asks w) buf r =
     (r .reply ≡ Command (length (commandOf w)))
     × (take (length (commandOf w)) (r .buffer) ≡ commandOf w)
     × (drop (length (commandOf w)) (r .buffer) ≡ drop (length (commandOf w)) buf)
-Gives (hears z) buf r = (r .reply ≡ Host) × (r .buffer ≡ buf)
+Gives (hears (issuer z)) buf r = (r .reply ≡ Host) × (r .buffer ≡ buf)
 Gives (decides outcome reason z) buf r =
     (r .reply ≡ Decided) × (decisionIn (r .session .state) ≡ decisionOf outcome reason z) × (r .buffer ≡ buf)
 

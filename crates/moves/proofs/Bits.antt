@@ -4,7 +4,7 @@ use mathlib.Core.Path.{_≡_, refl, ap}
 use mathlib.Core.List.{List}
 use Prim.Native.Nat.{ℕ}
 use lib.ListN.{length}
-use Rattle.rulebook.specs.Phase.{Asked, selecting, optioning, reading, first, second, Phase, opens, asks, hears, decides, tvrOf, tsiOf}
+use Rattle.rulebook.specs.Phase.{issuer, terminal, Asked, selecting, optioning, reading, first, second, Phase, asks, hears, decides, tvrOf, tsiOf}
 use Rattle.locator.specs.Cursor.{stepped}
 use Rattle.locator.specs.declared.cursor.Cursor.{Cursor}
 use Rattle.told.specs.Runs.{inRun}
@@ -23,9 +23,9 @@ same-asking (second z request code) s t l e = e
 
 same-cursor : (p : Phase) (s t : State) → s .locator ≡ t .locator → s .cursor ≡ t .cursor → cursorAfter p s ≡ cursorAfter p t
 unfolding cursorAfter
-same-cursor opens s t l e = e
+same-cursor (hears terminal) s t l e = e
 same-cursor (asks w) s t l e = same-asking w s t l e
-same-cursor (hears z) s t l e = e
+same-cursor (hears (issuer z)) s t l e = e
 same-cursor (decides outcome reason z) s t l e = e
 
 pub bits-moved : (p : Phase) (phase : Kept) (tvr tsi : List ℕ) (s : State) (buf : List ℕ)

@@ -16,7 +16,7 @@ use Rattle.lists.proofs.Choice.{pick-yes, pick-no}
 use Rattle.commands.specs.Commands.{sizeIn}
 use Rattle.locator.specs.declared.cursor.Cursor.{Cursor}
 use Rattle.rulebook.specs.Situation.{Situation}
-use Rattle.rulebook.specs.Phase.{Asked, Phase, asks, hears, decides, situationOf, commandOf, tvrOf, tsiOf, ended}
+use Rattle.rulebook.specs.Phase.{issuer, Asked, Phase, asks, hears, decides, situationOf, commandOf, tvrOf, tsiOf, ended}
 use Rattle.rulebook.specs.Turn.{goesOn}
 use Rattle.state.specs.Reading.{situationWith, early, late}
 use Rattle.told.specs.Runs.{inRun}
@@ -67,7 +67,7 @@ module _ (s : State) (buf : List ℕ) where
     early-decided = ap (λ (x : Step). played x buf) e
 
   -- to the issuer's reply
-  pub late-hears : {r : Step} → r ≡ waiting Host HostDue s → played r buf ≡ moved (hears (late s)) s buf
+  pub late-hears : {r : Step} → r ≡ waiting Host HostDue s → played r buf ≡ moved (hears (issuer (late s))) s buf
   unfolding played waiting moved standing keptAs cursorAfter dueIn bufferIn tvrOf tsiOf late situationWith
   late-hears e = ap (λ (x : Step). played x buf) e
 

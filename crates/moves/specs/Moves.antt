@@ -8,7 +8,7 @@ use Rattle.lists.specs.Writing.{laid}
 use Rattle.commands.specs.Commands.{sizeIn}
 use Rattle.locator.specs.Cursor.{stepped}
 use Rattle.locator.specs.declared.cursor.Cursor.{Cursor}
-use Rattle.rulebook.specs.Phase.{Asked, selecting, optioning, reading, first, second, Phase, opens, asks, hears, decides, commandOf, tvrOf, tsiOf}
+use Rattle.rulebook.specs.Phase.{issuer, terminal, Asked, selecting, optioning, reading, first, second, Phase, asks, hears, decides, commandOf, tvrOf, tsiOf}
 use Rattle.told.specs.Runs.{inRun}
 use Rattle.state.specs.Keeping.{changed}
 use Rattle.state.specs.declared.State.{State}
@@ -36,9 +36,9 @@ awaiting (first s request) = First request
 awaiting (second s request code) = Second request
 
 unfoldable pub keptAs : Phase → Kept
-keptAs opens = Start
+keptAs (hears terminal) = Start
 keptAs (asks w) = awaiting w
-keptAs (hears s) = Host
+keptAs (hears (issuer s)) = Host
 keptAs (decides outcome reason s) = Decided outcome reason
 
 -- asking for a record takes the place among the records one further
@@ -50,9 +50,9 @@ cursorAsking (first z request) s = s .cursor
 cursorAsking (second z request code) s = s .cursor
 
 unfoldable pub cursorAfter : Phase → State → Cursor
-cursorAfter opens s = s .cursor
+cursorAfter (hears terminal) s = s .cursor
 cursorAfter (asks w) s = cursorAsking w s
-cursorAfter (hears z) s = s .cursor
+cursorAfter (hears (issuer z)) s = s .cursor
 cursorAfter (decides outcome reason z) s = s .cursor
 
 -- the state in which a phase is waited for
@@ -61,15 +61,15 @@ standing p s = changed (keptAs p) (tvrOf p) (tsiOf p) (cursorAfter p s) s
 
 -- a command is written at the start of the buffer, where it fits; nothing else changes the buffer
 unfoldable pub dueIn : ℕ → Phase → Due
-dueIn room opens = Nothing
+dueIn room (hears terminal) = Nothing
 dueIn room (asks w) = Command (sizeIn room (commandOf w))
-dueIn room (hears s) = HostDue
+dueIn room (hears (issuer s)) = HostDue
 dueIn room (decides outcome reason s) = Decision
 
 unfoldable pub bufferIn : Phase → List ℕ → List ℕ
-bufferIn opens buf = buf
+bufferIn (hears terminal) buf = buf
 bufferIn (asks w) buf = laid (commandOf w) 0 buf
-bufferIn (hears s) buf = buf
+bufferIn (hears (issuer s)) buf = buf
 bufferIn (decides outcome reason s) buf = buf
 
 unfoldable pub moved : Phase → State → List ℕ → Moved

@@ -21,7 +21,7 @@ use Rattle.commands.proofs.Sizes.{data-length, data-most}
 use Rattle.commands.proofs.Shapes.{aid-most, select-most, options-most, record-most, cryptogram-most}
 use Rattle.decide.specs.Requests.{p1Of}
 use Rattle.rulebook.specs.Situation.{knownIn, listIn}
-use Rattle.rulebook.specs.Phase.{Asked, selecting, optioning, reading, first, second, Phase, opens, asks, hears, decides, situationOf, commandOf}
+use Rattle.rulebook.specs.Phase.{issuer, terminal, Asked, selecting, optioning, reading, first, second, Phase, asks, hears, decides, situationOf, commandOf}
 use Rattle.state.specs.declared.State.{State}
 use Rattle.moves.specs.declared.Due.the-variants.{Command}
 use Rattle.moves.specs.Moves.{dueIn, bufferIn}
@@ -68,7 +68,7 @@ laid-length c buf =
 
 pub buffer-length : (p : Phase) (buf : List ℕ) → length (bufferIn p buf) ≡ length buf
 unfolding bufferIn
-buffer-length opens buf = refl
+buffer-length (hears terminal) buf = refl
 buffer-length (asks w) buf = laid-length (commandOf w) buf
-buffer-length (hears z) buf = refl
+buffer-length (hears (issuer z)) buf = refl
 buffer-length (decides outcome reason z) buf = refl

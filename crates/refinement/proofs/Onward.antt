@@ -13,16 +13,16 @@ use Rattle.decide.specs.Replies.{codeIn}
 use Rattle.decide.specs.declared.reply.Reply.{Reply}
 use Rattle.decide.specs.declared.reply.Reply.the-variants.{Unable}
 use Rattle.rulebook.specs.Situation.{Situation, listIn}
-use Rattle.rulebook.specs.Phase.{Asked, selecting, optioning, reading, first, second, Phase, opens, asks, hears, decides, decided, ended}
+use Rattle.rulebook.specs.Phase.{issuer, terminal, Asked, selecting, optioning, reading, first, second, Phase, asks, hears, decides, decided, ended}
 use Rattle.rulebook.specs.Turn.{goesOn, selected, requested, allRead, readOn, optioned, recorded, replied, online, byFirst, firstAnswered, secondAnswered, turn, heard}
 use Rattle.moves.specs.declared.Due.the-variants.{Nothing}
 use Rattle.moves.specs.Moves.{dueIn}
 use Rattle.refinement.proofs.Telling.{due-nothing}
 
 isStart : Phase → Bool
-isStart opens = true
+isStart (hears terminal) = true
 isStart (asks w) = false
-isStart (hears z) = false
+isStart (hears (issuer z)) = false
 isStart (decides outcome reason z) = false
 
 abbrev Later : Phase → Type 0

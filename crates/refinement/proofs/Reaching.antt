@@ -6,7 +6,7 @@ use mathlib.Core.List.{List, [], _∷_, _++_}
 use mathlib.Core.Option.{some}
 use Prim.Native.Nat.{ℕ}
 use Rattle.tape.specs.Entries.{Entry}
-use Rattle.rulebook.specs.Phase.{Asked, Phase, opens, asks, hears, decides}
+use Rattle.rulebook.specs.Phase.{issuer, Asked, Phase, opens, asks, hears, decides}
 use Rattle.rulebook.specs.Session.{Session}
 use Rattle.rulebook.proofs.Running.{State as Machine, at, owes, run, run-session}
 use Rattle.state.specs.Reading.{late, askedIn}
@@ -48,11 +48,11 @@ module _ (s : State) (es : List Entry) (reached : Reached s es) where
       let w = there .0 in
       (w, (there .1 .1, (landed (asks w) (there .1 .0), stood (asks w) (there .1 .0))))
 
-  pub reached-host : s .phase ≡ Host → (run es (at opens) ≡ some (at (hears (late s)))) × Agrees s (at (hears (late s)))
+  pub reached-host : s .phase ≡ Host → (run es (at opens) ≡ some (at (hears (issuer (late s))))) × Agrees s (at (hears (issuer (late s))))
   unfolding landing
   reached-host e =
       let there = host-at s (reached .phase) (reached .stands) e in
-      (landed (hears (late s)) there, stood (hears (late s)) there)
+      (landed (hears (issuer (late s))) there, stood (hears (issuer (late s))) there)
 
   -- a state that has decided is one of a finished session
   pub reached-decided : (outcome reason : ℕ) → s .phase ≡ Decided outcome reason → Session es

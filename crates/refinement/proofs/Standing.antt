@@ -9,7 +9,7 @@ use native.Mathlib.Omega.{arith}
 use Rattle.terminal.specs.Reading.{readingOf}
 use Rattle.decide.specs.declared.requests.Cryptogram.{Cryptogram}
 use Rattle.rulebook.specs.Situation.{Situation}
-use Rattle.rulebook.specs.Phase.{Asked, selecting, optioning, reading, first, second, Phase, opens, asks, hears, decides, situationOf, decisionOf, tvrOf, tsiOf}
+use Rattle.rulebook.specs.Phase.{issuer, terminal, Asked, selecting, optioning, reading, first, second, Phase, asks, hears, decides, situationOf, decisionOf, tvrOf, tsiOf}
 use Rattle.rulebook.specs.Turn.{turn}
 use Rattle.state.specs.Reading.{situationWith, early, late, recordsLeft, askedBy, askedIn}
 use Rattle.state.specs.declared.State.{State}
@@ -102,16 +102,16 @@ module _ (s : State) where
 -- TVR and TSI of the state are those of the phase, in every phase
 pub stands-tvr : (s : State) (p : Phase) → StandsAt s p → s .tvr ≡ tvrOf p
 unfolding StandsAt tvrOf late situationWith
-stands-tvr s opens h = h .1
+stands-tvr s (hears terminal) h = h .1
 stands-tvr s (asks w) h = asked-tvr s (forgets w) h ∙ ap (λ (z : Situation). z .tvr) (sym (situation-forgets w))
-stands-tvr s (hears z) h = ap (λ (z : Situation). z .tvr) (h .1)
+stands-tvr s (hears (issuer z)) h = ap (λ (z : Situation). z .tvr) (h .1)
 stands-tvr s (decides outcome reason z) h = h .1
 
 pub stands-tsi : (s : State) (p : Phase) → StandsAt s p → s .tsi ≡ tsiOf p
 unfolding StandsAt tsiOf late situationWith
-stands-tsi s opens h = h .2
+stands-tsi s (hears terminal) h = h .2
 stands-tsi s (asks w) h = asked-tsi s (forgets w) h ∙ ap (λ (z : Situation). z .tsi) (sym (situation-forgets w))
-stands-tsi s (hears z) h = ap (λ (z : Situation). z .tsi) (h .1)
+stands-tsi s (hears (issuer z)) h = ap (λ (z : Situation). z .tsi) (h .1)
 stands-tsi s (decides outcome reason z) h = h .2
 
 -- so the decision is written from the state

@@ -8,17 +8,18 @@ use mathlib.Core.Option.{Option, some}
 use Prim.Native.Nat.{ℕ}
 use Rattle.terminal.specs.Reading.{readingOf}
 use Rattle.start.specs.Start.{validStart}
-use Rattle.start.proofs.Laws.{accepted, start-length}
+use Rattle.start.proofs.Laws.{start-length}
 use Rattle.tape.specs.Entries.{Entry, entry, start, answer, host}
 use Rattle.decide.specs.Replies.{replyOf}
 use Rattle.decide.specs.declared.reply.Reply.{Reply}
 use Rattle.decide.specs.declared.reply.Heard.{Heard}
 use Rattle.decide.specs.declared.reply.Heard.the-variants.{Said}
 use Rattle.rulebook.specs.Situation.{Situation}
-use Rattle.rulebook.specs.Phase.{Asked, Phase, opens, asks, hears, decides}
+use Rattle.rulebook.specs.Phase.{issuer, terminal, Asked, Phase, opens, asks, hears, decides}
 use Rattle.rulebook.specs.Turn.{opened, turn, heard}
 use Rattle.rulebook.specs.Session.{isPayload}
-use Rattle.rulebook.proofs.Running.{State as Machine, at, owes, next, andOn, run, takes-start, takes-command, takes-answer, takes-reply, takes-decision}
+use Rattle.rulebook.proofs.Running.{State as Machine, at, owes, next, andOn, run, takes-command, takes-answer, takes-decision}
+use Rattle.rulebook.proofs.Named.{takes-start, takes-reply}
 use Rattle.rulebook.proofs.Reading.{run-append}
 use Rattle.state.specs.Keeping.{stateAt, fresh, begun}
 use Rattle.state.specs.declared.State.{State}
@@ -34,17 +35,17 @@ use Rattle.refinement.proofs.Fitting.{Fits, turn-fits, heard-fits, star
 -- a state that stands at a phase agrees with the machine once the phase's entry is read
 pub lands-at : (s : State) (p : Phase) → StandsAt s p → Agrees s (landing p)
 unfolding Agrees landing StandsAt
-lands-at s opens h = h
+lands-at s (hears terminal) h = h
 lands-at s (asks w) h = h
-lands-at s (hears z) h = h
+lands-at s (hears (issuer z)) h = h
 lands-at s (decides outcome reason z) h = (outcome, (reason, h .0))
 
 -- the machine reads the phase's own entry
 pub run-logged : (p : Phase) → run (logged p) (at p) ≡ some (landing p)
 unfolding run andOn logged landing
-run-logged opens = refl
+run-logged (hears terminal) = refl
 run-logged (asks w) = ap (andOn (run [])) (takes-command w)
-run-logged (hears z) = refl
+run-logged (hears (issuer z)) = refl
 run-logged (decides outcome reason z) = ap (andOn (run [])) (takes-decision outcome reason z)
 
 -- after an event and what it brings about, wherever the machine stood
@@ -73,7 +74,7 @@ pub start-step : (b buf : List ℕ) → validStart b ≡ true → isPayload b �
     → Follows (at opens) (entry start b) (opened (readingOf b)) buf (started b buf)
 unfolding started
 start-step b buf valid ok =
-    moved-follows (at opens) (entry start b) (opened (readingOf b)) (begun b) buf (takes-start b (readingOf b) (accepted b valid) ok)
+    moved-follows (at opens) (entry start b) (opened (readingOf b)) (begun b) buf (takes-start b valid ok)
     (started-fits b (start-length b valid))
 
 -- ---- an answer of the card's
@@ -94,15 +95,15 @@ module _ (s : State) (w : Asked) (a buf : List ℕ) (agrees : Agrees s (owes w))
   answer-step ok = follows-as (owes w) (entry answer a) (turn w a) (keeping w a s) buf (answered s a buf) answered-moved (takes-answer w a ok) answer-fits
 
 -- ---- the issuer's reply
-module _ (s : State) (z : Situation) (reply : Reply) (h buf : List ℕ) (agrees : Agrees s (at (hears z))) (said : replyOf h ≡ Said reply) where
+module _ (s : State) (z : Situation) (reply : Reply) (h buf : List ℕ) (agrees : Agrees s (at (hears (issuer z)))) (said : replyOf h ≡ Said reply) where
   pub heard-moved : hostHeard s h buf ≡ moved (heard z reply h) s buf
   unfolding hostHeard heardIn heardAs Agrees StandsAt
   heard-moved =
       ap (λ (k : Kept). heardIn k s h buf) (agrees .0)
       ∙ (ap (λ (r : Heard). heardAs r s h buf) said ∙ ap (λ (z : Situation). moved (heard z reply h) s buf) (agrees .1))
 
-  pub host-step : isPayload h ≡ true → Follows (at (hears z)) (entry host h) (heard z reply h) buf (hostHeard s h buf)
+  pub host-step : isPayload h ≡ true → Follows (at (hears (issuer z))) (entry host h) (heard z reply h) buf (hostHeard s h buf)
   unfolding Agrees StandsAt
   host-step ok =
-      follows-as (at (hears z)) (entry host h) (heard z reply h) s buf (hostHeard s h buf) heard-moved (takes-reply z h reply said ok)
+      follows-as (at (hears (issuer z))) (entry host h) (heard z reply h) s buf (hostHeard s h buf) heard-moved (takes-reply z h reply said ok)
       (subst (λ (z : Situation). Fits (heard z reply h) s) (agrees .1) (heard-fits s reply h))

@@ -5,7 +5,7 @@ use mathlib.Core.Option.{some}
 use Prim.Native.Nat.{ℕ}
 use native.Mathlib.Omega.{arith}
 use Rattle.rulebook.specs.Situation.{Situation}
-use Rattle.rulebook.specs.Phase.{Asked, selecting, optioning, reading, first, second, Phase, opens, asks, hears, decides}
+use Rattle.rulebook.specs.Phase.{issuer, terminal, Asked, selecting, optioning, reading, first, second, Phase, opens, asks, hears, decides}
 use Rattle.state.specs.Reading.{late, askedIn}
 use Rattle.state.specs.declared.State.{State}
 use Rattle.state.specs.declared.Phase.{Phase as Kept}
@@ -33,9 +33,9 @@ asked-phase s w e =
 
 pub stands-phase : (s : State) (p : Phase) → StandsAt s p → s .phase ≡ keptAs p
 unfolding StandsAt keptAs
-stands-phase s opens h = h .0
+stands-phase s (hears terminal) h = h .0
 stands-phase s (asks w) h = asked-phase s (forgets w) h ∙ awaiting-forgets w
-stands-phase s (hears z) h = h .0
+stands-phase s (hears (issuer z)) h = h .0
 stands-phase s (decides outcome reason z) h = h .0
 
 -- which event a state waits for, and which a phase
@@ -51,9 +51,9 @@ kind (Decided outcome reason) = 3
 kind Closed = 4
 
 kindAt : Phase → ℕ
-kindAt opens = 0
+kindAt (hears terminal) = 0
 kindAt (asks w) = 1
-kindAt (hears z) = 2
+kindAt (hears (issuer z)) = 2
 kindAt (decides outcome reason z) = 3
 
 awaiting-kind : (w : Asked) → kind (awaiting w) ≡ 1
@@ -66,16 +66,16 @@ awaiting-kind (second z request code) = refl
 
 kept-kind : (p : Phase) → kind (keptAs p) ≡ kindAt p
 unfolding keptAs kind kindAt
-kept-kind opens = refl
+kept-kind (hears terminal) = refl
 kept-kind (asks w) = awaiting-kind w
-kept-kind (hears z) = refl
+kept-kind (hears (issuer z)) = refl
 kept-kind (decides outcome reason z) = refl
 
 no-closed : (p : Phase) → kindAt p ≡ 4 → ⊥
 unfolding kindAt
-no-closed opens e = omega arith
+no-closed (hears terminal) e = omega arith
 no-closed (asks w) e = omega arith
-no-closed (hears z) e = omega arith
+no-closed (hears (issuer z)) e = omega arith
 no-closed (decides outcome reason z) e = omega arith
 
 -- ---- and back
@@ -85,9 +85,9 @@ module _ (s : State) where
 
   pub start-at : (p : Phase) → StandsAt s p → s .phase ≡ Start → p ≡ opens
   unfolding kind kindAt
-  start-at opens h e = refl
+  start-at (hears terminal) h e = refl
   start-at (asks w) h e = absurd (let k = same-kind (asks w) Start h e in omega arith)
-  start-at (hears z) h e = absurd (let k = same-kind (hears z) Start h e in omega arith)
+  start-at (hears (issuer z)) h e = absurd (let k = same-kind (hears (issuer z)) Start h e in omega arith)
   start-at (decides outcome reason z) h e = absurd (let k = same-kind (decides outcome reason z) Start h e in omega arith)
 
   pub asked-at : (p : Phase) (v : Asked) → StandsAt s p → askedIn s ≡ some v → (w : Asked) × ((p ≡ asks w) × (forgets w ≡ v))
@@ -95,23 +95,23 @@ module _ (s : State) where
   asked-at p v h e = by-rule p h (same-kind p (awaiting v) h (asked-phase s v e) ∙ awaiting-kind v)
     where
       by-rule : (q : Phase) → StandsAt s q → kindAt q ≡ 1 → (w : Asked) × ((q ≡ asks w) × (forgets w ≡ v))
-      by-rule opens g k = absurd (omega arith)
+      by-rule (hears terminal) g k = absurd (omega arith)
       by-rule (asks w) g k = let same : some (forgets w) ≡ some v = sym g ∙ e in (w, (refl, cc same))
-      by-rule (hears z) g k = absurd (omega arith)
+      by-rule (hears (issuer z)) g k = absurd (omega arith)
       by-rule (decides outcome reason z) g k = absurd (omega arith)
 
-  pub host-at : (p : Phase) → StandsAt s p → s .phase ≡ Host → p ≡ hears (late s)
+  pub host-at : (p : Phase) → StandsAt s p → s .phase ≡ Host → p ≡ hears (issuer (late s))
   unfolding kind kindAt StandsAt
-  host-at opens h e = absurd (let k = same-kind opens Host h e in omega arith)
+  host-at (hears terminal) h e = absurd (let k = same-kind opens Host h e in omega arith)
   host-at (asks w) h e = absurd (let k = same-kind (asks w) Host h e in omega arith)
-  host-at (hears z) h e = ap hears (sym (h .1))
+  host-at (hears (issuer z)) h e = ap (λ (x : Situation). hears (issuer x)) (sym (h .1))
   host-at (decides outcome reason z) h e = absurd (let k = same-kind (decides outcome reason z) Host h e in omega arith)
 
   pub decided-at : (p : Phase) (outcome reason : ℕ) → StandsAt s p → s .phase ≡ Decided outcome reason → (z : Situation) × (p ≡ decides outcome reason z)
   unfolding kind kindAt StandsAt
-  decided-at opens o r h e = absurd (let k = same-kind opens (Decided o r) h e in omega arith)
+  decided-at (hears terminal) o r h e = absurd (let k = same-kind opens (Decided o r) h e in omega arith)
   decided-at (asks w) o r h e = absurd (let k = same-kind (asks w) (Decided o r) h e in omega arith)
-  decided-at (hears z) o r h e = absurd (let k = same-kind (hears z) (Decided o r) h e in omega arith)
+  decided-at (hears (issuer z)) o r h e = absurd (let k = same-kind (hears (issuer z)) (Decided o r) h e in omega arith)
   decided-at (decides outcome reason z) o r h e =
       let same : Decided outcome reason ≡ Decided o r = sym (h .0) ∙ e in
       let outcomes : outcome ≡ o = cc same in
@@ -127,28 +127,28 @@ module _ (s : State) where
 module _ (room : ℕ) where
   pub due-asks : (p : Phase) (n : ℕ) → dueIn room p ≡ Command n → (w : Asked) × (p ≡ asks w)
   unfolding dueIn
-  due-asks opens n e = absurd (let z : _≡_ {A = ℕ} 0 1 = cc in omega arith)
+  due-asks (hears terminal) n e = absurd (let z : _≡_ {A = ℕ} 0 1 = cc in omega arith)
   due-asks (asks w) n e = (w, refl)
-  due-asks (hears z) n e = absurd (let z : _≡_ {A = ℕ} 0 1 = cc in omega arith)
+  due-asks (hears (issuer z)) n e = absurd (let z : _≡_ {A = ℕ} 0 1 = cc in omega arith)
   due-asks (decides outcome reason z) n e = absurd (let z : _≡_ {A = ℕ} 0 1 = cc in omega arith)
 
-  pub due-hears : (p : Phase) → dueIn room p ≡ HostDue → (z : Situation) × (p ≡ hears z)
+  pub due-hears : (p : Phase) → dueIn room p ≡ HostDue → (z : Situation) × (p ≡ hears (issuer z))
   unfolding dueIn
-  due-hears opens e = absurd (let z : _≡_ {A = ℕ} 0 1 = cc in omega arith)
+  due-hears (hears terminal) e = absurd (let z : _≡_ {A = ℕ} 0 1 = cc in omega arith)
   due-hears (asks w) e = absurd (let z : _≡_ {A = ℕ} 0 1 = cc in omega arith)
-  due-hears (hears z) e = (z, refl)
+  due-hears (hears (issuer z)) e = (z, refl)
   due-hears (decides outcome reason z) e = absurd (let z : _≡_ {A = ℕ} 0 1 = cc in omega arith)
 
   pub due-decides : (p : Phase) → dueIn room p ≡ Decision → (outcome : ℕ) × ((reason : ℕ) × ((z : Situation) × (p ≡ decides outcome reason z)))
   unfolding dueIn
-  due-decides opens e = absurd (let z : _≡_ {A = ℕ} 0 1 = cc in omega arith)
+  due-decides (hears terminal) e = absurd (let z : _≡_ {A = ℕ} 0 1 = cc in omega arith)
   due-decides (asks w) e = absurd (let z : _≡_ {A = ℕ} 0 1 = cc in omega arith)
-  due-decides (hears z) e = absurd (let z : _≡_ {A = ℕ} 0 1 = cc in omega arith)
+  due-decides (hears (issuer z)) e = absurd (let z : _≡_ {A = ℕ} 0 1 = cc in omega arith)
   due-decides (decides outcome reason z) e = (outcome, (reason, (z, refl)))
 
   pub due-nothing : (p : Phase) → dueIn room p ≡ Nothing → p ≡ opens
   unfolding dueIn
-  due-nothing opens e = refl
+  due-nothing (hears terminal) e = refl
   due-nothing (asks w) e = absurd (let z : _≡_ {A = ℕ} 0 1 = cc in omega arith)
-  due-nothing (hears z) e = absurd (let z : _≡_ {A = ℕ} 0 1 = cc in omega arith)
+  due-nothing (hears (issuer z)) e = absurd (let z : _≡_ {A = ℕ} 0 1 = cc in omega arith)
   due-nothing (decides outcome reason z) e = absurd (let z : _≡_ {A = ℕ} 0 1 = cc in omega arith)

@@ -6,7 +6,7 @@ use mathlib.Core.List.{[]}
 use mathlib.Core.Option.{some}
 use Prim.Native.Nat.{ℕ}
 use Rattle.lists.specs.Writing.{zeros}
-use Rattle.rulebook.specs.Phase.{Asked, selecting, optioning, reading, first, second, Phase, opens, asks, hears, decides}
+use Rattle.rulebook.specs.Phase.{issuer, terminal, Asked, selecting, optioning, reading, first, second, Phase, asks, hears, decides}
 use Rattle.rulebook.proofs.Running.{State as Machine, at, owes, done}
 use Rattle.state.specs.Reading.{late, askedIn}
 use Rattle.state.specs.declared.State.{State}
@@ -22,9 +22,9 @@ forgets (second z request code) = second z request []
 
 -- a state that waits for what a phase says, and knows what the phase knows; both TVR and TSI are zeros before START
 unfoldable pub StandsAt : State → Phase → Type 0
-StandsAt s opens = (s .phase ≡ Start) × (s .tvr ≡ zeros 5) × (s .tsi ≡ zeros 2)
+StandsAt s (hears terminal) = (s .phase ≡ Start) × (s .tvr ≡ zeros 5) × (s .tsi ≡ zeros 2)
 StandsAt s (asks w) = askedIn s ≡ some (forgets w)
-StandsAt s (hears z) = (s .phase ≡ Host) × (late s ≡ z)
+StandsAt s (hears (issuer z)) = (s .phase ≡ Host) × (late s ≡ z)
 StandsAt s (decides outcome reason z) = (s .phase ≡ Decided outcome reason) × (s .tvr ≡ z .tvr) × (s .tsi ≡ z .tsi)
 
 -- the same of the machine that reads entries: a state keeps the phase, not whether its command or its decision was read yet

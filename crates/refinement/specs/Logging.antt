@@ -6,7 +6,7 @@ use mathlib.Core.Option.{some}
 use Prim.Native.Nat.{ℕ}
 use lib.ListN.{length}
 use Rattle.tape.specs.Entries.{Entry, entry, command, decision}
-use Rattle.rulebook.specs.Phase.{Phase, opens, asks, hears, decides, commandOf, decisionOf}
+use Rattle.rulebook.specs.Phase.{issuer, terminal, Phase, opens, asks, hears, decides, commandOf, decisionOf}
 use Rattle.rulebook.proofs.Running.{State as Machine, at, owes, done, next, run}
 use Rattle.state.specs.declared.State.{State}
 use Rattle.moves.specs.Moves.{Moved, dueIn, bufferIn}
@@ -14,15 +14,15 @@ use Rattle.refinement.specs.Agreeing.{StandsAt, Agrees}
 
 -- the command or the decision that is due
 unfoldable pub logged : Phase → List Entry
-logged opens = []
+logged (hears terminal) = []
 logged (asks w) = entry command (commandOf w) ∷ []
-logged (hears z) = []
+logged (hears (issuer z)) = []
 logged (decides outcome reason z) = entry decision (decisionOf outcome reason z) ∷ []
 
 unfoldable pub landing : Phase → Machine
-landing opens = at opens
+landing (hears terminal) = at opens
 landing (asks w) = owes w
-landing (hears z) = at (hears z)
+landing (hears (issuer z)) = at (hears (issuer z))
 landing (decides outcome reason z) = done
 
 -- an event takes the machine to a phase; the state left behind stands there, what is due is the phase's, and so is the buffer

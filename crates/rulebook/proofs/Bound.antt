@@ -1,6 +1,6 @@
 -- No session has more entries than 01 says, "The tape": START, two for SELECT, two for GPO, two for each record, two for each
--- GENERATE AC, HOST and DECISION. From each phase on there is a most that can still come, and every exchange takes its two entries
--- off it; the records are at most as many as reason 7 lets pass.
+-- GENERATE AC, HOST and DECISION. From each phase on there is a most that can still come; every exchange takes its two entries
+-- off it, and all that is heard its one; the records are at most as many as reason 7 lets pass.
 -- Assumes nothing.
 use mathlib.Core.Path.{_≡_}
 use mathlib.Core.List.{List, [], _∷_}
@@ -18,30 +18,33 @@ use Rattle.form_answers.specs.Options.{profileOf, locatorOf}
 use Rattle.record_answer.specs.Records.{afterRecords}
 use Rattle.form_answers.specs.Cryptogram.{cryptogramOf}
 use Rattle.answers.proofs.AcceptedAnswers.{options-entries}
-use Rattle.decide.specs.Replies.{codeIn}
+use Rattle.decide.specs.Replies.{codeIn, replyOf}
 use Rattle.decide.specs.declared.reply.Reply.{Reply}
 use Rattle.decide.specs.declared.reply.Reply.the-variants.{Unable}
 use Rattle.rulebook.specs.Situation.{Situation, listIn}
-use Rattle.rulebook.specs.Phase.{Asked, selecting, optioning, reading, first, second, Phase, opens, asks, hears, decides, decided as settled, ended}
-use Rattle.rulebook.specs.Turn.{goesOn, opened, selected, requested, allRead, readOn, withProfile, optioned, withRecord, recorded, answered, replied, online, byFirst, firstAnswered, secondAnswered, turn, heard}
-use Rattle.rulebook.specs.Session.{Plays, started, exchanged, told, decided, Session}
+use Rattle.rulebook.specs.Phase.{Asked, selecting, optioning, reading, first, second, Heard, terminal, issuer, Phase, asks, hears, decides, decided as settled, ended}
+use Rattle.rulebook.specs.Turn.{goesOn, opened, selected, requested, allRead, readOn, withProfile, optioned, withRecord, recorded, answered, replied, online, byFirst, firstAnswered, secondAnswered, replyMade, turn, heard as issuerHeard, after}
+use Rattle.rulebook.specs.Session.{longest, Plays, exchanged, heard, decided, Session}
 
--- the most entries that a session can have
-abbrev pub longest : ℕ
-longest = 11 + 2 * mostRecords
+-- the most that can still come: from the first request on; after the last record
+abbrev fromFirst : ℕ
+fromFirst = 6
 
--- the most that can still come: from a question on, and from a phase on
+abbrev afterLast : ℕ
+afterLast = fromFirst
+
+-- from a question on, and from a phase on
 unfoldable pub afterAsking : Asked → ℕ
-afterAsking (selecting s) = 10 + 2 * mostRecords
-afterAsking (optioning s list) = 8 + 2 * mostRecords
-afterAsking (reading s number file rest) = 8 + 2 * length rest
-afterAsking (first s request) = 6
+afterAsking (selecting s) = 4 + 2 * mostRecords + afterLast
+afterAsking (optioning s list) = 2 + 2 * mostRecords + afterLast
+afterAsking (reading s number file rest) = 2 + 2 * length rest + afterLast
+afterAsking (first s request) = fromFirst
 afterAsking (second s request code) = 3
 
 unfoldable pub toCome : Phase → ℕ
-toCome opens = longest
 toCome (asks w) = afterAsking w
-toCome (hears s) = 4
+toCome (hears terminal) = longest
+toCome (hears (issuer s)) = 4
 toCome (decides outcome reason s) = 1
 
 module _ (s : Situation) where
@@ -55,9 +58,9 @@ module _ (s : Situation) where
   unfolding goesOn ended toCome
   goes-fewer n reason next three h = picked (λ (p : Phase). 2 + toCome p ≤ n) (eqb reason 0) _ _ (λ e. h (eqb-true reason 0 e)) (λ e. three)
 
-  requested-few : (reason : ℕ) → toCome (requested reason s) ≤ 6
+  requested-few : (reason : ℕ) → toCome (requested reason s) ≤ fromFirst
   unfolding requested toCome afterAsking
-  requested-few reason = goes-few 6 reason _ (omega arith) (λ e. omega arith)
+  requested-few reason = goes-few fromFirst reason _ (omega arith) (λ e. omega arith)
 
   replied-few : (reply : Reply) (code : List ℕ) → toCome (replied s reply code) ≤ 3
   unfolding replied ended toCome afterAsking
@@ -74,19 +77,19 @@ module _ (s : Situation) where
       picked (λ (p : Phase). toCome p ≤ 4) (eqb type 1) _ _ (λ e. omega arith) (λ e.
       picked (λ (p : Phase). toCome p ≤ 4) (eqb type 0) _ _ (λ f. omega arith) (λ f. online-few))
 
-all-read-few : (s : Situation) → toCome (allRead s) ≤ 6
+all-read-few : (s : Situation) → toCome (allRead s) ≤ afterLast
 unfolding allRead ended toCome
 all-read-few s =
-    picked (λ (p : Phase). toCome p ≤ 6) (eqb (afterRecords (s .facts)) 8) _ _ (λ e. omega arith) (λ e. requested-few _ (afterRecords (s .facts)))
+    picked (λ (p : Phase). toCome p ≤ afterLast) (eqb (afterRecords (s .facts)) 8) _ _ (λ e. omega arith) (λ e. requested-few _ (afterRecords (s .facts)))
 
--- two for each record that is left, and six after the last
-read-few : (s : Situation) (rest : List (ℕ × ℕ)) → toCome (readOn s rest) ≤ 6 + 2 * length rest
+-- two for each record that is left, and what comes after the last
+read-few : (s : Situation) (rest : List (ℕ × ℕ)) → toCome (readOn s rest) ≤ 2 * length rest + afterLast
 unfolding readOn toCome afterAsking
 read-few s [] = all-read-few s
 read-few s (r ∷ rest) = omega arith
 
 -- an exchange takes its two entries off what can come
-turn-fewer : (w : Asked) (a : List ℕ) → 2 + toCome (turn w a) ≤ toCome (asks w)
+pub turn-fewer : (w : Asked) (a : List ℕ) → 2 + toCome (turn w a) ≤ toCome (asks w)
 unfolding turn toCome afterAsking selected optioned recorded firstAnswered secondAnswered settled
 turn-fewer (selecting s) a = goes-fewer s _ _ _ (omega arith) (λ e. omega arith)
 turn-fewer (optioning s list) a =
@@ -99,15 +102,26 @@ turn-fewer (reading s number file rest) a = goes-fewer s _ _ _ (omega arith) (λ
 turn-fewer (first s request) a = goes-fewer s _ _ _ (omega arith) (λ e. let few = by-first-few (answered s) (cryptogramOf a) in omega arith)
 turn-fewer (second s request code) a = goes-fewer s _ _ _ (omega arith) (λ e. omega arith)
 
+-- and what is heard its one
+pub after-fewer : (h : Heard) (p : List ℕ) → 1 + toCome (after h p) ≤ toCome (hears h)
+unfolding after issuerHeard toCome afterAsking opened
+after-fewer terminal p = omega arith
+after-fewer (issuer s) p = omega (arith, replied-few s (replyMade (replyOf p)) (codeIn p))
+
+-- each phase leaves something to come
+pub some-come : (p : Phase) → 1 ≤ toCome p
+unfolding toCome
+some-come (asks w) = let fewer = turn-fewer w [] in omega arith
+some-come (hears h) = let fewer = after-fewer h [] in omega arith
+some-come (decides outcome reason s) = omega arith
+
 -- no more entries than can come
 plays-few : {p : Phase} {es : List Entry} → Plays p es → length es ≤ toCome p
-unfolding toCome afterAsking opened heard
-plays-few (started {t} f ok play) = let h = plays-few play in omega arith
 plays-few (exchanged {w} {a} f ok play) = let h = plays-few play in let fewer = turn-fewer w a in omega arith
-plays-few (told {s} {p} {r} f ok play) = let h = plays-few play in let few = replied-few s r (codeIn p) in omega arith
-plays-few (decided f) = omega arith
+plays-few (heard {h} {p} f fits ok play) = let few = plays-few play in let fewer = after-fewer h p in omega arith
+plays-few (decided {outcome} {reason} {s} f) = some-come (decides outcome reason s)
 
 -- the bound
-pub session-bound : (es : List Entry) → Session es → length es ≤ 11 + 2 * mostRecords
+pub session-bound : (es : List Entry) → Session es → length es ≤ longest
 unfolding Session toCome
 session-bound es play = plays-few play

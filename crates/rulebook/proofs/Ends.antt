@@ -1,72 +1,37 @@
--- Every phase can be finished, said of the rules as they are: no bytes are too few for any answer, and there is a valid START.
+-- Every phase can be finished: there is something to say for whoever is to speak, any answer will do for the card, and each brings the
+-- end nearer. So an unfinished beginning is never empty talk.
 -- Assumes nothing.
 use mathlib.Core.Path.{_≡_, refl}
-use mathlib.Core.Bool.{Bool, true}
+use mathlib.Core.Bool.{true}
 use mathlib.Core.List.{List, [], _∷_}
-use mathlib.Core.Option.{some}
-use Prim.Native.Nat.{ℕ}
-use Rattle.lists.specs.Choice.{pick, firstOf}
-use Rattle.lists.proofs.Choice.{pick-yes}
-use Rattle.terminal.specs.Reading.{Terminal, readingOf}
-use Rattle.start.specs.Start.{validKind, validDigits, validRandom, validPercentages, validThreshold, validAid, validStart, terminalOf}
-use Rattle.lists.specs.Tests.{every, between}
-use Rattle.decimals.specs.Decimal.{decimalFrom, decimal, decimalByte, digitsOnly, zerosOnly}
-use Rattle.decimals.specs.Dates.{monthAndDay, validStartDate}
-use Rattle.card_data.specs.Answer.{sizeBad, frame}
-use Rattle.select_answer.specs.Select.{selectReason}
-use Rattle.form_answers.specs.Options.{optionsReason}
-use Rattle.record_answer.specs.Records.{recordReason}
-use Rattle.form_answers.specs.Cryptogram.{cryptogramReason}
-use Rattle.rulebook.specs.Phase.{Phase}
-use Rattle.rulebook.specs.Session.{isPayload}
-use Rattle.rulebook.proofs.Finishing.{Finished, finish}
+use Prim.Native.Nat.{ℕ, zero, suc, _≤_}
+use native.Mathlib.Omega.{arith}
+use Rattle.tape.specs.Entries.{Entry, entry, command, answer, decision}
+use Rattle.rulebook.specs.Phase.{Phase, asks, hears, decides, commandOf, dueKind, decisionOf}
+use Rattle.rulebook.specs.Turn.{turn, after}
+use Rattle.rulebook.specs.Session.{isPayload, Plays, exchanged, heard, decided}
+use Rattle.rulebook.proofs.Said.{can-say}
+use Rattle.rulebook.proofs.Bound.{toCome, some-come, turn-fewer, after-fewer}
 
-select-short : (t : Terminal) → selectReason t [] ≡ 1
-unfolding selectReason frame firstOf sizeBad
-select-short t = pick-yes _ _ _ refl
+-- what leads from a phase to the end
+abbrev pub Finished : Phase → Type 0
+Finished p = (es : List Entry) × Plays p es
 
-options-short : optionsReason [] ≡ 1
-unfolding optionsReason frame firstOf sizeBad
-options-short = pick-yes _ _ _ refl
-
-record-short : (before : ℕ → Bool) → recordReason before [] ≡ 1
-unfolding recordReason frame firstOf sizeBad
-record-short before = pick-yes _ _ _ refl
-
-cryptogram-short : (allowed : ℕ → Bool) → cryptogramReason allowed [] ≡ 1
-unfolding cryptogramReason frame firstOf sizeBad
-cryptogram-short allowed = pick-yes _ _ _ refl
-
--- a valid START: type 2, amount 7500, floor limit 10000, threshold 5000, an AID of five bytes
-abbrev pub sample : List ℕ
-sample =
-    2
-    ∷ 0 ∷ 0 ∷ 0 ∷ 0 ∷ 0x75 ∷ 0
-    ∷ 0 ∷ 0 ∷ 0 ∷ 0 ∷ 0 ∷ 0
-    ∷ 0x08 ∷ 0x26 ∷ 0x08 ∷ 0x26
-    ∷ 0x25 ∷ 0x06 ∷ 0x30
-    ∷ 0
-    ∷ 0x11 ∷ 0x22 ∷ 0x33 ∷ 0x44
-    ∷ 0 ∷ 0 ∷ 0 ∷ 1 ∷ 0 ∷ 0
-    ∷ 40 ∷ 10
-    ∷ 0 ∷ 0 ∷ 0 ∷ 0 ∷ 0x50 ∷ 0
-    ∷ 70
-    ∷ 0 ∷ 2
-    ∷ 0 ∷ 0 ∷ 0 ∷ 0 ∷ 0
-    ∷ 0 ∷ 0 ∷ 0 ∷ 0 ∷ 0
-    ∷ 0 ∷ 0 ∷ 0 ∷ 0 ∷ 0
-    ∷ 5
-    ∷ 0xA0 ∷ 0 ∷ 0 ∷ 0 ∷ 3 ∷ 0 ∷ 0 ∷ 0 ∷ 0 ∷ 0 ∷ 0 ∷ 0 ∷ 0 ∷ 0 ∷ 0 ∷ 0
-    ∷ []
-
-sample-valid : terminalOf sample ≡ some (readingOf sample)
-unfolding terminalOf validStart every pick between validKind validDigits digitsOnly decimalByte validStartDate monthAndDay validRandom validPercentages validThreshold validAid zerosOnly readingOf decimal decimalFrom
-sample-valid = refl
-
-sample-payload : isPayload sample ≡ true
+no-bytes : isPayload [] ≡ true
 unfolding isPayload
-sample-payload = refl
+no-bytes = refl
+
+finish : (n : ℕ) (p : Phase) → toCome p ≤ n → Finished p
+finish zero p few = absurd (let h = some-come p in omega arith)
+finish (suc n) (asks w) few =
+    let rest = finish n (turn w []) (let h = turn-fewer w [] in omega arith) in
+    (entry command (commandOf w) ∷ entry answer [] ∷ rest .0, exchanged refl no-bytes (rest .1))
+finish (suc n) (hears h) few =
+    let said = can-say h in
+    let rest = finish n (after h (said .0)) (let f = after-fewer h (said .0) in omega arith) in
+    (entry (dueKind h) (said .0) ∷ rest .0, heard refl (said .1 .0) (said .1 .1) (rest .1))
+finish (suc n) (decides outcome reason s) few = (entry decision (decisionOf outcome reason s) ∷ [], decided refl)
 
 -- from each phase some rest leads to a decision
 pub finishes : (p : Phase) → Finished p
-finishes = finish select-short options-short record-short cryptogram-short sample (readingOf sample) sample-valid sample-payload
+finishes p = finish (toCome p) p (omega arith)

@@ -2,8 +2,10 @@
 -- Assumes nothing.
 use mathlib.Core.Path.{_≡_, refl, sym, ap, _∙_, subst}
 use mathlib.Core.List.{List, [], _∷_}
-use Prim.Native.Nat.{ℕ}
+use Prim.Native.Nat.{ℕ, zero, suc, _+_}
+use native.Mathlib.Numerals.{add-one}
 use lib.Dec.{eqb}
+use lib.ListN.{length, take}
 use Rattle.lists.specs.Writing.{zeros}
 use Rattle.lists.proofs.Choice.{picked}
 use Rattle.objects.specs.Objects.{isSome}
@@ -23,9 +25,9 @@ use Rattle.decide.specs.declared.reply.Reply.the-variants.{Unable}
 use Rattle.checks.proofs.Rows.{joined-self, kept-on}
 use Rattle.checks.proofs.Laws.{tvr-kept, tsi-kept, tsi-kept-on}
 use Rattle.rulebook.specs.Situation.{Situation, begun, cardFacts, issuerCodes, listIn}
-use Rattle.rulebook.specs.Phase.{Asked, selecting, optioning, reading, first, second, Phase, opens, asks, hears, decides, situationOf, decided, ended, terminated, tvrOf, tsiOf}
-use Rattle.rulebook.specs.Turn.{goesOn, opened, selected, managed, requested, allRead, readOn, withProfile, optioned, withRecord, recorded, answered, replied, online, byFirst, firstAllows, secondAllows, firstAnswered, secondAnswered, turn, heard}
-use Rattle.rulebook.specs.Session.{ReadsFrom, here, began, asked, went, listened, closed}
+use Rattle.rulebook.specs.Phase.{Asked, selecting, optioning, reading, first, second, Heard, terminal, issuer, Phase, asks, hears, decides, situationOf, decided, ended, terminated, tvrOf, tsiOf}
+use Rattle.rulebook.specs.Turn.{goesOn, opened, selected, managed, requested, allRead, readOn, withProfile, optioned, withRecord, recorded, answered, replied, online, byFirst, firstAllows, secondAllows, firstAnswered, secondAnswered, turn, heard as issuerHeard, after}
+use Rattle.rulebook.specs.Session.{Plays, exchanged, heard, decided as settled, phasesOf, Reads}
 
 -- every bit that is set in a situation is set in a phase
 pub record Reaches (s : Situation) (q : Phase) : Type 0 where
@@ -46,7 +48,7 @@ module _ (s : Situation) where
   unfolding tvrOf tsiOf
   end-kept outcome reason = record { tvr = joined-self (s .tvr); tsi = joined-self (s .tsi) }
 
-  hears-kept : Reaches s (hears s)
+  hears-kept : Reaches s (hears (issuer s))
   unfolding tvrOf tsiOf
   hears-kept = record { tvr = joined-self (s .tvr); tsi = joined-self (s .tsi) }
 
@@ -109,42 +111,57 @@ turn-kept (first s request) a =
     (through s (answered s) _ (joined-self (s .tvr)) (tsi-kept-on (s .tsi)) (by-first-kept (answered s) (cryptogramOf a)))
 turn-kept (second s request code) a = goes-kept s (cryptogramReason (secondAllows request) a) _ (end-kept s _ 0)
 
--- no step clears a bit: START, an answer, the issuer's reply
+-- no step clears a bit: an answer, and what somebody else says
 pub turn-grows : (w : Asked) (a : List ℕ) → Grows (asks w) (turn w a)
 unfolding tvrOf tsiOf
 turn-grows w a = record { tvr = turn-kept w a .tvr; tsi = turn-kept w a .tsi }
 
-pub heard-grows : (s : Situation) (reply : Reply) (payload : List ℕ) → Grows (hears s) (heard s reply payload)
-unfolding tvrOf tsiOf heard
-heard-grows s reply payload = record { tvr = replied-kept s reply (codeIn payload) .tvr; tsi = replied-kept s reply (codeIn payload) .tsi }
-
-pub opened-grows : (t : Terminal) → Grows opens (opened t)
+pub opened-grows : (t : Terminal) → Grows (hears terminal) (opened t)
 unfolding tvrOf tsiOf opened begun situationOf
 opened-grows t = record { tvr = joined-self (zeros 5); tsi = joined-self (zeros 2) }
+
+pub heard-grows : (s : Situation) (reply : Reply) (payload : List ℕ) → Grows (hears (issuer s)) (issuerHeard s reply payload)
+unfolding tvrOf tsiOf issuerHeard
+heard-grows s reply payload = let reached = replied-kept s reply (codeIn payload) in record { tvr = reached .tvr; tsi = reached .tsi }
+
+pub after-grows : (h : Heard) (p : List ℕ) → Grows (hears h) (after h p)
+unfolding after
+after-grows terminal p = opened-grows _
+after-grows (issuer s) p = heard-grows s _ p
+
+stays : (p : Phase) → Grows p p
+stays p = record { tvr = joined-self (tvrOf p); tsi = joined-self (tsiOf p) }
 
 -- phases in a row, no bit cleared from one to the next
 pub data Growing : List Phase → Type 0 where
   alone : {p : Phase} → Growing (p ∷ [])
   onward : {p q : Phase} {ps : List Phase} → Grows p q → Growing (q ∷ ps) → Growing (p ∷ q ∷ ps)
 
--- a reading passes first the phase that it starts from
-starts : {p : Phase} {es : List Entry} {ps : List Phase} → ReadsFrom p es ps → (qs : List Phase) × (ps ≡ p ∷ qs)
-starts here = ([], refl)
-starts (began {ps} f ok r) = (ps, refl)
-starts (asked f) = ([], refl)
-starts (went {ps} f ok r) = (ps, refl)
-starts (listened {ps} f ok r) = (ps, refl)
-starts (closed f) = ([], refl)
+-- a play passes first the phase that it starts from
+starts : {p : Phase} {es : List Entry} (play : Plays p es) → (qs : List Phase) × (phasesOf play ≡ p ∷ qs)
+unfolding phasesOf
+starts (exchanged f ok play) = (_, refl)
+starts (heard f fits ok play) = (_, refl)
+starts (settled f) = (_, refl)
 
 more : (p q : Phase) (ps : List Phase) → Grows p q → (qs : List Phase) × (ps ≡ q ∷ qs) → Growing ps → Growing (p ∷ ps)
 more p q ps g s h =
     subst (λ (l : List Phase). Growing (p ∷ l)) (sym (s .1)) (onward g (subst Growing (s .1) h))
 
--- along any beginning no bit of the TVR or the TSI is cleared
-pub reading-grows : {p : Phase} {es : List Entry} {ps : List Phase} → ReadsFrom p es ps → Growing ps
-reading-grows here = alone
-reading-grows (began {t} {ps} f ok r) = more opens (opened t) ps (opened-grows t) (starts r) (reading-grows r)
-reading-grows (asked f) = alone
-reading-grows (went {w} {a} {ps} f ok r) = more (asks w) (turn w a) ps (turn-grows w a) (starts r) (reading-grows r)
-reading-grows (listened {s} {p} {r = reply} {ps} f ok r) = more (hears s) (heard s reply p) ps (heard-grows s reply p) (starts r) (reading-grows r)
-reading-grows (closed f) = alone
+phases-grow : {p : Phase} {es : List Entry} (play : Plays p es) → Growing (phasesOf play)
+unfolding phasesOf
+phases-grow (exchanged {w} {a} f ok play) = onward (stays (asks w)) (more (asks w) (turn w a) _ (turn-grows w a) (starts play) (phases-grow play))
+phases-grow (heard {h} {p} f fits ok play) = more (hears h) (after h p) _ (after-grows h p) (starts play) (phases-grow play)
+phases-grow (settled f) = alone
+
+-- what grows does so from its start on
+part-grows : {ps : List Phase} (n : ℕ) → Growing ps → Growing (take (suc n) ps)
+part-grows zero alone = alone
+part-grows (suc n) alone = alone
+part-grows zero (onward g rest) = alone
+part-grows (suc n) (onward g rest) = onward g (part-grows n rest)
+
+-- along any session and any beginning no bit of the TVR or the TSI is cleared
+pub reading-grows : (es : List Entry) (ps : List Phase) → Reads es ps → Growing ps
+unfolding Reads
+reading-grows es ps r = subst Growing (sym (r .1 .1)) (rw add-one (part-grows (length es) (phases-grow (r .1 .0))))

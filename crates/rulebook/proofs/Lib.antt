@@ -1,8 +1,9 @@
 pub mod Single
 pub mod Growing
 pub mod Bound
-pub mod Finishing
+pub mod Said
 pub mod Running
+pub mod Named
 pub mod Reading
 pub mod Sorting
 pub mod Trichotomy

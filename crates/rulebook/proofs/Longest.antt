@@ -3,11 +3,11 @@
 -- Assumes nothing.
 use mathlib.Core.Path.{_≡_, refl}
 use mathlib.Core.List.{List, [], _∷_, _++_}
-use Prim.Native.Nat.{ℕ, zero, suc, _+_, _*_, _-_, _/_}
+use Prim.Native.Nat.{ℕ, zero, suc, _-_, _/_}
 use lib.ListN.{length}
 use Rattle.tape.specs.Entries.{Entry, entry, start, host}
 use Rattle.locator.specs.Entries.{mostRecords}
-use Rattle.rulebook.specs.Session.{Session}
+use Rattle.rulebook.specs.Session.{longest, Session}
 use Rattle.rulebook.proofs.Opening.{reached}
 use Rattle.rulebook.proofs.Made.{startOf, select, selected, options, readOne, recorded, number, firstAsked, secondAsked, given, tc, arqc, decides, exchange, reads}
 
@@ -42,6 +42,6 @@ fullest =
     ++ (exchange (firstAsked tc) (given arqc)
     ++ (entry host (1 ∷ 0x30 ∷ 0x30 ∷ []) ∷ (exchange (secondAsked tc) (given tc) ++ decides 1 0 0x80 0x20))))))))
 
-pub bound-reached : Session fullest × (length fullest ≡ 11 + 2 * mostRecords)
+pub bound-reached : Session fullest × (length fullest ≡ longest)
 unfolding reached
 bound-reached = (reads fullest refl, refl)

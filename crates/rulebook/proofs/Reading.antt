@@ -9,9 +9,10 @@ use Prim.Native.Nat.{ℕ}
 use native.Mathlib.Omega.{arith}
 use lib.Dec.{eqb}
 use Rattle.lists.specs.Choice.{pick}
-use Rattle.tape.specs.Entries.{Entry, entry, start, command, answer, silence, host, decision}
-use Rattle.rulebook.specs.Phase.{Asked, opens, asks, hears, decides}
+use Rattle.tape.specs.Entries.{Entry, entry, command, answer, silence, decision}
+use Rattle.rulebook.specs.Phase.{Asked, opens, asks, hears, decides, dueKind}
 use Rattle.rulebook.specs.Session.{Session, Beginning, AwaitsCard, Closed}
+use Rattle.rulebook.proofs.Said.{other-kinds}
 use Rattle.rulebook.proofs.Running.{State, at, owes, done, due, next, andOn, run, taken, chosen, session-run}
 
 then-twice : (f g h : State → Option State) (o : Option State) → ((σ : State) → f σ ≡ andOn g (h σ)) → andOn f o ≡ andOn g (andOn h o)
@@ -48,9 +49,8 @@ refused-kind k j test p o τ e h = false≢true (sym (other-kind k j test p e) �
 -- only where the card owes an answer is one taken
 answer-owed : (σ τ : State) (a : List ℕ) → next σ (entry answer a) ≡ some τ → (w : Asked) × (σ ≡ owes w)
 unfolding next
-answer-owed (at opens) τ a h = absurd (refused-kind start answer _ a _ τ refl h)
 answer-owed (at (asks w)) τ a h = absurd (refused-kind command answer _ a _ τ refl h)
-answer-owed (at (hears s)) τ a h = absurd (refused-kind host answer _ a _ τ refl h)
+answer-owed (at (hears x)) τ a h = absurd (refused-kind (dueKind x) answer _ a _ τ (other-kinds x .no-answer) h)
 answer-owed (at (decides outcome reason s)) τ a h = absurd (refused-kind decision answer _ a _ τ refl h)
 answer-owed (owes w) τ a h = (w, refl)
 answer-owed done τ a h = absurd (let z : _≡_ {A = ℕ} 0 1 = cc in omega arith)
@@ -58,9 +58,8 @@ answer-owed done τ a h = absurd (let z : _≡_ {A = ℕ} 0 1 = cc in omega arit
 -- a silence is never an entry of a session
 silence-refused : (σ τ : State) (p : List ℕ) → next σ (entry silence p) ≡ some τ → ⊥
 unfolding next
-silence-refused (at opens) τ p h = refused-kind start silence _ p _ τ refl h
 silence-refused (at (asks w)) τ p h = refused-kind command silence _ p _ τ refl h
-silence-refused (at (hears s)) τ p h = refused-kind host silence _ p _ τ refl h
+silence-refused (at (hears x)) τ p h = refused-kind (dueKind x) silence _ p _ τ (other-kinds x .no-silence) h
 silence-refused (at (decides outcome reason s)) τ p h = refused-kind decision silence _ p _ τ refl h
 silence-refused (owes w) τ p h = refused-kind answer silence _ p _ τ refl h
 silence-refused done τ p h = let z : _≡_ {A = ℕ} 0 1 = cc in omega arith

@@ -8,11 +8,12 @@ use mathlib.Core.Logic.{inl, inr, ⊎-elim}
 use mathlib.Core.Option.{Option, none, some}
 use Prim.Native.Nat.{ℕ}
 use lib.Dec.{eqb}
-use Rattle.tape.specs.Entries.{Entry, entry, start, command, answer, host, decision}
-use Rattle.rulebook.specs.Phase.{opens, asks, hears, decides, commandOf, decisionOf}
+use Rattle.tape.specs.Entries.{Entry, entry, command, answer, decision}
+use Rattle.rulebook.specs.Phase.{opens, asks, hears, decides, commandOf, dueKind, decisionOf}
 use Rattle.rulebook.specs.Session.{Session, Open, Lawful, BreaksAt}
 use Rattle.lists.specs.Tests.{alike}
 use Rattle.lists.proofs.Comparing.{alike-same}
+use Rattle.rulebook.proofs.Said.{other-kinds}
 use Rattle.rulebook.proofs.Running.{State, at, owes, done, due, due-entry, due-test, next, run, chosen, taken, no-state, session-run}
 use Rattle.rulebook.proofs.Reading.{run-append}
 use Rattle.rulebook.proofs.Trichotomy.{Sort, finished, unfinished, neither, sorted, one-sort}
@@ -34,15 +35,14 @@ RightKernel k = (es : List Entry) (e : Entry) (rest : List Entry) → Session (e
 
 -- the command or decision that is due in a state; elsewhere any entry
 unfoldable dueIn : State → Entry
-dueIn (at opens) = entry start []
 dueIn (at (asks w)) = entry command (commandOf w)
-dueIn (at (hears s)) = entry host []
+dueIn (at (hears h)) = entry (dueKind h) []
 dueIn (at (decides outcome reason s)) = entry decision (decisionOf outcome reason s)
 dueIn (owes w) = entry answer []
-dueIn done = entry start []
+dueIn done = entry answer []
 
 unfoldable after : Option State → Entry
-after none = entry start []
+after none = entry answer []
 after (some σ) = dueIn σ
 
 not-given : {A : Type 0} (k : ℕ) (test : Bool) (e : Entry) → given (entry k (e .payload)) ≡ false → due k test e ≡ true → given e ≡ true → A
@@ -51,12 +51,13 @@ not-given k test e other d g = absurd (false≢true (sym other ∙ (sym (ap give
 -- whatever is given is what is due
 given-due : (σ τ : State) (e : Entry) → next σ e ≡ some τ → given e ≡ true → dueIn σ ≡ e
 unfolding next dueIn given
-given-due (at opens) τ e h g = not-given start _ e refl (chosen (due start _ e) _ τ h .0) g
 given-due (at (asks w)) τ e h g =
     let d = chosen (due command (alike (e .payload) (commandOf w)) e) _ τ h .0 in
     let same = alike-same (e .payload) (commandOf w) (due-test command _ e d) in
     sym (due-entry command _ e d ∙ ap (entry command) same)
-given-due (at (hears s)) τ e h g = not-given host _ e refl (chosen (due host _ e) _ τ h .0) g
+given-due (at (hears x)) τ e h g =
+    let k = other-kinds x in
+    not-given (dueKind x) _ e (rw (k .no-command, k .no-decision)) (chosen (due (dueKind x) _ e) _ τ h .0) g
 given-due (at (decides outcome reason s)) τ e h g =
     let d = chosen (due decision (alike (e .payload) (decisionOf outcome reason s)) e) _ τ h .0 in
     let same = alike-same (e .payload) (decisionOf outcome reason s) (due-test decision _ e d) in

@@ -11,17 +11,11 @@ use lib.Dec.{eqb}
 use borrow.Author.Tests.{eqb-true, eq-eqb}
 use Rattle.lists.specs.Choice.{pick}
 use Rattle.lists.proofs.Choice.{pick-yes, pick-no, either, and-left, and-right, and-both}
-use Rattle.terminal.specs.Reading.{Terminal}
-use Rattle.start.specs.Start.{terminalOf}
-use Rattle.tape.specs.Entries.{Entry, entry, start, command, answer, host, decision}
-use Rattle.decide.specs.Replies.{replyOf}
-use Rattle.decide.specs.declared.reply.Reply.{Reply}
-use Rattle.decide.specs.declared.reply.Heard.{Heard}
-use Rattle.decide.specs.declared.reply.Heard.the-variants.{Said, Nothing}
+use Rattle.tape.specs.Entries.{Entry, entry, command, answer, decision}
 use Rattle.rulebook.specs.Situation.{Situation}
-use Rattle.rulebook.specs.Phase.{Asked, Phase, opens, asks, hears, decides, commandOf, decisionOf}
-use Rattle.rulebook.specs.Turn.{opened, turn, heard}
-use Rattle.rulebook.specs.Session.{isPayload, Plays, started, exchanged, told, decided, Session}
+use Rattle.rulebook.specs.Phase.{Asked, Heard, Phase, opens, asks, hears, decides, commandOf, dueKind, decisionOf}
+use Rattle.rulebook.specs.Turn.{turn, allowed, after}
+use Rattle.rulebook.specs.Session.{isPayload, Plays, exchanged, heard, decided, Session}
 use Rattle.lists.specs.Tests.{alike}
 use Rattle.lists.proofs.Comparing.{alike-same, same-alike}
 use Rattle.rulebook.proofs.Single.{head-same, tail-same}
@@ -36,19 +30,14 @@ pub data State : Type 0 where
 unfoldable pub due : ℕ → Bool → Entry → Bool
 due kind test e = eqb (e .kind) kind && test
 
-unfoldable pub ofTerminal : Option Terminal → Option State
-ofTerminal none = none
-ofTerminal (some t) = some (at (opened t))
-
-unfoldable pub ofReply : Situation → List ℕ → Heard → Option State
-ofReply s p (Said r) = some (at (heard s r p))
-ofReply s p Nothing = none
+-- what may be said, in a payload that a tape can hold
+unfoldable pub sayable : Heard → List ℕ → Bool
+sayable h p = allowed h p && isPayload p
 
 -- the state after an entry; none where the entry cannot be
 unfoldable pub next : State → Entry → Option State
-next (at opens) e = pick (due start (isPayload (e .payload)) e) (ofTerminal (terminalOf (e .payload))) none
 next (at (asks w)) e = pick (due command (alike (e .payload) (commandOf w)) e) (some (owes w)) none
-next (at (hears s)) e = pick (due host (isPayload (e .payload)) e) (ofReply s (e .payload) (replyOf (e .payload))) none
+next (at (hears h)) e = pick (due (dueKind h) (sayable h (e .payload)) e) (some (at (after h (e .payload)))) none
 next (at (decides outcome reason s)) e = pick (due decision (alike (e .payload) (decisionOf outcome reason s)) e) (some done) none
 next (owes w) e = pick (due answer (isPayload (e .payload)) e) (some (at (turn w (e .payload)))) none
 next done e = none
@@ -79,15 +68,18 @@ no-state σ e = absurd (let z : _≡_ {A = ℕ} 0 1 = cc in omega arith)
 pub chosen : (test : Bool) (o : Option State) (σ : State) → pick test o none ≡ some σ → (test ≡ true) × (o ≡ some σ)
 chosen test o σ h = either test (λ y. (y, sym (pick-yes _ _ _ y) ∙ h)) (λ n. no-state σ (sym (pick-no _ _ _ n) ∙ h))
 
-terminal-state : (o : Option Terminal) (σ : State) → ofTerminal o ≡ some σ → (t : Terminal) × ((o ≡ some t) × (σ ≡ at (opened t)))
-unfolding ofTerminal
-terminal-state none σ h = no-state σ h
-terminal-state (some t) σ h = (t, (refl, cc))
+module _ (h : Heard) (p : List ℕ) where
+  say : allowed h p ≡ true → isPayload p ≡ true → sayable h p ≡ true
+  unfolding sayable
+  say fits ok = and-both (allowed h p) (isPayload p) fits ok
 
-reply-state : (s : Situation) (p : List ℕ) (h : Heard) (σ : State) → ofReply s p h ≡ some σ → (r : Reply) × ((h ≡ Said r) × (σ ≡ at (heard s r p)))
-unfolding ofReply
-reply-state s p (Said r) σ e = (r, (refl, cc))
-reply-state s p Nothing σ e = no-state σ e
+  pub said-allowed : sayable h p ≡ true → allowed h p ≡ true
+  unfolding sayable
+  said-allowed e = and-left (allowed h p) (isPayload p) e
+
+  pub said-payload : sayable h p ≡ true → isPayload p ≡ true
+  unfolding sayable
+  said-payload e = and-right (allowed h p) (isPayload p) e
 
 pub follows-from : (σ τ : State) (es : List Entry) → σ ≡ τ → Follows σ es → Follows τ es
 follows-from σ τ es e h = subst (λ (x : State). Follows x es) e h
@@ -95,21 +87,16 @@ follows-from σ τ es e h = subst (λ (x : State). Follows x es) e h
 -- an entry that can be, and what follows it
 pub step-on : (σ τ : State) (e : Entry) (es : List Entry) → next σ e ≡ some τ → Follows τ es → Follows σ (e ∷ es)
 unfolding next
-step-on (at opens) τ e es h rest =
-    let c = chosen (due start (isPayload (e .payload)) e) (ofTerminal (terminalOf (e .payload))) τ h in
-    let t = terminal-state (terminalOf (e .payload)) τ (c .1) in
-    subst (λ (x : Entry). Plays opens (x ∷ es)) (sym (due-entry start _ e (c .0)))
-    (started (t .1 .0) (due-test start _ e (c .0)) (follows-from τ (at (opened (t .0))) es (t .1 .1) rest))
 step-on (at (asks w)) τ e es h rest =
     let c = chosen (due command (alike (e .payload) (commandOf w)) e) (some (owes w)) τ h in
     let same : e .payload ≡ commandOf w = alike-same (e .payload) (commandOf w) (due-test command _ e (c .0)) in
     subst (λ (x : Entry). Plays (asks w) (x ∷ es)) (sym (due-entry command _ e (c .0) ∙ ap (entry command) same))
     (follows-from τ (owes w) es (cc (c .1)) rest)
-step-on (at (hears s)) τ e es h rest =
-    let c = chosen (due host (isPayload (e .payload)) e) (ofReply s (e .payload) (replyOf (e .payload))) τ h in
-    let r = reply-state s (e .payload) (replyOf (e .payload)) τ (c .1) in
-    subst (λ (x : Entry). Plays (hears s) (x ∷ es)) (sym (due-entry host _ e (c .0)))
-    (told (r .1 .0) (due-test host _ e (c .0)) (follows-from τ (at (heard s (r .0) (e .payload))) es (r .1 .1) rest))
+step-on (at (hears h)) τ e es n rest =
+    let c = chosen (due (dueKind h) (sayable h (e .payload)) e) (some (at (after h (e .payload)))) τ n in
+    let said = due-test (dueKind h) _ e (c .0) in
+    subst (λ (x : Entry). Plays (hears h) (x ∷ es)) (sym (due-entry (dueKind h) _ e (c .0)))
+    (heard refl (said-allowed h _ said) (said-payload h _ said) (follows-from τ (at (after h (e .payload))) es (cc (c .1)) rest))
 step-on (at (decides outcome reason s)) τ e es h rest =
     let c = chosen (due decision (alike (e .payload) (decisionOf outcome reason s)) e) (some done) τ h in
     let same : e .payload ≡ decisionOf outcome reason s = alike-same (e .payload) (decisionOf outcome reason s) (due-test decision _ e (c .0)) in
@@ -123,10 +110,6 @@ step-on (owes w) τ e es h rest =
 step-on done τ e es h rest = no-state τ h
 
 -- how the machine takes an entry that is due
-pub takes-start : (b : List ℕ) (t : Terminal) → terminalOf b ≡ some t → isPayload b ≡ true → next (at opens) (entry start b) ≡ some (at (opened t))
-unfolding next ofTerminal
-takes-start b t f ok = pick-yes _ _ _ (due-yes start _ b ok) ∙ ap ofTerminal f
-
 pub takes-command : (w : Asked) → next (at (asks w)) (entry command (commandOf w)) ≡ some (owes w)
 unfolding next
 takes-command w = pick-yes _ _ _ (due-yes command _ (commandOf w) (same-alike (commandOf w)))
@@ -135,9 +118,9 @@ pub takes-answer : (w : Asked) (a : List ℕ) → isPayload a ≡ true → next 
 unfolding next
 takes-answer w a ok = pick-yes _ _ _ (due-yes answer _ a ok)
 
-pub takes-reply : (s : Situation) (p : List ℕ) (r : Reply) → replyOf p ≡ Said r → isPayload p ≡ true → next (at (hears s)) (entry host p) ≡ some (at (heard s r p))
-unfolding next ofReply
-takes-reply s p r f ok = pick-yes _ _ _ (due-yes host _ p ok) ∙ ap (ofReply s p) f
+pub takes-heard : (h : Heard) (p : List ℕ) → allowed h p ≡ true → isPayload p ≡ true → next (at (hears h)) (entry (dueKind h) p) ≡ some (at (after h p))
+unfolding next
+takes-heard h p fits ok = pick-yes _ _ _ (due-yes (dueKind h) _ p (say h p fits ok))
 
 pub takes-decision : (outcome reason : ℕ) (s : Situation) → next (at (decides outcome reason s)) (entry decision (decisionOf outcome reason s)) ≡ some done
 unfolding next
@@ -152,11 +135,12 @@ led σ τ x e fs es h play same =
     (τ, (ap (next σ) (sym (head-same x e fs es same)) ∙ h, subst (λ (l : List Entry). Follows τ l) (tail-same x e fs es same) play))
 
 from-phase : {p : Phase} {l : List Entry} → Plays p l → (e : Entry) (es : List Entry) → l ≡ e ∷ es → Led (at p) e es
-from-phase (started {b} {t} {es = fs} f ok play) e es h = led (at opens) (at (opened t)) (entry start b) e fs es (takes-start b t f ok) play h
 from-phase (exchanged {w} {c} {a} {es = fs} f ok play) e es h =
     led (at (asks w)) (owes w) (entry command c) e (entry answer a ∷ fs) es
     (ap (λ (x : List ℕ). next (at (asks w)) (entry command x)) f ∙ takes-command w) (exchanged refl ok play) h
-from-phase (told {s} {p} {r} {es = fs} f ok play) e es h = led (at (hears s)) (at (heard s r p)) (entry host p) e fs es (takes-reply s p r f ok) play h
+from-phase (heard {h} {k} {p} {es = fs} f fits ok play) e es same =
+    led (at (hears h)) (at (after h p)) (entry k p) e fs es
+    (ap (λ (x : ℕ). next (at (hears h)) (entry x p)) f ∙ takes-heard h p fits ok) play same
 from-phase (decided {outcome} {reason} {s} {d} f) e es h =
     led (at (decides outcome reason s)) done (entry decision d) e [] es
     (ap (λ (x : List ℕ). next (at (decides outcome reason s)) (entry decision x)) f ∙ takes-decision outcome reason s) refl h
@@ -182,9 +166,8 @@ run (e ∷ es) σ = andOn (run es) (next σ e)
 
 -- nothing is left of a session only at its end
 pub no-play : {p : Phase} {l : List Entry} → Plays p l → l ≡ [] → ⊥
-no-play (started f ok play) h = let z : _≡_ {A = ℕ} 0 1 = cc in omega arith
 no-play (exchanged f ok play) h = let z : _≡_ {A = ℕ} 0 1 = cc in omega arith
-no-play (told f ok play) h = let z : _≡_ {A = ℕ} 0 1 = cc in omega arith
+no-play (heard f fits ok play) h = let z : _≡_ {A = ℕ} 0 1 = cc in omega arith
 no-play (decided f) h = let z : _≡_ {A = ℕ} 0 1 = cc in omega arith
 
 not-alone : {w : Asked} {l : List Entry} → Plays (asks w) l → (c : Entry) → l ≡ c ∷ [] → ⊥

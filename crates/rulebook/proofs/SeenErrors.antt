@@ -9,7 +9,7 @@ use native.Mathlib.Omega.{arith}
 use Rattle.objects.specs.Objects.{isSome}
 use Rattle.tape.specs.Entries.{Entry, entry, start, command, answer, silence, host, decision}
 use Rattle.rulebook.specs.Phase.{Phase}
-use Rattle.rulebook.specs.Session.{Plays, started, exchanged, told, decided, Session, Open, Lawful, BreaksAt}
+use Rattle.rulebook.specs.Session.{Plays, exchanged, heard, decided, Session, Open, Lawful, BreaksAt}
 use Rattle.rulebook.proofs.Trichotomy.{snoc-same}
 use Rattle.rulebook.proofs.Opening.{reached}
 use Rattle.rulebook.proofs.Made.{startWith, startOf, amountOf, select, selected, options, profiled, readOne, recorded, number, firstAsked, given, aac, tc, arqc, decides, exchange, reads, breaks}
@@ -81,10 +81,9 @@ one-more : (x : Entry) (es : List Entry) → EndsDecided es → EndsDecided (x �
 one-more x es d = (x ∷ d .0, (d .1 .0, ap (λ (l : List Entry). x ∷ l) (d .1 .1)))
 
 ends-decided : {p : Phase} {es : List Entry} → Plays p es → EndsDecided es
-ends-decided (started {b} {es} f ok play) = one-more (entry start b) es (ends-decided play)
 ends-decided (exchanged {c} {a} {es} f ok play) =
     one-more (entry command c) (entry answer a ∷ es) (one-more (entry answer a) es (ends-decided play))
-ends-decided (told {p} {es} f ok play) = one-more (entry host p) es (ends-decided play)
+ends-decided (heard {k} {p} {es} f fits ok play) = one-more (entry k p) es (ends-decided play)
 ends-decided (decided {d} f) = ([], (d, refl))
 
 -- the last entry of a session is its decision

@@ -10,7 +10,7 @@ use Rattle.tape.specs.Entries.{Entry, entry, command, answer}
 use Rattle.rulebook.specs.Phase.{Asked, Phase, opens, asks, commandOf}
 use Rattle.rulebook.specs.Turn.{turn}
 use Rattle.rulebook.specs.Session.{isPayload, Session, Beginning, AwaitsCard}
-use Rattle.rulebook.proofs.Finishing.{Finished}
+use Rattle.rulebook.proofs.Ends.{Finished}
 use Rattle.lists.specs.Tests.{alike}
 use Rattle.rulebook.proofs.Running.{State, at, owes, done, due, next, Follows, Led, andOn, run, chosen, at-end, due-entry, no-play, follows-from, step-back, run-session, follows-ends}
 use Rattle.rulebook.proofs.Reading.{run-append}

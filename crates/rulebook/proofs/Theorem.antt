@@ -5,17 +5,15 @@
 -- Assumes nothing.
 use mathlib.Core.Path.{_≡_}
 use mathlib.Core.List.{List, [], _++_}
-use Prim.Native.Nat.{ℕ, _+_, _*_, _≤_}
+use Prim.Native.Nat.{ℕ, _≤_}
 use lib.ListN.{length}
 use Rattle.tape.specs.Entries.{Entry}
-use Rattle.locator.specs.Entries.{mostRecords}
 use Rattle.rulebook.specs.Phase.{Phase, opens}
-use Rattle.rulebook.specs.Session.{Session, Open, Lawful, BreaksAt, Reads}
-use Rattle.rulebook.proofs.Single.{prefix-free, reads-once}
-use Rattle.rulebook.proofs.Finishing.{Finished}
+use Rattle.rulebook.specs.Session.{longest, Session, Beginning, Open, Lawful, BreaksAt, Reads}
+use Rattle.rulebook.proofs.Single.{prefix-free, reads-once, session-reads, beginning-reads, reads-lawful}
 use Rattle.rulebook.proofs.Growing.{Growing, reading-grows}
 use Rattle.rulebook.proofs.Trichotomy.{Sort, sorted, one-sort}
-use Rattle.rulebook.proofs.Ends.{finishes}
+use Rattle.rulebook.proofs.Ends.{Finished, finishes}
 use Rattle.rulebook.proofs.Breaks.{one-break, break-unlawful, break-found}
 use Rattle.rulebook.proofs.Bound.{session-bound}
 use Rattle.rulebook.proofs.Longest.{fullest, bound-reached}
@@ -24,6 +22,9 @@ pub record Rulebook : Type 0 where
   pub inhabited : (es : List Entry) × Session es
   pub no-longer : (es rest : List Entry) → Session es → Session (es ++ rest) → rest ≡ []
   pub one-reading : (es : List Entry) (ps qs : List Phase) → Reads es ps → Reads es qs → ps ≡ qs
+  pub session-read : (es : List Entry) → Session es → (ps : List Phase) × Reads es ps
+  pub beginning-read : (es : List Entry) → Beginning es → (ps : List Phase) × Reads es ps
+  pub read-lawful : (es : List Entry) (ps : List Phase) → Reads es ps → Lawful es
   pub finished : (p : Phase) → Finished p
   pub sort : (es : List Entry) → Sort es
   pub apart : (es : List Entry) → Session es → Open es → ⊥
@@ -31,23 +32,26 @@ pub record Rulebook : Type 0 where
   pub one-place : (es : List Entry) (k m : ℕ) → BreaksAt es k → BreaksAt es m → k ≡ m
   pub no-place : (es : List Entry) (k : ℕ) → BreaksAt es k → Lawful es → ⊥
   pub growing : (es : List Entry) (ps : List Phase) → Reads es ps → Growing ps
-  pub bounded : (es : List Entry) → Session es → length es ≤ 11 + 2 * mostRecords
-  pub bound-met : (es : List Entry) × (Session es × (length es ≡ 11 + 2 * mostRecords))
+  pub bounded : (es : List Entry) → Session es → length es ≤ longest
+  pub bound-met : (es : List Entry) × (Session es × (length es ≡ longest))
 
 pub rulebook : Rulebook
-unfolding Session Reads
+unfolding Session
 rulebook =
     record {
       inhabited = finishes opens;
       no-longer = prefix-free;
       one-reading = reads-once;
+      session-read = session-reads;
+      beginning-read = beginning-reads;
+      read-lawful = reads-lawful;
       finished = finishes;
       sort = sorted finishes;
       apart = one-sort;
       place = break-found;
       one-place = one-break;
       no-place = break-unlawful;
-      growing = λ es ps r. reading-grows r;
+      growing = reading-grows;
       bounded = session-bound;
       bound-met = (fullest, bound-reached);
     }

@@ -12,7 +12,7 @@ use Rattle.lists.proofs.Choice.{either}
 use Rattle.tape.specs.Entries.{Entry, entry, silence}
 use Rattle.rulebook.specs.Phase.{Asked, Phase, opens}
 use Rattle.rulebook.specs.Session.{Session, Beginning, Closed, Open}
-use Rattle.rulebook.proofs.Finishing.{Finished}
+use Rattle.rulebook.proofs.Ends.{Finished}
 use Rattle.rulebook.proofs.Running.{State, at, owes, done, run, no-state, session-run, run-session}
 use Rattle.rulebook.proofs.Reading.{beginning-run, awaits-run, not-both, not-closed}
 use Rattle.rulebook.proofs.Sorting.{run-beginning, run-awaits}

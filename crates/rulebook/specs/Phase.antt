@@ -5,6 +5,7 @@ use mathlib.Core.Option.{Option, none, some}
 use Prim.Native.Nat.{ℕ}
 use Rattle.lists.specs.Writing.{zeros}
 use Rattle.object_lists.specs.Filled.{filling}
+use Rattle.tape.specs.Entries.{start, host}
 use Rattle.commands.specs.Commands.{selectCommand, optionsCommand, recordCommand, cryptogramCommand}
 use Rattle.decide.specs.Requests.{p1Of}
 use Rattle.decide.specs.declared.requests.Cryptogram.{Cryptogram}
@@ -23,15 +24,24 @@ pub data Asked : Type 0 where
   -- the second, beside its response code
   second : Situation → Cryptogram → List ℕ → Asked
 
+-- what somebody other than the card is to say
+pub data Heard : Type 0 where
+  -- START
+  terminal : Heard
+  -- the issuer's reply
+  issuer : Situation → Heard
+
 pub data Phase : Type 0 where
-  -- START is due
-  opens : Phase
   -- a command is due, and then the card's answer
   asks : Asked → Phase
-  -- the issuer's reply is due
-  hears : Situation → Phase
+  -- what somebody else says is due
+  hears : Heard → Phase
   -- the decision is due: its outcome, its reason or 0, and the situation that it was made in
   decides : ℕ → ℕ → Situation → Phase
+
+-- a session opens with START
+abbrev pub opens : Phase
+opens = hears terminal
 
 -- the situation in which something was asked
 unfoldable pub situationOf : Asked → Situation
@@ -48,6 +58,11 @@ commandOf (optioning s list) = optionsCommand (filling (s .terminal) (knownIn s 
 commandOf (reading s number file rest) = recordCommand number file
 commandOf (first s request) = cryptogramCommand (p1Of request) (filling (s .terminal) (knownIn s none) (listIn s 0x8C))
 commandOf (second s request code) = cryptogramCommand (p1Of request) (filling (s .terminal) (knownIn s (some code)) (listIn s 0x8D))
+
+-- the kind of the entry that says it (01, "The tape")
+unfoldable pub dueKind : Heard → ℕ
+dueKind terminal = start
+dueKind (issuer s) = host
 
 -- the outcomes (01, "The tape")
 abbrev pub approved : ℕ
@@ -71,13 +86,13 @@ ended reason s = decides terminated reason s
 
 -- TVR and TSI as they stand in a phase; both are zeros before START
 unfoldable pub tvrOf : Phase → List ℕ
-tvrOf opens = zeros 5
 tvrOf (asks w) = situationOf w .tvr
-tvrOf (hears s) = s .tvr
+tvrOf (hears terminal) = zeros 5
+tvrOf (hears (issuer s)) = s .tvr
 tvrOf (decides outcome reason s) = s .tvr
 
 unfoldable pub tsiOf : Phase → List ℕ
-tsiOf opens = zeros 2
 tsiOf (asks w) = situationOf w .tsi
-tsiOf (hears s) = s .tsi
+tsiOf (hears terminal) = zeros 2
+tsiOf (hears (issuer s)) = s .tsi
 tsiOf (decides outcome reason s) = s .tsi

@@ -1,4 +1,4 @@
--- How a session goes on: after START, after each of the card's answers, and after the issuer's reply. 01, "What the card must
+-- How a session goes on: after each of the card's answers, and after what somebody else says. 01, "What the card must
 -- answer" and "From facts to a decision".
 -- Assumes nothing.
 use mathlib.Core.Bool.{Bool}
@@ -8,7 +8,8 @@ use Prim.Native.Nat.{ℕ, _*_}
 use lib.Dec.{eqb}
 use Rattle.lists.specs.Choice.{pick}
 use Rattle.objects.specs.Objects.{isSome}
-use Rattle.terminal.specs.Reading.{Terminal}
+use Rattle.terminal.specs.Reading.{Terminal, readingOf}
+use Rattle.start.specs.Start.{validStart}
 use Rattle.values.specs.Known.{orElse}
 use Rattle.wanted.specs.Wanted.{fillable}
 use Rattle.select_answer.specs.Select.{selectReason, pdolOf}
@@ -18,12 +19,14 @@ use Rattle.record_answer.specs.Records.{recordReason, namedIn, afterRecords}
 use Rattle.form_answers.specs.Cryptogram.{cryptogramReason, cryptogramOf}
 use Rattle.checks.specs.Results.{tvrAfterRecords, tsiAfterRecords, tsiAfterFirstAnswer}
 use Rattle.decide.specs.Requests.{firstRequest, secondRequest, givenBy, firstAllowed, secondAllowed}
-use Rattle.decide.specs.Replies.{codeIn, responseCode}
+use Rattle.decide.specs.Replies.{codeIn, replyOf, isReply, responseCode}
 use Rattle.decide.specs.declared.requests.Cryptogram.{Cryptogram}
 use Rattle.decide.specs.declared.reply.Reply.{Reply}
 use Rattle.decide.specs.declared.reply.Reply.the-variants.{Unable}
+use Rattle.decide.specs.declared.reply.Heard.{Heard as Reading}
+use Rattle.decide.specs.declared.reply.Heard.the-variants.{Said, Nothing}
 use Rattle.rulebook.specs.Situation.{Situation, Facts, begun, cardFacts, issuerCodes, listIn}
-use Rattle.rulebook.specs.Phase.{Asked, selecting, optioning, reading, first, second, Phase, asks, hears, decided, ended, approved, declined}
+use Rattle.rulebook.specs.Phase.{Asked, selecting, optioning, reading, first, second, Heard, terminal, issuer, Phase, asks, hears, decided, ended, approved, declined}
 
 -- a bad answer ends the session with its reason; otherwise it goes on
 unfoldable pub goesOn : ℕ → Situation → Phase → Phase
@@ -95,7 +98,7 @@ replied s reply code =
 
 -- an ARQC waits for the issuer; a terminal of type 0 goes on as unable
 unfoldable pub online : Situation → Phase
-online s = pick (eqb (s .terminal .kind) 0) (replied s Unable []) (hears s)
+online s = pick (eqb (s .terminal .kind) 0) (replied s Unable []) (hears (issuer s))
 
 -- a TC approves, an AAC declines, an ARQC goes online
 unfoldable pub byFirst : ℕ → Situation → Phase
@@ -124,6 +127,21 @@ turn (reading s number file rest) a = recorded s rest a
 turn (first s request) a = firstAnswered s request a
 turn (second s request code) a = secondAnswered s request a
 
+-- what may be said: a valid START (01, "The tape"); one of the issuer's replies
+unfoldable pub allowed : Heard → List ℕ → Bool
+allowed terminal p = validStart p
+allowed (issuer s) p = isReply (replyOf p)
+
+-- the reply that is made; what is none is not allowed, and counts as unable
+unfoldable pub replyMade : Reading → Reply
+replyMade (Said reply) = reply
+replyMade Nothing = Unable
+
 -- after the issuer's reply
 unfoldable pub heard : Situation → Reply → List ℕ → Phase
 heard s reply payload = replied s reply (codeIn payload)
+
+-- after what somebody else says
+unfoldable pub after : Heard → List ℕ → Phase
+after terminal p = opened (readingOf p)
+after (issuer s) p = heard s (replyMade (replyOf p)) p

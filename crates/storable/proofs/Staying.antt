@@ -36,8 +36,8 @@ use Rattle.decide.specs.declared.reply.Reply.{Reply}
 use Rattle.decide.specs.declared.reply.Reply.the-variants.{Approve, Decline, Unable}
 use Rattle.checks.proofs.Laws.{tvr-length, tvr-bytes, tsi-length, tsi-length-on, tsi-bytes, tsi-bytes-on}
 use Rattle.rulebook.specs.Situation.{Situation, begun, cardFacts, issuerCodes, listIn}
-use Rattle.rulebook.specs.Phase.{Asked, selecting, optioning, reading, first, second, Phase, opens, asks, hears, decides, decided, ended, approved, declined, terminated}
-use Rattle.rulebook.specs.Turn.{goesOn, opened, selected, managed, requested, allRead, readOn, withProfile, optioned, withRecord, recorded, answered, replied, online, byFirst, firstAllows, secondAllows, firstAnswered, secondAnswered, turn, heard}
+use Rattle.rulebook.specs.Phase.{Asked, selecting, optioning, reading, first, second, Heard, terminal, issuer, Phase, asks, hears, decides, decided, ended, approved, declined, terminated}
+use Rattle.rulebook.specs.Turn.{goesOn, opened, selected, managed, requested, allRead, readOn, withProfile, optioned, withRecord, recorded, answered, replied, online, byFirst, firstAllows, secondAllows, firstAnswered, secondAnswered, turn, heard as issuerHeard, after}
 use Rattle.storable.proofs.Values.{profile-bytes, locator-bytes, named-bytes}
 use Rattle.storable.proofs.Filling.{Told, rowsBytes, rows-cons, rows-none, else-bytes}
 use Rattle.storable.proofs.Numbers.{numbersOf, read-numbers}
@@ -71,9 +71,9 @@ Asking (second s request code) = Knows s × (areBytes code ≡ true)
 
 -- and a phase
 abbrev pub Stays : Phase → Type 0
-Stays opens = Unit {0}
 Stays (asks w) = Asking w
-Stays (hears s) = Knows s
+Stays (hears terminal) = Unit {0}
+Stays (hears (issuer s)) = Knows s
 Stays (decides outcome reason s) = Knows s × ((outcome < 256) × (reason < 256))
 
 -- ---- after START
@@ -97,7 +97,7 @@ terminal-bytes b h = record {
   few = aid-most b;
 }
 
-pub opened-stays : (b : List ℕ) → areBytes b ≡ true → Stays (opened (readingOf b))
+opened-stays : (b : List ℕ) → areBytes b ≡ true → Stays (opened (readingOf b))
 unfolding opened begun zeros
 opened-stays b h = record {
   terminal = terminal-bytes b h;
@@ -169,8 +169,8 @@ module _ (s : Situation) (k : Knows s) where
       (λ y. (k, code-bytes reply request code h))
       (λ n. (k, (omega arith, omega arith)))
 
-  pub heard-stays : (reply : Reply) (p : List ℕ) → areBytes p ≡ true → Stays (heard s reply p)
-  unfolding heard codeIn
+  heard-stays : (reply : Reply) (p : List ℕ) → areBytes p ≡ true → Stays (replied s reply (codeIn p))
+  unfolding codeIn
   heard-stays reply p h =
       replied-stays reply (codeIn p) (bytes-cons (getD p 1 0) (getD p 2 0 ∷ []) (bytes-at p h 1) (bytes-cons (getD p 2 0) [] (bytes-at p h 2) refl))
 
@@ -179,7 +179,7 @@ module _ (s : Situation) (k : Knows s) where
   first-stays type =
       picked Stays (eqb type 1) (decides approved 0 s) _ (λ y. (k, (omega arith, omega arith))) (λ n.
       picked Stays (eqb type 0) (decides declined 0 s) _ (λ y. (k, (omega arith, omega arith))) (λ m.
-      picked Stays (eqb (s .terminal .kind) 0) (replied s Unable []) (hears s) (λ y. replied-stays Unable [] refl) (λ l. k)))
+      picked Stays (eqb (s .terminal .kind) 0) (replied s Unable []) (hears (issuer s)) (λ y. replied-stays Unable [] refl) (λ l. k)))
 
 -- ---- the records
 
@@ -191,6 +191,13 @@ read-stays s [] k h =
     (λ y. (k, (omega arith, omega arith)))
     (λ n. goes-stays (managed s) m (afterRecords (s .facts)) _ (after-small (s .facts)) m)
 read-stays s (r ∷ rest) k h = (k, (bytes-head (r .0) (numbersOf rest) h, bytes-rest (r .0) (numbersOf rest) h))
+
+-- ---- whatever somebody else says
+
+pub after-stays : (h : Heard) (p : List ℕ) → Stays (hears h) → areBytes p ≡ true → Stays (after h p)
+unfolding after issuerHeard
+after-stays terminal p k bytes = opened-stays p bytes
+after-stays (issuer s) p k bytes = heard-stays s k _ p bytes
 
 -- ---- whatever the card answers
 

@@ -6,15 +6,12 @@ use mathlib.Core.List.{List, [], _∷_, _++_}
 use mathlib.Core.Logic.{⊎-elim}
 use Prim.Native.Nat.{ℕ}
 use Rattle.lists.proofs.Choice.{and-both}
-use Rattle.terminal.specs.Reading.{Terminal}
-use Rattle.start.proofs.Laws.{handed-over}
-use Rattle.tape.specs.Entries.{Entry, entry, start, command, answer, silence, host, decision, isKind, storable, allStorable}
+use Rattle.tape.specs.Entries.{Entry, entry, command, answer, silence, decision, isKind, storable, allStorable}
 use Rattle.tape.proofs.Roundtrip.{first-storable, rest-storable}
-use Rattle.rulebook.specs.Phase.{Phase}
-use Rattle.rulebook.specs.Turn.{opened}
-use Rattle.rulebook.specs.Session.{isPayload, Plays, started, exchanged, told, decided, Session, Beginning, AwaitsCard, Closed, Open, Lawful}
+use Rattle.rulebook.specs.Phase.{Heard, terminal, issuer, Phase, dueKind}
+use Rattle.rulebook.specs.Session.{isPayload, Plays, exchanged, heard, decided, Session, Beginning, AwaitsCard, Closed, Open, Lawful}
 use Rattle.verdicts.proofs.Stored.{storable-append}
-use Rattle.storable.proofs.Staying.{Stays, opened-stays, heard-stays, turn-stays}
+use Rattle.storable.proofs.Staying.{Stays, after-stays, turn-stays}
 use Rattle.storable.proofs.Payloads.{asked-payload, decision-payload}
 use Rattle.rulebook.proofs.Payloads.{payload-bytes}
 
@@ -23,15 +20,19 @@ stored : (kind : ℕ) (p : List ℕ) (es : List Entry) → isKind kind ≡ true 
 unfolding allStorable storable isPayload
 stored kind p es h k l = and-both _ _ (and-both _ _ h k) l
 
+-- what is heard is of a kind that a tape can hold
+heard-kind : (h : Heard) → isKind (dueKind h) ≡ true
+unfolding isKind dueKind
+heard-kind terminal = refl
+heard-kind (issuer s) = refl
+
 plays-storable : {p : Phase} {es : List Entry} → Plays p es → Stays p → allStorable es ≡ true
 unfolding isKind allStorable
-plays-storable (started {b} {t} {es} f ok play) k =
-    let opening = subst (λ (u : Terminal). Stays (opened u)) (handed-over b t f .1) (opened-stays b (payload-bytes b ok)) in
-    stored start b es refl ok (plays-storable play opening)
 plays-storable (exchanged {w} {c} {a} {es} f ok play) k =
     stored command c (entry answer a ∷ es) refl (ap isPayload f ∙ asked-payload w k)
     (stored answer a es refl ok (plays-storable play (turn-stays w a k (payload-bytes a ok))))
-plays-storable (told {s} {p} {r} {es} f ok play) k = stored host p es refl ok (plays-storable play (heard-stays s k r p (payload-bytes p ok)))
+plays-storable (heard {h} {k = n} {p} {es} f fits ok play) k =
+    stored n p es (ap isKind f ∙ heard-kind h) ok (plays-storable play (after-stays h p k (payload-bytes p ok)))
 plays-storable (decided {outcome} {reason} {s} {d} f) k = stored decision d [] refl (ap isPayload f ∙ decision-payload outcome reason s k) refl
 
 -- ---- sessions

@@ -4,18 +4,17 @@
 use mathlib.Core.Path.{_≡_, refl, sym, ap, _∙_}
 use mathlib.Core.List.{List, [], _∷_, _++_}
 use mathlib.Core.Logic.{inl, inr, ⊎-elim}
-use mathlib.Core.Option.{Option, none, some}
+use mathlib.Core.Option.{none, some}
 use Prim.Native.Nat.{ℕ, _+_}
 use native.Mathlib.Omega.{arith}
 use lib.ListN.{length, length-append}
 use Rattle.lists.proofs.Choice.{pick-no}
-use Rattle.terminal.specs.Reading.{Terminal}
-use Rattle.start.specs.Start.{terminalOf}
 use Rattle.tape.specs.Entries.{Entry, entry, start, command, answer, silence, host, decision}
-use Rattle.rulebook.specs.Phase.{Asked, opens, asks, hears, decides}
-use Rattle.rulebook.specs.Session.{isPayload, Session, Beginning, AwaitsCard, Closed, Open, Lawful}
-use Rattle.rulebook.proofs.Running.{State, at, owes, done, due, ofTerminal, next, run, chosen, taken, no-state, session-run}
-use Rattle.rulebook.proofs.Reading.{run-append, beginning-run, awaits-run}
+use Rattle.rulebook.specs.Phase.{Asked, terminal, opens, asks, hears, decides, dueKind}
+use Rattle.rulebook.specs.Session.{Session, Beginning, AwaitsCard, Closed, Open, Lawful}
+use Rattle.rulebook.proofs.Said.{other-kinds}
+use Rattle.rulebook.proofs.Running.{State, at, owes, done, due, sayable, next, run, chosen, taken, no-state, session-run}
+use Rattle.rulebook.proofs.Reading.{other-kind, run-append, beginning-run, awaits-run}
 use Rattle.rulebook.proofs.Sorting.{run-awaits}
 use Rattle.rulebook.proofs.Ends.{finishes}
 use Rattle.rulebook.proofs.Breaks.{begins-empty, after-session, after-closed}
@@ -34,9 +33,8 @@ closing-silence es a = undecided (inr (es, (a, refl))) (ap (λ (n : ℕ). says I
 
 silence-refused : (σ : State) (p : List ℕ) → next σ (entry silence p) ≡ none
 unfolding next
-silence-refused (at opens) p = pick-no _ _ _ (not-due start silence _ p (λ e. omega arith))
 silence-refused (at (asks w)) p = pick-no _ _ _ (not-due command silence _ p (λ e. omega arith))
-silence-refused (at (hears s)) p = pick-no _ _ _ (not-due host silence _ p (λ e. omega arith))
+silence-refused (at (hears h)) p = pick-no _ _ _ (other-kind (dueKind h) silence _ p (other-kinds h .no-silence))
 silence-refused (at (decides outcome reason s)) p = pick-no _ _ _ (not-due decision silence _ p (λ e. omega arith))
 silence-refused (owes w) p = pick-no _ _ _ (not-due answer silence _ p (λ e. omega arith))
 silence-refused done p = refl
@@ -70,17 +68,14 @@ silence-first p more =
     silence-fails [] p more (inr (inl begins-empty)) (λ e a. let w = awaits-run [] a in let z : _≡_ {A = ℕ} 0 1 = cc (w .1) in omega arith)
 
 -- right after START, before any command
-no-command : (o : Option Terminal) (w : Asked) → ofTerminal o ≡ some (owes w) → ⊥
-unfolding ofTerminal
-no-command none w h = let z : _≡_ {A = ℕ} 0 1 = cc in omega arith
-no-command (some t) w h = let z : _≡_ {A = ℕ} 0 1 = cc in omega arith
-
 start-not-awaited : (b : List ℕ) → AwaitsCard (entry start b ∷ []) → ⊥
 unfolding run next
 start-not-awaited b a =
     let w = awaits-run (entry start b ∷ []) a in
     let t = taken (run []) (next (at opens) (entry start b)) (owes (w .0)) (w .1) in
-    no-command _ (w .0) (chosen (due start (isPayload b) (entry start b)) (ofTerminal (terminalOf b)) (owes (w .0)) (t .1 .0 ∙ t .1 .1) .1)
+    let c = chosen (due (dueKind terminal) (sayable terminal b) (entry start b)) _ (owes (w .0)) (t .1 .0 ∙ t .1 .1) .1 in
+    let z : _≡_ {A = ℕ} 0 1 = cc in
+    omega arith
 
 pub silence-after-start : (b p : List ℕ) (more : List Entry) → Beginning (entry start b ∷ []) → Judges (entry start b ∷ entry silence p ∷ more) (says Fail 1 0)
 unfolding Lawful Open

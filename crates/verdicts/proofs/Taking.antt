@@ -10,20 +10,21 @@ use native.Mathlib.Omega.{arith}
 use lib.Dec.{eqb}
 use borrow.Author.Tests.{ne-eqb}
 use Rattle.lists.specs.Choice.{pick}
-use Rattle.lists.proofs.Choice.{pick-yes, pick-no, pick-same, either, and-both}
-use Rattle.terminal.specs.Reading.{Terminal}
-use Rattle.start.specs.Start.{terminalOf}
-use Rattle.tape.specs.Entries.{Entry, entry, start, command, answer, silence, host, decision}
-use Rattle.decide.specs.Replies.{replyOf}
+use Rattle.lists.proofs.Choice.{pick-yes, pick-no, either, and-both}
+use Rattle.terminal.specs.Reading.{readingOf}
+use Rattle.start.specs.Start.{validStart}
+use Rattle.decide.specs.Replies.{replyOf, isReply}
 use Rattle.decide.specs.declared.reply.Reply.{Reply}
 use Rattle.decide.specs.declared.reply.Heard.the-variants.{Said, Nothing}
+use Rattle.tape.specs.Entries.{Entry, entry, start, command, answer, silence, host, decision}
 use Rattle.rulebook.specs.Situation.{Situation}
-use Rattle.rulebook.specs.Phase.{Asked, opens, asks, hears, decides, commandOf, decisionOf}
-use Rattle.rulebook.specs.Turn.{opened, turn, heard}
+use Rattle.rulebook.specs.Phase.{Asked, Heard, terminal, issuer, opens, asks, hears, decides, commandOf, dueKind, decisionOf}
+use Rattle.rulebook.specs.Turn.{opened, turn, allowed, heard, after}
 use Rattle.rulebook.specs.Session.{isPayload}
 use Rattle.lists.specs.Tests.{alike}
 use Rattle.lists.proofs.Comparing.{alike-same}
-use Rattle.rulebook.proofs.Running.{State, at, owes, done, due, ofTerminal, ofReply, next, takes-start, takes-command, takes-answer, takes-reply, takes-decision}
+use Rattle.rulebook.proofs.Running.{State, at, owes, done, due, sayable, next, takes-command, takes-answer, takes-heard, takes-decision}
+use Rattle.rulebook.proofs.Named.{takes-reply}
 use Rattle.rulebook.proofs.Reading.{other-kind}
 use Rattle.verdicts.specs.Progress.{reached, closed, broken, empty, closes, onward, reads}
 
@@ -49,20 +50,47 @@ unfolding due
 not-passed k j test p h = either (eqb j k) (λ y. ap₂ _&&_ y h) (λ n. ap (λ (b : Bool). b && test) n)
 
 module _ (n : ℕ) where
-  -- START
-  module _ (p : List ℕ) where
-    pub reads-start : (t : Terminal) → isPayload p ≡ true → terminalOf p ≡ some t → reads (reached (at opens) n) (entry start p) ≡ reached (at (opened t)) (n + 1)
-    reads-start t ok h = reads-taken (at opens) n (entry start p) (at (opened t)) (takes-start p t h ok)
+  -- what somebody other than the card says
+  module _ (h : Heard) (p : List ℕ) where
+    pub reads-heard : allowed h p ≡ true → isPayload p ≡ true → reads (reached (at (hears h)) n) (entry (dueKind h) p) ≡ reached (at (after h p)) (n + 1)
+    reads-heard fits ok = reads-taken (at (hears h)) n (entry (dueKind h) p) (at (after h p)) (takes-heard h p fits ok)
 
-    pub start-invalid : terminalOf p ≡ none → reads (reached (at opens) n) (entry start p) ≡ broken n
-    unfolding next ofTerminal closes
-    start-invalid h =
-        reads-refused (at opens) n (entry start p)
-        (ap (λ (o : Option State). pick (due start (isPayload p) (entry start p)) o none) (ap ofTerminal h) ∙ pick-same _ _) refl
+    pub heard-invalid : allowed h p ≡ false → reads (reached (at (hears h)) n) (entry (dueKind h) p) ≡ broken n
+    unfolding next closes sayable
+    heard-invalid f =
+        reads-refused (at (hears h)) n (entry (dueKind h) p)
+        (pick-no _ _ _ (not-passed (dueKind h) (dueKind h) _ p (ap (λ (b : Bool). b && isPayload p) f))) refl
+
+    pub heard-missing : (k : ℕ) → (k ≡ dueKind h → ⊥) → reads (reached (at (hears h)) n) (entry k p) ≡ broken n
+    unfolding next closes
+    heard-missing k other = reads-refused (at (hears h)) n (entry k p) (pick-no _ _ _ (not-due (dueKind h) k _ p other)) refl
+
+  -- START and HOST
+  module _ (p : List ℕ) where
+    pub reads-start : isPayload p ≡ true → validStart p ≡ true → reads (reached (at opens) n) (entry start p) ≡ reached (at (opened (readingOf p))) (n + 1)
+    unfolding allowed after dueKind
+    reads-start ok valid = reads-heard terminal p valid ok
+
+    pub start-invalid : validStart p ≡ false → reads (reached (at opens) n) (entry start p) ≡ broken n
+    unfolding allowed dueKind
+    start-invalid f = heard-invalid terminal p f
 
     pub start-missing : (k : ℕ) → (k ≡ start → ⊥) → reads (reached (at opens) n) (entry k p) ≡ broken n
-    unfolding next closes
-    start-missing k h = reads-refused (at opens) n (entry k p) (pick-no _ _ _ (not-due start k _ p h)) refl
+    unfolding dueKind
+    start-missing k other = heard-missing terminal p k other
+
+  module _ (s : Situation) (p : List ℕ) where
+    pub reads-host : (r : Reply) → isPayload p ≡ true → replyOf p ≡ Said r
+        → reads (reached (at (hears (issuer s))) n) (entry host p) ≡ reached (at (heard s r p)) (n + 1)
+    reads-host r ok said = reads-taken (at (hears (issuer s))) n (entry host p) (at (heard s r p)) (takes-reply s p r said ok)
+
+    pub host-invalid : replyOf p ≡ Nothing → reads (reached (at (hears (issuer s))) n) (entry host p) ≡ broken n
+    unfolding allowed dueKind isReply
+    host-invalid none-said = heard-invalid (issuer s) p (ap isReply none-said)
+
+    pub host-missing : (k : ℕ) → (k ≡ host → ⊥) → reads (reached (at (hears (issuer s))) n) (entry k p) ≡ broken n
+    unfolding dueKind
+    host-missing k other = heard-missing (issuer s) p k other
 
   -- a command
   module _ (w : Asked) (p : List ℕ) where
@@ -106,21 +134,6 @@ module _ (n : ℕ) where
     unfolding next closes
     answer-missing k h s =
         reads-refused (owes w) n (entry k p) (pick-no _ _ _ (not-due answer k _ p h)) (ap (λ (b : Bool). b && empty p) (ne-eqb k silence s))
-
-  -- HOST
-  module _ (s : Situation) (p : List ℕ) where
-    pub reads-host : (r : Reply) → isPayload p ≡ true → replyOf p ≡ Said r → reads (reached (at (hears s)) n) (entry host p) ≡ reached (at (heard s r p)) (n + 1)
-    reads-host r ok h = reads-taken (at (hears s)) n (entry host p) (at (heard s r p)) (takes-reply s p r h ok)
-
-    pub host-invalid : replyOf p ≡ Nothing → reads (reached (at (hears s)) n) (entry host p) ≡ broken n
-    unfolding next ofReply closes
-    host-invalid h =
-        reads-refused (at (hears s)) n (entry host p)
-        (ap (λ (o : Option State). pick (due host (isPayload p) (entry host p)) o none) (ap (ofReply s p) h) ∙ pick-same _ _) refl
-
-    pub host-missing : (k : ℕ) → (k ≡ host → ⊥) → reads (reached (at (hears s)) n) (entry k p) ≡ broken n
-    unfolding next closes
-    host-missing k h = reads-refused (at (hears s)) n (entry k p) (pick-no _ _ _ (not-due host k _ p h)) refl
 
   -- DECISION
   module _ (outcome reason : ℕ) (s : Situation) (p : List ℕ) where

@@ -1,0 +1,36 @@
+-- The transition at each thing heard, by its name: for readers that look at START and at the issuer's reply themselves.
+-- Assumes nothing.
+use mathlib.Core.Path.{_≡_, refl, ap, _∙_}
+use mathlib.Core.Bool.{true}
+use mathlib.Core.List.{List}
+use mathlib.Core.Option.{some}
+use Prim.Native.Nat.{ℕ}
+use Rattle.terminal.specs.Reading.{readingOf}
+use Rattle.start.specs.Start.{validStart}
+use Rattle.tape.specs.Entries.{entry, start, host}
+use Rattle.decide.specs.Replies.{replyOf, isReply}
+use Rattle.decide.specs.declared.reply.Reply.{Reply}
+use Rattle.decide.specs.declared.reply.Heard.{Heard as Reading}
+use Rattle.decide.specs.declared.reply.Heard.the-variants.{Said}
+use Rattle.rulebook.specs.Situation.{Situation}
+use Rattle.rulebook.specs.Phase.{terminal, issuer, Phase, opens, hears, dueKind}
+use Rattle.rulebook.specs.Turn.{opened, allowed, replyMade, heard, after}
+use Rattle.rulebook.specs.Session.{isPayload}
+use Rattle.rulebook.proofs.Running.{at, next, takes-heard}
+
+pub takes-start : (b : List ℕ) → validStart b ≡ true → isPayload b ≡ true → next (at opens) (entry start b) ≡ some (at (opened (readingOf b)))
+unfolding allowed after dueKind
+takes-start b valid ok = takes-heard terminal b valid ok
+
+module _ (s : Situation) (p : List ℕ) (r : Reply) (said : replyOf p ≡ Said r) where
+  pub reply-allowed : allowed (issuer s) p ≡ true
+  unfolding allowed isReply
+  reply-allowed = ap isReply said
+
+  pub after-reply : after (issuer s) p ≡ heard s r p
+  unfolding after replyMade
+  after-reply = ap (λ (x : Reading). heard s (replyMade x) p) said
+
+  pub takes-reply : isPayload p ≡ true → next (at (hears (issuer s))) (entry host p) ≡ some (at (heard s r p))
+  unfolding dueKind
+  takes-reply ok = takes-heard (issuer s) p reply-allowed ok ∙ ap (λ (q : Phase). some (at q)) after-reply
