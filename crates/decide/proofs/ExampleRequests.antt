@@ -10,10 +10,10 @@ use Rattle.lists.specs.Tests.{every}
 use Rattle.decimals.specs.Decimal.{zerosOnly}
 use Rattle.terminal.specs.Bare.{bare}
 use Rattle.terminal.specs.Reading.{Terminal}
-use Rattle.decide.specs.declared.reply.Reply.{Reply}
-use Rattle.decide.specs.declared.reply.Reply.the-variants.{Approve, Decline, Unable}
-use Rattle.decide.specs.declared.reply.Heard.{Heard}
-use Rattle.decide.specs.declared.reply.Heard.the-variants.{Said, Nothing}
+use Rattle.decide.specs.declared.reply.HostReply.{HostReply}
+use Rattle.decide.specs.declared.reply.HostReply.the-variants.{Approve, Decline, Unable}
+use Rattle.decide.specs.declared.reply.HostHeard.{HostHeard}
+use Rattle.decide.specs.declared.reply.HostHeard.the-variants.{Said, Nothing}
 use Rattle.decide.specs.declared.requests.Cryptogram.{Cryptogram}
 use Rattle.decide.specs.declared.requests.Cryptogram.the-variants.{Aac, Tc, Arqc}
 use Rattle.decide.specs.declared.requests.Given.{Given}
@@ -68,7 +68,7 @@ unfolding firstRequest byType codeMatch issuerCode joined meet pick
 firsts-right = refl
 
 -- reply, terminal, issuer codes and TVR, and the second request
-abbrev seconds : List (Reply × Terminal × IssuerCodes × List ℕ × Cryptogram)
+abbrev seconds : List (HostReply × Terminal × IssuerCodes × List ℕ × Cryptogram)
 seconds =
     (Approve, plain 2, no-codes, first-bit, Tc) ∷ (Decline, plain 2, zero-codes, first-bit, Aac)
     ∷ (Unable, plain 1, zero-codes, first-bit, Aac) ∷ (Unable, plain 1, zero-codes, none-set, Aac)
@@ -108,7 +108,7 @@ second-answers = refl
 -- ---- the issuer's reply
 
 -- bytes, and what they say
-abbrev replies : List (List ℕ × Heard)
+abbrev replies : List (List ℕ × HostHeard)
 replies =
     (1 ∷ 0 ∷ 0 ∷ [], Said Approve) ∷ (1 ∷ 0xFF ∷ 0x30 ∷ [], Said Approve)
     ∷ (2 ∷ 0 ∷ 0 ∷ [], Said Decline) ∷ (2 ∷ 0x30 ∷ 0x35 ∷ [], Said Decline)
@@ -126,7 +126,7 @@ unfolding codeIn
 reply-code = refl
 
 -- reply and request, and the response code where the issuer's is 3035
-abbrev responses : List (Reply × Cryptogram × List ℕ)
+abbrev responses : List (HostReply × Cryptogram × List ℕ)
 responses =
     (Approve, Tc, 0x30 ∷ 0x35 ∷ []) ∷ (Decline, Aac, 0x30 ∷ 0x35 ∷ [])
     ∷ (Unable, Tc, 0x59 ∷ 0x33 ∷ []) ∷ (Unable, Aac, 0x5A ∷ 0x33 ∷ [])

@@ -3,7 +3,7 @@ use mathlib.Core.Path.{_≡_, refl}
 use mathlib.Core.List.{List}
 use Prim.Native.Nat.{ℕ}
 use Rattle.decide.specs.Replies.{responseCode}
-use Rattle.decide.specs.declared.reply.Reply.the-variants.{Unable}
+use Rattle.decide.specs.declared.reply.HostReply.the-variants.{Unable}
 use Rattle.decide.specs.declared.requests.Cryptogram.{Cryptogram}
 use Rattle.decide.specs.declared.requests.Cryptogram.the-variants.{Aac, Tc, Arqc}
 

@@ -7,10 +7,10 @@ use lib.Dec.{eqb}
 use lib.ListN.{length, getD}
 use Rattle.lists.specs.Choice.{pick}
 use Rattle.decimals.specs.Decimal.{zerosOnly}
-use Rattle.decide.specs.declared.reply.Reply.{Reply}
-use Rattle.decide.specs.declared.reply.Reply.the-variants.{Approve, Decline, Unable}
-use Rattle.decide.specs.declared.reply.Heard.{Heard}
-use Rattle.decide.specs.declared.reply.Heard.the-variants.{Said, Nothing}
+use Rattle.decide.specs.declared.reply.HostReply.{HostReply}
+use Rattle.decide.specs.declared.reply.HostReply.the-variants.{Approve, Decline, Unable}
+use Rattle.decide.specs.declared.reply.HostHeard.{HostHeard}
+use Rattle.decide.specs.declared.reply.HostHeard.the-variants.{Said, Nothing}
 use Rattle.decide.specs.declared.requests.Cryptogram.{Cryptogram}
 use Rattle.decide.specs.declared.requests.Cryptogram.the-variants.{Aac, Tc, Arqc}
 
@@ -19,22 +19,22 @@ unfoldable pub codeIn : List ℕ → List ℕ
 codeIn s = getD s 1 0 ∷ getD s 2 0 ∷ []
 
 -- 1 approve and 2 decline, with any code; 3 unable, with a code of zeros
-unfoldable pub saidBy : ℕ → List ℕ → Heard
+unfoldable pub saidBy : ℕ → List ℕ → HostHeard
 saidBy first code =
     pick (eqb first 1) (Said Approve)
     (pick (eqb first 2) (Said Decline)
     (pick (eqb first 3) (pick (zerosOnly code) (Said Unable) Nothing) Nothing))
 
-unfoldable pub replyOf : List ℕ → Heard
+unfoldable pub replyOf : List ℕ → HostHeard
 replyOf s = pick (eqb (length s) 3) (saidBy (getD s 0 0) (codeIn s)) Nothing
 
 -- whether that is a reply
-unfoldable pub isReply : Heard → Bool
+unfoldable pub isReply : HostHeard → Bool
 isReply (Said reply) = true
 isReply Nothing = false
 
 -- the issuer's code; when unable, 'Y3' beside a TC and 'Z3' beside any other request (house)
-unfoldable pub responseCode : Reply → Cryptogram → List ℕ → List ℕ
+unfoldable pub responseCode : HostReply → Cryptogram → List ℕ → List ℕ
 responseCode Approve asked code = code
 responseCode Decline asked code = code
 responseCode Unable Tc code = 0x59 ∷ 0x33 ∷ []

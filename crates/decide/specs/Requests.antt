@@ -8,8 +8,8 @@ use lib.Dec.{eqb}
 use lib.ListN.{replicate}
 use Rattle.lists.specs.Choice.{pick}
 use Rattle.terminal.specs.Reading.{Terminal}
-use Rattle.decide.specs.declared.reply.Reply.{Reply}
-use Rattle.decide.specs.declared.reply.Reply.the-variants.{Approve, Decline, Unable}
+use Rattle.decide.specs.declared.reply.HostReply.{HostReply}
+use Rattle.decide.specs.declared.reply.HostReply.the-variants.{Approve, Decline, Unable}
 use Rattle.decide.specs.declared.requests.Cryptogram.{Cryptogram}
 use Rattle.decide.specs.declared.requests.Cryptogram.the-variants.{Aac, Tc, Arqc}
 use Rattle.decide.specs.declared.requests.Given.{Given}
@@ -54,7 +54,7 @@ firstRequest t c tvr = pick (denialMatch t c tvr) Aac (byType (t .kind) (default
 unfoldable pub whenUnable : ℕ → Bool → Cryptogram
 whenUnable kind default = pick (eqb kind 1) Aac (pick default Aac Tc)
 
-unfoldable pub secondRequest : Reply → Terminal → IssuerCodes → List ℕ → Cryptogram
+unfoldable pub secondRequest : HostReply → Terminal → IssuerCodes → List ℕ → Cryptogram
 secondRequest Approve t c tvr = Tc
 secondRequest Decline t c tvr = Aac
 secondRequest Unable t c tvr = whenUnable (t .kind) (defaultMatch t c tvr)

@@ -4,15 +4,15 @@ ghost use Rattle.decimals.specs.Decimal.{zerosOnly};
 ghost use Rattle.decide.specs.Replies.{codeIn, replyOf, isReply, responseCode};
 use super::requests::Cryptogram;
 
-pub enum Reply {
+pub enum HostReply {
     Approve,
     Decline,
     Unable,
 }
 
 // What three bytes say: a reply, or nothing that is one.
-pub enum Heard {
-    Said(Reply),
+pub enum HostHeard {
+    Said(HostReply),
     Nothing,
 }
 
@@ -22,23 +22,23 @@ fn zero_code(s: &[u8]) -> bool
     lists::byte(s, 1) == 0 && lists::byte(s, 2) == 0
 }
 
-pub fn reply_of(s: &[u8]) -> Heard
+pub fn reply_of(s: &[u8]) -> HostHeard
     ensures { λ r. ⌜ r ≡ replyOf (now (s .entry)) ⌝ }
 {
     if s.len() != 3 {
-        return Heard::Nothing;
+        return HostHeard::Nothing;
     }
     match lists::byte(s, 0) {
-        1 => Heard::Said(Reply::Approve),
-        2 => Heard::Said(Reply::Decline),
+        1 => HostHeard::Said(HostReply::Approve),
+        2 => HostHeard::Said(HostReply::Decline),
         3 => {
             if zero_code(s) {
-                Heard::Said(Reply::Unable)
+                HostHeard::Said(HostReply::Unable)
             } else {
-                Heard::Nothing
+                HostHeard::Nothing
             }
         }
-        _ => Heard::Nothing,
+        _ => HostHeard::Nothing,
     }
 }
 
@@ -46,8 +46,8 @@ pub fn is_reply(s: &[u8]) -> bool
     ensures { λ r. ⌜ r ≡ isReply (replyOf (now (s .entry))) ⌝ }
 {
     match reply_of(s) {
-        Heard::Said(_) => true,
-        Heard::Nothing => false,
+        HostHeard::Said(_) => true,
+        HostHeard::Nothing => false,
     }
 }
 
@@ -59,13 +59,13 @@ pub fn code_in(s: &[u8]) -> [u8; 2]
 }
 
 // The response code beside the second request.
-pub fn response_code(reply: Reply, asked: Cryptogram, code: [u8; 2]) -> [u8; 2]
+pub fn response_code(reply: HostReply, asked: Cryptogram, code: [u8; 2]) -> [u8; 2]
     ensures { λ r. ⌜ r ≡ responseCode reply asked code ⌝ }
 {
     match reply {
-        Reply::Approve => code,
-        Reply::Decline => code,
-        Reply::Unable => match asked {
+        HostReply::Approve => code,
+        HostReply::Decline => code,
+        HostReply::Unable => match asked {
             Cryptogram::Tc => [0x59, 0x33],
             Cryptogram::Aac => [0x5A, 0x33],
             Cryptogram::Arqc => [0x5A, 0x33],

@@ -4,7 +4,7 @@ ghost use Rattle.terminal.specs.Reading.{readingOf, bytesOf};
 ghost use Rattle.checks.specs.Card.{given};
 ghost use Rattle.decide.specs.Codes.{codesOf};
 ghost use Rattle.decide.specs.Requests.{issuerCode, codeMatch, denialMatch, onlineMatch, defaultMatch, byType, firstRequest, whenUnable, secondRequest, p1Of, givenBy, answersFirst, firstAllowed, answersSecond, secondAllowed};
-use super::reply::Reply;
+use super::reply::HostReply;
 use checks::bits;
 use terminal::fields;
 use terminal::fields::Field;
@@ -123,13 +123,13 @@ fn when_unable(kind: u8, default: bool) -> Cryptogram
     }
 }
 
-pub fn second_request(reply: Reply, start: &[u8], issuer: Codes, tvr: [u8; 5]) -> Cryptogram
+pub fn second_request(reply: HostReply, start: &[u8], issuer: Codes, tvr: [u8; 5]) -> Cryptogram
     ensures { λ r. ⌜ r ≡ secondRequest reply (readingOf (now (start .entry))) (codesOf issuer) tvr ⌝ }
 {
     match reply {
-        Reply::Approve => Cryptogram::Tc,
-        Reply::Decline => Cryptogram::Aac,
-        Reply::Unable => {
+        HostReply::Approve => Cryptogram::Tc,
+        HostReply::Decline => Cryptogram::Aac,
+        HostReply::Unable => {
             let default = default_match(start, issuer, tvr);
             when_unable(fields::kind(start), default)
         }

@@ -1,49 +1,46 @@
--- An accepted event: the rulebook's turn, read off the state, and the state that goes on from there.
+-- An accepted event, by its payload: the rulebook's transition, read off the state, and the state that goes on from there. The kind of
+-- the event is that of what the state waits for; whoever hands it in has seen to that.
 -- Assumes nothing.
+use mathlib.Core.Bool.{Bool}
 use mathlib.Core.List.{List}
-use mathlib.Core.Option.{Option, none, some}
 use Prim.Native.Nat.{ℕ}
-use Rattle.terminal.specs.Reading.{readingOf}
-use Rattle.decide.specs.Replies.{replyOf}
-use Rattle.decide.specs.declared.reply.Heard.{Heard}
-use Rattle.decide.specs.declared.reply.Heard.the-variants.{Said, Nothing as NoReply}
-use Rattle.rulebook.specs.Phase.{Asked}
-use Rattle.rulebook.specs.Turn.{opened, turn, heard}
-use Rattle.state.specs.Reading.{late, askedIn}
+use Rattle.start.specs.Start.{validStart}
+use Rattle.decide.specs.Replies.{replyOf, isReply}
+use Rattle.rulebook.specs.Turn.{turn, after}
+use Rattle.session_phase.specs.declared.Question.{Question}
+use Rattle.session_phase.specs.declared.Speaker.{Speaker}
+use Rattle.session_phase.specs.declared.Speaker.the-variants.{Terminal, Issuer}
+use Rattle.session_phase.specs.declared.Waiting.{Waiting}
+use Rattle.session_phase.specs.declared.Waiting.the-variants.{ForCard, ForWord, Decided, Closed}
+use Rattle.state.specs.Reading.{askedBy, heardBy}
 use Rattle.state.specs.Keeping.{begun}
-use Rattle.turns.specs.Keeping.{keeping}
 use Rattle.state.specs.declared.State.{State}
-use Rattle.state.specs.declared.Phase.{Phase as Kept}
-use Rattle.state.specs.declared.Phase.the-variants.{Start, Select, Options, Record, First, Second, Host, Decided, Closed}
 use Rattle.moves.specs.Moves.{Moved, moved, unmoved}
-
--- START
-unfoldable pub started : List ℕ → List ℕ → Moved
-started b buf = moved (opened (readingOf b)) (begun b) buf
+use Rattle.turns.specs.Keeping.{keeping}
 
 -- an answer of the card's
-unfoldable pub answeredTo : Option Asked → State → List ℕ → List ℕ → Moved
-answeredTo none s a buf = unmoved s buf
-answeredTo (some w) s a buf = moved (turn w a) (keeping w a s) buf
+unfoldable pub answerStep : Question → State → List ℕ → List ℕ → Moved
+answerStep question s a buf = moved (turn (askedBy question s) a) (keeping (askedBy question s) a s) buf
 
-unfoldable pub answered : State → List ℕ → List ℕ → Moved
-answered s a buf = answeredTo (askedIn s) s a buf
+-- somebody else's word: with START the state begins anew
+unfoldable pub keepingWord : Speaker → List ℕ → State → State
+keepingWord Terminal p s = begun p
+keepingWord Issuer p s = s
 
--- the issuer's reply
-unfoldable pub heardAs : Heard → State → List ℕ → List ℕ → Moved
-heardAs NoReply s h buf = unmoved s buf
-heardAs (Said reply) s h buf = moved (heard (late s) reply h) s buf
+unfoldable pub wordStep : Speaker → State → List ℕ → List ℕ → Moved
+wordStep speaker s p buf = moved (after (heardBy speaker s) p) (keepingWord speaker p s) buf
 
-unfoldable pub heardIn : Kept → State → List ℕ → List ℕ → Moved
-heardIn Start s h buf = unmoved s buf
-heardIn Select s h buf = unmoved s buf
-heardIn Options s h buf = unmoved s buf
-heardIn Record s h buf = unmoved s buf
-heardIn (First request) s h buf = unmoved s buf
-heardIn (Second request) s h buf = unmoved s buf
-heardIn Host s h buf = heardAs (replyOf h) s h buf
-heardIn (Decided outcome reason) s h buf = unmoved s buf
-heardIn Closed s h buf = unmoved s buf
+-- by what the state waits for; nothing follows the end
+unfoldable pub stepAt : Waiting → State → List ℕ → List ℕ → Moved
+stepAt (ForCard question) s p buf = answerStep question s p buf
+stepAt (ForWord speaker) s p buf = wordStep speaker s p buf
+stepAt (Decided outcome reason) s p buf = unmoved s buf
+stepAt Closed s p buf = unmoved s buf
 
-unfoldable pub hostHeard : State → List ℕ → List ℕ → Moved
-hostHeard s h buf = heardIn (s .phase) s h buf
+unfoldable pub step : State → List ℕ → List ℕ → Moved
+step s p buf = stepAt (s .waiting) s p buf
+
+-- what may be said: a valid START, one of the issuer's replies
+unfoldable pub allowedBy : Speaker → List ℕ → Bool
+allowedBy Terminal p = validStart p
+allowedBy Issuer p = isReply (replyOf p)

@@ -1,80 +1,106 @@
 // One event, one step on.
 use commands::write;
-use decide::reply::Heard;
+use decide::reply::HostHeard;
+use decide::reply::HostReply;
 use decide::reply::code_in;
+use decide::reply::is_reply;
 use decide::reply::reply_of;
-use moves::Due;
 use moves::Step;
 use online_steps::request_second;
-use state::Phase;
+use session_phase::Question;
+use session_phase::Reply;
+use session_phase::Speaker;
+use session_phase::Waiting;
+use start::valid_start;
 use state::State;
 use state::change::begun;
 ghost use mathlib.Core.Path.{_≡_};
+ghost use mathlib.Core.List.{List};
+ghost use Rattle.terminal.specs.Reading.{readingOf};
 ghost use Rattle.decide.specs.Replies.{replyOf};
-ghost use Rattle.moves.specs.Moves.{played};
-ghost use Rattle.dialogue.specs.Events.{started, answered, heardAs, hostHeard};
+ghost use Rattle.rulebook.specs.Turn.{opened, heard, replyMade};
+ghost use Rattle.session_phase.specs.declared.Reply.the-variants.{Refused};
+ghost use Rattle.state.specs.Reading.{late};
+ghost use Rattle.state.specs.Keeping.{begun as begunState};
+ghost use Rattle.moves.specs.Moves.{played, moved};
+ghost use Rattle.dialogue.specs.Events.{answerStep, wordStep, step as stepOf, allowedBy};
 
 // START. What was known before does not matter.
-pub fn start(terminal: &[u8], buf: &mut [u8]) -> Step
-    ensures { λ r. ⌜ played r (now (buf .exit)) ≡ started (now (terminal .entry)) (now (buf .entry)) ⌝ }
+fn on_start(terminal: &[u8], buf: &mut [u8]) -> Step
+    ensures { λ r. ⌜ played r (now (buf .exit)) ≡ moved (opened (readingOf (now (terminal .entry)))) (begunState (now (terminal .entry))) (now (buf .entry)) ⌝ }
 {
     let n = write::select(terminal, buf);
     Step {
         state: begun(terminal),
-        due: Due::Command(n),
+        reply: Reply::Command(n),
+    }
+}
+
+// The issuer's reply; what is none counts as unable.
+fn reply_made(h: &[u8]) -> HostReply
+    ensures { λ r. ⌜ r ≡ replyMade (replyOf (now (h .entry))) ⌝ }
+{
+    match reply_of(h) {
+        HostHeard::Said(reply) => reply,
+        HostHeard::Nothing => HostReply::Unable,
+    }
+}
+
+fn on_reply(s: State, h: &[u8], buf: &mut [u8]) -> Step
+    ensures { λ r. ⌜ played r (now (buf .exit)) ≡ moved (heard (late s) (replyMade (replyOf (now (h .entry)))) (now (h .entry))) s (now (buf .entry)) ⌝ }
+{
+    request_second(s, reply_made(h), code_in(h), buf)
+}
+
+fn on_word(s: State, speaker: Speaker, p: &[u8], buf: &mut [u8]) -> Step
+    ensures { λ r. ⌜ played r (now (buf .exit)) ≡ wordStep speaker s (now (p .entry)) (now (buf .entry)) ⌝ }
+{
+    match speaker {
+        Speaker::Terminal => on_start(p, buf),
+        Speaker::Issuer => on_reply(s, p, buf),
+    }
+}
+
+fn on_answer(s: State, question: Question, a: &[u8], buf: &mut [u8]) -> Step
+    ensures { λ r. ⌜ played r (now (buf .exit)) ≡ answerStep question s (now (a .entry)) (now (buf .entry)) ⌝ }
+{
+    match question {
+        Question::Select => turns::on_select(s, a, buf),
+        Question::Options => turns::on_options(s, a, buf),
+        Question::Record => turns::on_record(s, a, buf),
+        Question::First(request) => turns::on_first(s, request, a, buf),
+        Question::Second(request) => turns::on_second(s, request, a, buf),
     }
 }
 
 fn stay(s: State) -> Step
-    ensures { λ r. ⌜ (r .state ≡ s) × (r .due ≡ Due.Nothing) ⌝ }
+    ensures { λ r. ⌜ (r .state ≡ s) × (r .reply ≡ Refused 4) ⌝ }
 {
     Step {
         state: s,
-        due: Due::Nothing,
+        reply: Reply::Refused(4),
     }
 }
 
-// An answer of the card's; where none is due, nothing changes.
-pub fn answer(s: State, a: &[u8], buf: &mut [u8]) -> Step
-    ensures { λ r. ⌜ played r (now (buf .exit)) ≡ answered s (now (a .entry)) (now (buf .entry)) ⌝ }
+// What is waited for, an answer of the card's or somebody else's word; where the session is over, nothing changes.
+pub fn step(s: State, p: &[u8], buf: &mut [u8]) -> Step
+    ensures { λ r. ⌜ played r (now (buf .exit)) ≡ stepOf s (now (p .entry)) (now (buf .entry)) ⌝ }
 {
-    let phase = s.phase;
-    match phase {
-        Phase::Select => turns::on_select(s, a, buf),
-        Phase::Options => turns::on_options(s, a, buf),
-        Phase::Record => turns::on_record(s, a, buf),
-        Phase::First(request) => turns::on_first(s, request, a, buf),
-        Phase::Second(request) => turns::on_second(s, request, a, buf),
-        Phase::Start => stay(s),
-        Phase::Host => stay(s),
-        Phase::Decided(_, _) => stay(s),
-        Phase::Closed => stay(s),
+    let waiting = s.waiting;
+    match waiting {
+        Waiting::ForCard(question) => on_answer(s, question, p, buf),
+        Waiting::ForWord(speaker) => on_word(s, speaker, p, buf),
+        Waiting::Decided(_, _) => stay(s),
+        Waiting::Closed => stay(s),
     }
 }
 
-fn hear(s: State, h: &[u8], buf: &mut [u8]) -> Step
-    ensures { λ r. ⌜ played r (now (buf .exit)) ≡ heardAs (replyOf (now (h .entry))) s (now (h .entry)) (now (buf .entry)) ⌝ }
+// Whether somebody's word may be taken.
+pub fn is_allowed(speaker: Speaker, p: &[u8]) -> bool
+    ensures { λ r. ⌜ r ≡ allowedBy speaker (now (p .entry)) ⌝ }
 {
-    match reply_of(h) {
-        Heard::Said(reply) => request_second(s, reply, code_in(h), buf),
-        Heard::Nothing => stay(s),
-    }
-}
-
-// The issuer's reply; where none is due, or where it is no reply, nothing changes.
-pub fn host(s: State, h: &[u8], buf: &mut [u8]) -> Step
-    ensures { λ r. ⌜ played r (now (buf .exit)) ≡ hostHeard s (now (h .entry)) (now (buf .entry)) ⌝ }
-{
-    let phase = s.phase;
-    match phase {
-        Phase::Host => hear(s, h, buf),
-        Phase::Start => stay(s),
-        Phase::Select => stay(s),
-        Phase::Options => stay(s),
-        Phase::Record => stay(s),
-        Phase::First(_) => stay(s),
-        Phase::Second(_) => stay(s),
-        Phase::Decided(_, _) => stay(s),
-        Phase::Closed => stay(s),
+    match speaker {
+        Speaker::Terminal => valid_start(p),
+        Speaker::Issuer => is_reply(p),
     }
 }

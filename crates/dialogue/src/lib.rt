@@ -1,2 +1,2 @@
-// The accepted step of a session, without refusals: START, an answer of the card's, the issuer's reply. Kernel and judge share it.
+// The accepted step of a session, without refusals: what it waits for, and one step on. Kernel and judge share it.
 pub mod event;

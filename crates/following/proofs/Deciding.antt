@@ -27,7 +27,7 @@ module _ {A : Type 0} (kind due : ℕ) (test : Bool) (yes no : A) where
   test-holds e t = sym (pick-yes _ _ _ (eq-eqb kind due e) ∙ pick-yes _ _ _ t)
 
 -- a step of the dialogue, put together as a judgement
-pub as-moving : (m : Step) (stage : Stage) (out : List ℕ) (to : Moved) → stage ≡ stageOf (m .due) → played m out ≡ to
+pub as-moving : (m : Step) (stage : Stage) (out : List ℕ) (to : Moved) → stage ≡ stageOf (m .reply) → played m out ≡ to
     → _≡_ {A = Judgement} (record { stage = stage; state = m .state; command = out }) (moving to)
 unfolding played moving
 as-moving m stage out to e p = (λ i. record { stage = e i; state = m .state; command = out }) ∙ ap moving p

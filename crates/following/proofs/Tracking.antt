@@ -1,61 +1,55 @@
 -- The judge stands where the rulebook's machine stands: what it expects next is the machine's, and so each entry leads both on alike.
 -- Assumes nothing.
 use mathlib.Core.Path.{_≡_, refl, sym, ap, _∙_, subst}
-use mathlib.Core.Bool.{Bool, true, false, _&&_}
+use mathlib.Core.Bool.{Bool, true, false}
 use mathlib.Core.List.{List, [], _∷_, _++_}
-use mathlib.Core.Option.{Option, none, some}
 use Prim.Native.Nat.{ℕ, _+_, _≤_}
 use native.Mathlib.Omega.{arith}
 use lib.Dec.{eqb}
 use lib.ListN.{length, take}
-use borrow.Author.Tests.{eqb-true, eqb-false, eq-eqb, ne-eqb}
+use borrow.Author.Tests.{eqb-true, eqb-false}
 use Rattle.lists.specs.Choice.{pick}
+use Rattle.lists.specs.Tests.{alike}
 use Rattle.lists.proofs.Choice.{pick-yes, pick-no, either}
 use Rattle.lists.proofs.Writing.{zeros-length}
-use Rattle.terminal.specs.Reading.{readingOf}
-use Rattle.start.specs.Start.{validStart, terminalOf}
-use Rattle.tape.specs.Entries.{Entry, entry, start, command, answer, silence, host, decision}
-use Rattle.lists.specs.Tests.{alike}
 use Rattle.lists.proofs.Cutting.{none-left}
 use Rattle.lists.proofs.Comparing.{alike-same, same-alike}
-use Rattle.decide.specs.Replies.{replyOf, isReply}
-use Rattle.decide.specs.declared.reply.Reply.{Reply}
-use Rattle.decide.specs.declared.reply.Heard.{Heard}
-use Rattle.decide.specs.declared.reply.Heard.the-variants.{Said, Nothing as NoReply}
+use Rattle.tape.specs.Entries.{Entry, entry, command, answer, silence, decision}
 use Rattle.rulebook.specs.Situation.{Situation}
-use Rattle.rulebook.specs.Phase.{issuer, terminal, Asked, Phase, opens, asks, hears, decides, commandOf, decisionOf}
-use Rattle.rulebook.specs.Turn.{opened, turn, heard}
+use Rattle.rulebook.specs.Phase.{Asked, Heard, Phase, opens, asks, hears, decides, commandOf, dueKind, decisionOf}
+use Rattle.rulebook.specs.Turn.{turn, allowed, after}
 use Rattle.rulebook.specs.Session.{isPayload}
-use Rattle.rulebook.proofs.Running.{State as Machine, at, owes, done}
-use Rattle.state.specs.Results.{outcomeOf, reasonOf, decisionIn}
+use Rattle.rulebook.specs.Machine.{Machine, at, owes, done}
+use Rattle.session_phase.specs.Waiting.{kindOf, outcomeOf, reasonOf}
+use Rattle.session_phase.specs.declared.Speaker.{Speaker}
+use Rattle.session_phase.specs.declared.Waiting.{Waiting}
+use Rattle.state.specs.Reading.{heardBy}
+use Rattle.state.specs.Results.{decisionIn}
 use Rattle.state.specs.declared.State.{State}
-use Rattle.state.specs.declared.Phase.{Phase as Kept}
-use Rattle.state.specs.declared.Phase.the-variants.{Decided}
-use Rattle.moves.specs.Moves.{Moved, dueIn, bufferIn}
-use Rattle.dialogue.specs.Events.{started, answered, hostHeard}
-use Rattle.moves.specs.declared.Due.{Due}
-use Rattle.moves.specs.declared.Due.the-variants.{Command as CommandDue}
-use Rattle.refinement.specs.Agreeing.{StandsAt, Agrees}
+use Rattle.moves.specs.Moves.{Moved, speakerOf, keptAs, replyIn, bufferIn}
+use Rattle.dialogue.specs.Events.{allowedBy, step}
+use Rattle.refinement.specs.Agreeing.{Knows, StandsAt}
 use Rattle.refinement.specs.Logging.{Follows}
+use Rattle.refinement.proofs.Words.{allowed-by}
+use Rattle.refinement.proofs.Telling.{kind-due}
 use Rattle.refinement.proofs.Standing.{stands-decision}
-use Rattle.refinement.proofs.Commanding.{command-most, command-due, command-there, buffer-length}
-use Rattle.refinement.proofs.Stepping.{start-step, answer-step, host-step}
-use Rattle.verdicts.specs.Judged.{says}
-use Rattle.verdicts.specs.declared.Verdict.the-variants.{Pass, Inconclusive}
+use Rattle.refinement.proofs.Commanding.{command-most, command-reply, command-there, buffer-length}
+use Rattle.refinement.proofs.Stepping.{fresh-stands, answer-step, word-step}
+use Rattle.verdict.specs.Saying.{says}
+use Rattle.verdict.specs.declared.Verdict.the-variants.{Pass, Inconclusive}
 use Rattle.verdicts.specs.Progress.{Progress, reached, closed, broken, reads, concluded}
-use Rattle.verdicts.proofs.Taking.{reads-start, start-invalid, start-missing, reads-command, command-wrong, command-missing, reads-answer, reads-silence, silence-wrong, answer-missing, reads-host, host-invalid, host-missing, reads-decision, decision-wrong, decision-missing, reads-after-end, reads-after-silence, reads-after-break}
+use Rattle.verdicts.proofs.Taking.{reads-heard, heard-invalid, heard-missing, reads-command, command-wrong, command-missing, reads-answer, reads-silence, silence-wrong, answer-missing, reads-decision, decision-wrong, decision-missing, reads-after-end, reads-after-silence, reads-after-break}
 use Rattle.stages.specs.declared.Stage.{Stage}
-use Rattle.stages.specs.declared.Stage.the-variants.{Start, Command, Answer, Host, Decision, Done, Closed, Broken}
-use Rattle.following.specs.declared.Judgement.{Judgement}
-use Rattle.following.proofs.Deciding.{other-kind, test-fails, test-holds}
-use Rattle.following.specs.Following.{begun, stageOf, staged, moving, atStart, atCommand, atSilence, atAnswer, atHost, atDecision, fedAt, fed}
+use Rattle.stages.specs.declared.Stage.the-variants.{Word, Command, Answer, Decision, Done, Closed, Broken}
 use Rattle.stages.specs.Stages.{saidAt}
+use Rattle.following.specs.declared.Judgement.{Judgement}
+use Rattle.following.specs.Following.{begun, stageOf, staged, moving, advanced, atCommand, atSilence, atAnswer, atDecision, spoken, wordAt, fedAt, fed}
+use Rattle.following.proofs.Deciding.{other-kind, test-fails, test-holds}
 
 -- what the judge expects where the machine stands
 unfoldable pub Expects : Judgement → Machine → Type 0
-Expects j (at (hears terminal)) = j .stage ≡ Start
 Expects j (at (asks w)) = (n : ℕ) × ((j .stage ≡ Command n) × (take n (j .command) ≡ commandOf w) × StandsAt (j .state) (asks w))
-Expects j (at (hears (issuer z))) = (j .stage ≡ Host) × StandsAt (j .state) (hears (issuer z))
+Expects j (at (hears h)) = (j .stage ≡ Word) × StandsAt (j .state) (hears h)
 Expects j (at (decides outcome reason z)) = (j .stage ≡ Decision) × StandsAt (j .state) (decides outcome reason z)
 Expects j (owes w) = (j .stage ≡ Answer) × StandsAt (j .state) (asks w)
 Expects j done = j .stage ≡ Done
@@ -72,18 +66,17 @@ pub record Tracks (k : ℕ) (j : Judgement) (m : Progress) : Type 0 where
 
 pub tracks-begun : Tracks 0 begun (reached (at opens) 0)
 unfolding Tracking Expects begun
-tracks-begun = record { room = zeros-length 261; tracking = (refl, refl) }
+tracks-begun = record { room = zeros-length 261; tracking = (refl, (refl, fresh-stands)) }
 
--- a step of the dialogue is expected to go on as the phase says
+-- a step of the session is expected to go on as the phase says
 stands-next : (σ : Machine) (e : Entry) (p : Phase) (buf : List ℕ) (m : Moved) → length buf ≡ 261 → Follows σ e p buf m → Expects (moving m) (at p)
-unfolding Expects moving stageOf dueIn
-stands-next σ e (hears terminal) buf m l f = ap stageOf (f .due)
+unfolding Expects moving stageOf replyIn
 stands-next σ e (asks w) buf m l f =
     let most = command-most (m .state) w (f .stands) in
     let fits : length (commandOf w) ≤ length buf = omega arith in
-    (length (commandOf w), (ap stageOf (f .due ∙ command-due w buf fits), ap (take (length (commandOf w))) (f .buffer) ∙ command-there w buf fits, f .stands))
-stands-next σ e (hears (issuer z)) buf m l f = (ap stageOf (f .due), f .stands)
-stands-next σ e (decides outcome reason z) buf m l f = (ap stageOf (f .due), f .stands)
+    (length (commandOf w), (ap stageOf (f .reply ∙ command-reply w buf fits), ap (take (length (commandOf w))) (f .buffer) ∙ command-there w buf fits, f .stands))
+stands-next σ e (hears h) buf m l f = (ap stageOf (f .reply), f .stands)
+stands-next σ e (decides outcome reason z) buf m l f = (ap stageOf (f .reply), f .stands)
 
 -- on equal judgements and equal progress
 carried : (k : ℕ) {x y : Judgement} {m n : Progress} → y ≡ x → m ≡ n → Tracks k y n → Tracks k x m
@@ -97,9 +90,9 @@ module _ (k : ℕ) (j : Judgement) (kind : ℕ) (p : List ℕ) (ok : isPayload p
   unfolding Tracking staged
   breaks = record { room = room; tracking = refl }
 
-  -- another kind than the one that is due
-  no-kind : (due : ℕ) → kind ≡ due → (m : Progress) → reads m (entry kind p) ≡ reads m (entry due p)
-  no-kind due e m = ap (λ (q : ℕ). reads m (entry q p)) e
+  -- an entry of the kind that is due, under that kind's name
+  as-kind : (due : ℕ) → kind ≡ due → (m : Progress) → reads m (entry kind p) ≡ reads m (entry due p)
+  as-kind due e m = ap (λ (q : ℕ). reads m (entry q p)) e
 
   answering : (w : Asked) → StandsAt (j .state) (asks w) → Tracks (k + 1) (staged Answer j) (reached (owes w) (k + 1))
   unfolding Tracking Expects staged
@@ -114,33 +107,14 @@ module _ (k : ℕ) (j : Judgement) (kind : ℕ) (p : List ℕ) (ok : isPayload p
   ending = record { room = room; tracking = (refl, refl) }
 
   decision-due : (outcome reason : ℕ) (z : Situation) → StandsAt (j .state) (decides outcome reason z) → decisionIn (j .state) ≡ decisionOf outcome reason z
-  unfolding decisionIn outcomeOf reasonOf StandsAt
+  unfolding decisionIn outcomeOf reasonOf keptAs
   decision-due outcome reason z s =
-      ap (λ (x : Kept). outcomeOf x ∷ reasonOf x ∷ (j .state .tvr ++ j .state .tsi)) (s .0) ∙ sym (stands-decision (j .state) outcome reason z s)
+      ap (λ (x : Waiting). outcomeOf x ∷ reasonOf x ∷ (j .state .tvr ++ j .state .tsi)) (s .waits) ∙ sym (stands-decision (j .state) outcome reason z s)
 
   moves : (σ : Machine) (e : Entry) (q : Phase) (m : Moved) → Follows σ e q (j .command) m → Tracks (k + 1) (moving m) (reached (at q) (k + 1))
   unfolding Tracking moving
   moves σ e q m f =
       record { room = ap length (f .buffer) ∙ (buffer-length q (j .command) ∙ room); tracking = (refl, stands-next σ e q (j .command) m room f) }
-
-  start-tracks : Tracks (k + 1) (atStart j k kind p) (reads (reached (at opens) k) (entry kind p))
-  unfolding atStart
-  start-tracks =
-      either (eqb kind start)
-      (λ y.
-      let e = eqb-true kind start y in
-      either (validStart p)
-      (λ v.
-      carried (k + 1) (test-holds kind start (validStart p) (moving (started p (j .command))) (staged (Broken k) j) e v)
-      (no-kind start e (reached (at opens) k) ∙ reads-start k p ok v)
-      (moves (at opens) (entry start p) (opened (readingOf p)) (started p (j .command)) (start-step p (j .command) v ok)))
-      (λ v.
-      carried (k + 1) (test-fails kind start (validStart p) (moving (started p (j .command))) (staged (Broken k) j) e v)
-      (no-kind start e (reached (at opens) k) ∙ start-invalid k p v)
-      breaks))
-      (λ n.
-      let h = eqb-false kind start n in
-      carried (k + 1) (other-kind kind start (validStart p) (moving (started p (j .command))) (staged (Broken k) j) h) (start-missing k p kind h) breaks)
 
   command-tracks : (w : Asked) (n : ℕ) → take n (j .command) ≡ commandOf w → StandsAt (j .state) (asks w)
       → Tracks (k + 1) (atCommand n j k kind p) (reads (reached (at (asks w)) k) (entry kind p))
@@ -153,7 +127,7 @@ module _ (k : ℕ) (j : Judgement) (kind : ℕ) (p : List ℕ) (ok : isPayload p
       either test
       (λ v.
       carried (k + 1) (test-holds kind command test (staged Answer j) (staged (Broken k) j) e v)
-      (no-kind command e (reached (at (asks w)) k) ∙ reads-command k w p (alike-same p (take n (j .command)) v ∙ c))
+      (as-kind command e (reached (at (asks w)) k) ∙ reads-command k w p (alike-same p (take n (j .command)) v ∙ c))
       (answering w s))
       (λ v.
       carried (k + 1) (test-fails kind command test (staged Answer j) (staged (Broken k) j) e v)
@@ -172,49 +146,62 @@ module _ (k : ℕ) (j : Judgement) (kind : ℕ) (p : List ℕ) (ok : isPayload p
       either (eqb (length p) 0)
       (λ v.
       carried (k + 1) (test-holds kind silence (eqb (length p) 0) (staged Closed j) (staged (Broken k) j) e v)
-      (no-kind silence e (reached (owes w) k) ∙ reads-silence k w p (none-left p (eqb-true (length p) 0 v)))
+      (as-kind silence e (reached (owes w) k) ∙ reads-silence k w p (none-left p (eqb-true (length p) 0 v)))
       closing)
       (λ v.
       carried (k + 1) (test-fails kind silence (eqb (length p) 0) (staged Closed j) (staged (Broken k) j) e v)
-      (no-kind silence e (reached (owes w) k) ∙ silence-wrong k w p (λ q. eqb-false (length p) 0 v (ap length q)))
+      (as-kind silence e (reached (owes w) k) ∙ silence-wrong k w p (λ q. eqb-false (length p) 0 v (ap length q)))
       breaks))
       (λ n.
       let h = eqb-false kind silence n in
       carried (k + 1) (other-kind kind silence (eqb (length p) 0) (staged Closed j) (staged (Broken k) j) h) (answer-missing k w p kind a h) breaks)
 
   answer-tracks : (w : Asked) → StandsAt (j .state) (asks w) → Tracks (k + 1) (atAnswer j k kind p) (reads (reached (owes w) k) (entry kind p))
-  unfolding atAnswer Agrees
+  unfolding atAnswer advanced
   answer-tracks w s =
       either (eqb kind answer)
       (λ y.
       let e = eqb-true kind answer y in
       carried (k + 1) (sym (pick-yes _ _ _ y))
-      (no-kind answer e (reached (owes w) k) ∙ reads-answer k w p ok)
-      (moves (owes w) (entry answer p) (turn w p) (answered (j .state) p (j .command)) (answer-step (j .state) w p (j .command) s ok)))
+      (as-kind answer e (reached (owes w) k) ∙ reads-answer k w p ok)
+      (moves (owes w) (entry answer p) (turn w p) (step (j .state) p (j .command)) (answer-step (j .state) w p (j .command) s ok)))
       (λ n. carried (k + 1) (sym (pick-no _ _ _ n)) refl (silence-tracks w (eqb-false kind answer n)))
 
-  replies : (z : Situation) → StandsAt (j .state) (hears (issuer z)) → kind ≡ host → (x : Heard) → replyOf p ≡ x
-      → Tracks (k + 1)
-      (pick (eqb kind host) (pick (isReply (replyOf p)) (moving (hostHeard (j .state) p (j .command))) (staged (Broken k) j)) (staged (Broken k) j))
-      (reads (reached (at (hears (issuer z))) k) (entry kind p))
-  unfolding isReply Agrees
-  replies z s e (Said r) x =
-      carried (k + 1) (test-holds kind host (isReply (replyOf p)) (moving (hostHeard (j .state) p (j .command))) (staged (Broken k) j) e (ap isReply x))
-      (no-kind host e (reached (at (hears (issuer z))) k) ∙ reads-host k z p r ok x)
-      (moves (at (hears (issuer z))) (entry host p) (heard z r p) (hostHeard (j .state) p (j .command)) (host-step (j .state) z r p (j .command) s x ok))
-  replies z s e NoReply x =
-      carried (k + 1) (test-fails kind host (isReply (replyOf p)) (moving (hostHeard (j .state) p (j .command))) (staged (Broken k) j) e (ap isReply x))
-      (no-kind host e (reached (at (hears (issuer z))) k) ∙ host-invalid k z p x)
-      breaks
+  -- somebody else's word: the speaker that the state waits for is the machine's
+  module _ (h : Heard) (s : StandsAt (j .state) (hears h)) where
+    may-say : allowedBy (speakerOf h) p ≡ allowed h p
+    unfolding Knows
+    may-say = sym (allowed-by (speakerOf h) (j .state) p) ∙ ap (λ (x : Heard). allowed x p) (s .knows)
 
-  host-tracks : (z : Situation) → StandsAt (j .state) (hears (issuer z)) → Tracks (k + 1) (atHost j k kind p) (reads (reached (at (hears (issuer z))) k) (entry kind p))
-  unfolding atHost
-  host-tracks z s =
-      either (eqb kind host)
-      (λ y. let e = eqb-true kind host y in replies z s e (replyOf p) refl)
-      (λ n.
-      let h = eqb-false kind host n in
-      carried (k + 1) (other-kind kind host (isReply (replyOf p)) (moving (hostHeard (j .state) p (j .command))) (staged (Broken k) j) h) (host-missing k z p kind h) breaks)
+    abbrev standing : Progress
+    standing = reached (at (hears h)) k
+
+    spoken-tracks : Tracks (k + 1) (spoken (speakerOf h) j k kind p) (reads standing (entry kind p))
+    unfolding spoken advanced
+    spoken-tracks =
+        let due = kindOf (speakerOf h) in
+        let test = allowedBy (speakerOf h) p in
+        let on = moving (step (j .state) p (j .command)) in
+        either (eqb kind due)
+        (λ y.
+        let e = eqb-true kind due y in
+        let named = as-kind (dueKind h) (e ∙ kind-due h) standing in
+        either test
+        (λ v.
+        let fits = sym may-say ∙ v in
+        carried (k + 1) (test-holds kind due test on (staged (Broken k) j) e v) (named ∙ reads-heard k h p fits ok)
+        (moves (at (hears h)) (entry (dueKind h) p) (after h p) (step (j .state) p (j .command)) (word-step (j .state) h p (j .command) s fits ok)))
+        (λ v.
+        carried (k + 1) (test-fails kind due test on (staged (Broken k) j) e v) (named ∙ heard-invalid k h p (sym may-say ∙ v)) breaks))
+        (λ n.
+        let other = eqb-false kind due n in
+        carried (k + 1) (other-kind kind due test on (staged (Broken k) j) other)
+        (heard-missing k h p kind (λ e. other (e ∙ sym (kind-due h))))
+        breaks)
+
+    word-tracks : Tracks (k + 1) (wordAt (j .state .waiting) j k kind p) (reads standing (entry kind p))
+    unfolding wordAt keptAs
+    word-tracks = carried (k + 1) (sym (ap (λ (x : Waiting). wordAt x j k kind p) (s .waits))) refl spoken-tracks
 
   decision-tracks : (outcome reason : ℕ) (z : Situation) → StandsAt (j .state) (decides outcome reason z)
       → Tracks (k + 1) (atDecision j k kind p) (reads (reached (at (decides outcome reason z)) k) (entry kind p))
@@ -228,7 +215,7 @@ module _ (k : ℕ) (j : Judgement) (kind : ℕ) (p : List ℕ) (ok : isPayload p
       either test
       (λ v.
       carried (k + 1) (test-holds kind decision test (staged Done j) (staged (Broken k) j) e v)
-      (no-kind decision e (reached (at (decides outcome reason z)) k) ∙ reads-decision k outcome reason z p (alike-same p (decisionIn (j .state)) v ∙ due))
+      (as-kind decision e (reached (at (decides outcome reason z)) k) ∙ reads-decision k outcome reason z p (alike-same p (decisionIn (j .state)) v ∙ due))
       ending)
       (λ v.
       carried (k + 1) (test-fails kind decision test (staged Done j) (staged (Broken k) j) e v)
@@ -241,17 +228,14 @@ module _ (k : ℕ) (j : Judgement) (kind : ℕ) (p : List ℕ) (ok : isPayload p
 -- every entry
 pub fed-tracks : (k : ℕ) (j : Judgement) (m : Progress) (kind : ℕ) (p : List ℕ) → isPayload p ≡ true → Tracks k j m → Tracks (k + 1) (fed j k kind p) (reads m (entry kind p))
 unfolding fed fedAt Tracking Expects
-fed-tracks k j (reached (at (hears terminal)) n) kind p ok t =
-    carried (k + 1) (sym (ap (λ (x : Stage). fedAt x j k kind p) (t .tracking .1))) (ap (λ (q : ℕ). reads (reached (at opens) q) (entry kind p)) (t .tracking .0))
-    (start-tracks k j kind p ok (t .room))
 fed-tracks k j (reached (at (asks w)) n) kind p ok t =
     let c = t .tracking .1 in
     carried (k + 1) (sym (ap (λ (x : Stage). fedAt x j k kind p) (c .1 .0))) (ap (λ (q : ℕ). reads (reached (at (asks w)) q) (entry kind p)) (t .tracking .0))
     (command-tracks k j kind p ok (t .room) w (c .0) (c .1 .1) (c .1 .2))
-fed-tracks k j (reached (at (hears (issuer z))) n) kind p ok t =
+fed-tracks k j (reached (at (hears h)) n) kind p ok t =
     let c = t .tracking .1 in
-    carried (k + 1) (sym (ap (λ (x : Stage). fedAt x j k kind p) (c .0))) (ap (λ (q : ℕ). reads (reached (at (hears (issuer z))) q) (entry kind p)) (t .tracking .0))
-    (host-tracks k j kind p ok (t .room) z (c .1))
+    carried (k + 1) (sym (ap (λ (x : Stage). fedAt x j k kind p) (c .0))) (ap (λ (q : ℕ). reads (reached (at (hears h)) q) (entry kind p)) (t .tracking .0))
+    (word-tracks k j kind p ok (t .room) h (c .1))
 fed-tracks k j (reached (at (decides outcome reason z)) n) kind p ok t =
     let c = t .tracking .1 in
     carried (k + 1) (sym (ap (λ (x : Stage). fedAt x j k kind p) (c .0))) (ap (λ (q : ℕ). reads (reached (at (decides outcome reason z)) q) (entry kind p)) (t .tracking .0))
@@ -273,9 +257,8 @@ fed-tracks k j (broken place) kind p ok t =
 -- what is said at the end
 pub said : (k : ℕ) (j : Judgement) (m : Progress) → Tracks k j m → saidAt (j .stage) k ≡ concluded m
 unfolding saidAt concluded Tracking Expects
-said k j (reached (at (hears terminal)) n) t = ap (λ (x : Stage). saidAt x k) (t .tracking .1) ∙ ap (λ (q : ℕ). says Inconclusive q 0) (sym (t .tracking .0))
 said k j (reached (at (asks w)) n) t = ap (λ (x : Stage). saidAt x k) (t .tracking .1 .1 .0) ∙ ap (λ (q : ℕ). says Inconclusive q 0) (sym (t .tracking .0))
-said k j (reached (at (hears (issuer z))) n) t = ap (λ (x : Stage). saidAt x k) (t .tracking .1 .0) ∙ ap (λ (q : ℕ). says Inconclusive q 0) (sym (t .tracking .0))
+said k j (reached (at (hears h)) n) t = ap (λ (x : Stage). saidAt x k) (t .tracking .1 .0) ∙ ap (λ (q : ℕ). says Inconclusive q 0) (sym (t .tracking .0))
 said k j (reached (at (decides outcome reason z)) n) t = ap (λ (x : Stage). saidAt x k) (t .tracking .1 .0) ∙ ap (λ (q : ℕ). says Inconclusive q 0) (sym (t .tracking .0))
 said k j (reached (owes w) n) t = ap (λ (x : Stage). saidAt x k) (t .tracking .1 .0) ∙ ap (λ (q : ℕ). says Inconclusive q 0) (sym (t .tracking .0))
 said k j (reached done n) t = ap (λ (x : Stage). saidAt x k) (t .tracking .1) ∙ ap (λ (q : ℕ). says Pass q 0) (sym (t .tracking .0))

@@ -1,43 +1,42 @@
 // One entry further.
 use crate::Judgement;
-use decide::reply::is_reply;
 use dialogue::event;
 use lists::alike;
-use moves::Due;
+use session_phase::Reply;
+use session_phase::Speaker;
+use session_phase::Waiting;
+use session_phase::kind_of;
 use stages::Stage;
-use start::valid_start;
 use state::State;
 use state::change::fresh;
 use state::result::decision;
 use tape::ANSWER;
 use tape::COMMAND;
 use tape::DECISION;
-use tape::HOST;
 use tape::SILENCE;
-use tape::START;
 ghost use mathlib.Core.Path.{_≡_};
 ghost use lib.ListN.{length};
-ghost use Rattle.following.specs.Following.{begun, stageOf, staged, atStart, atCommand, atSilence, atAnswer, atHost, atDecision, fed};
-ghost use Rattle.stages.specs.declared.Stage.{Stage as Stages};
+ghost use Rattle.following.specs.Following.{begun, stageOf, staged, advanced, atCommand, atSilence, atAnswer, atDecision, spoken, wordAt, fed};
 
 pub fn begin() -> Judgement
     ensures { λ r. ⌜ r ≡ begun ⌝ }
 {
     Judgement {
-        stage: Stage::Start,
+        stage: Stage::Word,
         state: fresh(),
         command: [0; 261],
     }
 }
 
-fn stage_of(due: Due) -> Stage
-    ensures { λ r. ⌜ r ≡ stageOf due ⌝ }
+fn stage_of(reply: Reply) -> Stage
+    ensures { λ r. ⌜ r ≡ stageOf reply ⌝ }
 {
-    match due {
-        Due::Command(n) => Stage::Command(n),
-        Due::Host => Stage::Host,
-        Due::Decision => Stage::Decision,
-        Due::Nothing => Stage::Start,
+    match reply {
+        Reply::Command(n) => Stage::Command(n),
+        Reply::Due(_) => Stage::Word,
+        Reply::Decided => Stage::Decision,
+        Reply::Closed => Stage::Closed,
+        Reply::Refused(_) => Stage::Closed,
     }
 }
 
@@ -54,21 +53,17 @@ fn stage(j: Judgement, stage: Stage) -> Judgement
     }
 }
 
-fn at_start(j: Judgement, index: usize, kind: u8, payload: &[u8]) -> Judgement
-    ensures { λ r. ⌜ r ≡ atStart j index kind (now (payload .entry)) ⌝ }
+// A step of the session.
+fn advance(j: Judgement, payload: &[u8]) -> Judgement
+    ensures { λ r. ⌜ r ≡ advanced j (now (payload .entry)) ⌝ }
 {
-    if kind != START {
-        return stage(j, Stage::Broken(index));
-    }
-    if !valid_start(payload) {
-        return stage(j, Stage::Broken(index));
-    }
     let mut command = j.command;
-    let step = event::start(payload, &mut command);
+    let before = j.state;
+    let step = event::step(before, payload, &mut command);
     let state = step.state;
-    let due = step.due;
+    let reply = step.reply;
     Judgement {
-        stage: stage_of(due),
+        stage: stage_of(reply),
         state,
         command,
     }
@@ -113,37 +108,7 @@ fn at_answer(j: Judgement, index: usize, kind: u8, payload: &[u8]) -> Judgement
     if kind != ANSWER {
         return at_silence(j, index, kind, payload);
     }
-    let mut command = j.command;
-    let before = j.state;
-    let step = event::answer(before, payload, &mut command);
-    let state = step.state;
-    let due = step.due;
-    Judgement {
-        stage: stage_of(due),
-        state,
-        command,
-    }
-}
-
-fn at_host(j: Judgement, index: usize, kind: u8, payload: &[u8]) -> Judgement
-    ensures { λ r. ⌜ r ≡ atHost j index kind (now (payload .entry)) ⌝ }
-{
-    if kind != HOST {
-        return stage(j, Stage::Broken(index));
-    }
-    if !is_reply(payload) {
-        return stage(j, Stage::Broken(index));
-    }
-    let mut command = j.command;
-    let before = j.state;
-    let step = event::host(before, payload, &mut command);
-    let state = step.state;
-    let due = step.due;
-    Judgement {
-        stage: stage_of(due),
-        state,
-        command,
-    }
+    advance(j, payload)
 }
 
 fn at_decision(j: Judgement, index: usize, kind: u8, payload: &[u8]) -> Judgement
@@ -161,16 +126,41 @@ fn at_decision(j: Judgement, index: usize, kind: u8, payload: &[u8]) -> Judgemen
     }
 }
 
+// Somebody's word: of the kind that is due, and one that may be said.
+fn by_speaker(j: Judgement, speaker: Speaker, index: usize, kind: u8, payload: &[u8]) -> Judgement
+    ensures { λ r. ⌜ r ≡ spoken speaker j index kind (now (payload .entry)) ⌝ }
+{
+    if kind != kind_of(speaker) {
+        return stage(j, Stage::Broken(index));
+    }
+    if !event::is_allowed(speaker, payload) {
+        return stage(j, Stage::Broken(index));
+    }
+    advance(j, payload)
+}
+
+fn at_word(j: Judgement, index: usize, kind: u8, payload: &[u8]) -> Judgement
+    ensures { λ r. ⌜ r ≡ wordAt (j .state .waiting) j index kind (now (payload .entry)) ⌝ }
+{
+    let state = j.state;
+    let waiting = state.waiting;
+    match waiting {
+        Waiting::ForWord(speaker) => by_speaker(j, speaker, index, kind, payload),
+        Waiting::ForCard(_) => stage(j, Stage::Broken(index)),
+        Waiting::Decided(_, _) => stage(j, Stage::Broken(index)),
+        Waiting::Closed => stage(j, Stage::Broken(index)),
+    }
+}
+
 // The entry at an index, read: nothing may follow a decision or a closing silence, and what is broken stays broken.
 pub fn feed(j: Judgement, index: usize, kind: u8, payload: &[u8]) -> Judgement
     ensures { λ r. ⌜ r ≡ fed j index kind (now (payload .entry)) ⌝ }
 {
     let due = j.stage;
     match due {
-        Stage::Start => at_start(j, index, kind, payload),
+        Stage::Word => at_word(j, index, kind, payload),
         Stage::Command(n) => at_command(j, n, index, kind, payload),
         Stage::Answer => at_answer(j, index, kind, payload),
-        Stage::Host => at_host(j, index, kind, payload),
         Stage::Decision => at_decision(j, index, kind, payload),
         Stage::Done => stage(j, Stage::Broken(index)),
         Stage::Closed => stage(j, Stage::Broken(index)),

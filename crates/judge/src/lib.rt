@@ -8,7 +8,7 @@ use tape::code;
 use tape::kind;
 use tape::payload;
 use tape::session;
-use verdicts::Answer;
+use verdict::Answer;
 ghost use Rattle.verdicts.specs.Judged.{Judged};
 
 // The verdict of any bytes.

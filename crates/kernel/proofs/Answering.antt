@@ -1,4 +1,4 @@
--- A call is turned away, with nothing changed, or taken, and then it is the dialogue's step.
+-- A call is turned away, with nothing changed, or taken: then it closes the session, or is the session's step.
 -- Assumes nothing.
 use mathlib.Core.Path.{_≡_, refl, sym, ap, _∙_}
 use mathlib.Core.List.{List}
@@ -7,27 +7,37 @@ use lib.Dec.{eqb}
 use borrow.Author.Tests.{eq-eqb, ne-eqb}
 use Rattle.lists.specs.Choice.{pick}
 use Rattle.lists.proofs.Choice.{pick-yes, pick-no}
+use Rattle.tape.specs.Entries.{Entry, silence}
+use Rattle.session_phase.specs.declared.Reply.the-variants.{Refused, Closed as ClosedReply}
 use Rattle.moves.specs.Moves.{Moved, played}
 use Rattle.moves.specs.declared.Step.{Step as Move}
+use Rattle.dialogue.specs.Events.{step}
+use Rattle.refusals.specs.Refusals.{callRefusal}
 use Rattle.kernel.specs.declared.Session.{Session}
-use Rattle.kernel.specs.declared.Reply.{Reply}
-use Rattle.kernel.specs.declared.Reply.the-variants.{Refused}
 use Rattle.kernel.specs.declared.Step.{Step}
-use Rattle.kernel.specs.Calls.{Called, called, refused, replyTo, accepted, unless}
+use Rattle.kernel.specs.Calls.{Called, called, refused, accepted, closedState, closedAfter, taken, unless, call}
 
-module _ (s : Session) (buf : List ℕ) (taken : Called) {why n : ℕ} (e : why ≡ n) (r : Step) where
-  pub away : (why ≡ 0 → ⊥) → (r .session ≡ s) × (r .reply ≡ Refused why) → called r buf ≡ unless n s buf taken
-  unfolding called refused unless
+module _ (s : Session) (e : Entry) (buf : List ℕ) {why : ℕ} (told : why ≡ callRefusal (s .state .waiting) e buf) (r : Step) where
+  pub away : (why ≡ 0 → ⊥) → (r .session ≡ s) × (r .reply ≡ Refused why) → called r buf ≡ call s e buf
+  unfolding called refused unless call
   away h t =
-      (λ i. record { session = t .0 i; reply = (t .1 ∙ ap Refused e) i; buffer = buf })
-      ∙ sym (pick-no _ _ _ (ne-eqb n 0 (λ z. h (e ∙ z))))
+      (λ i. record { session = t .0 i; reply = (t .1 ∙ ap Refused told) i; buffer = buf })
+      ∙ sym (pick-no _ _ _ (ne-eqb _ 0 (λ z. h (told ∙ z))))
 
-  pub took : (out : List ℕ) → why ≡ 0 → called r out ≡ taken → called r out ≡ unless n s buf taken
-  unfolding unless
-  took out h t = t ∙ sym (pick-yes _ _ _ (eq-eqb n 0 (sym e ∙ h)))
+  took : (out : List ℕ) → why ≡ 0 → called r out ≡ taken s e buf → called r out ≡ call s e buf
+  unfolding unless call
+  took out h t = t ∙ sym (pick-yes _ _ _ (eq-eqb _ 0 (sym told ∙ h)))
 
-pub as-played : (r : Step) (m : Move) (out : List ℕ) (to : Moved) → (r .session .state ≡ m .state) × (r .reply ≡ replyTo (m .due)) → played m out ≡ to
-    → called r out ≡ accepted to
-unfolding called accepted played
-as-played r m out to t p =
-    (λ i. record { session = record { state = t .0 i }; reply = t .1 i; buffer = out }) ∙ ap accepted p
+  pub closes : why ≡ 0 → e .kind ≡ silence → (r .session .state ≡ closedState (s .state)) × (r .reply ≡ ClosedReply) → called r buf ≡ call s e buf
+  unfolding called taken closedAfter
+  closes h k t =
+      took buf h
+      ((λ i. record { session = record { state = t .0 i }; reply = t .1 i; buffer = buf }) ∙ sym (pick-yes _ _ _ (eq-eqb _ silence k)))
+
+  pub steps : (m : Move) (out : List ℕ) → why ≡ 0 → (e .kind ≡ silence → ⊥) → (r .session .state ≡ m .state) × (r .reply ≡ m .reply)
+      → played m out ≡ step (s .state) (e .payload) buf → called r out ≡ call s e buf
+  unfolding called taken accepted played
+  steps m out h k t p =
+      took out h
+      ((λ i. record { session = record { state = t .0 i }; reply = t .1 i; buffer = out })
+      ∙ (ap accepted p ∙ sym (pick-no _ _ _ (ne-eqb _ silence k))))

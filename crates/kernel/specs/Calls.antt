@@ -1,21 +1,21 @@
--- The calls. Each is turned away with the first number of 01, "When a call is turned away", that applies, and then nothing changes;
--- otherwise it is a step of the dialogue, and a silence closes the session.
+-- The calls. An event is handed in as an entry. It is turned away with the first number of 01, "When a call is turned away", that
+-- applies, and then nothing changes; otherwise it is a step of the session, and a silence closes it.
 -- Assumes nothing.
 use mathlib.Core.List.{List}
 use Prim.Native.Nat.{ℕ}
 use lib.Dec.{eqb}
 use Rattle.lists.specs.Choice.{pick}
+use Rattle.tape.specs.Entries.{Entry, silence}
+use Rattle.session_phase.specs.declared.Reply.{Reply}
+use Rattle.session_phase.specs.declared.Reply.the-variants.{Refused, Closed as ClosedReply}
+use Rattle.session_phase.specs.declared.Waiting.the-variants.{Closed}
 use Rattle.state.specs.Keeping.{changed, fresh as freshState}
-use Rattle.state.specs.declared.Phase.the-variants.{Closed}
+use Rattle.state.specs.declared.State.{State}
 use Rattle.moves.specs.Moves.{Moved}
-use Rattle.dialogue.specs.Events.{started, answered, hostHeard}
-use Rattle.moves.specs.declared.Due.{Due}
-use Rattle.moves.specs.declared.Due.the-variants.{Command as CommandDue, Host as HostDue, Decision, Nothing}
+use Rattle.dialogue.specs.Events.{step}
+use Rattle.refusals.specs.Refusals.{callRefusal}
 use Rattle.kernel.specs.declared.Session.{Session}
-use Rattle.kernel.specs.declared.Reply.{Reply}
-use Rattle.kernel.specs.declared.Reply.the-variants.{Command, Host as HostReply, Decided as DecidedReply, Closed as ClosedReply, Refused}
 use Rattle.kernel.specs.declared.Step.{Step}
-use Rattle.refusals.specs.Refusals.{startRefusal, answerRefusal, silenceRefusal, hostRefusal}
 
 -- what a call leaves behind: the session, the reply, and the lent command buffer
 pub record Called : Type 0 where
@@ -30,39 +30,25 @@ called r out = record { session = r .session; reply = r .reply; buffer = out }
 unfoldable pub refused : ℕ → Session → List ℕ → Called
 refused n s buf = record { session = s; reply = Refused n; buffer = buf }
 
--- what the dialogue says is due, as a reply. The dialogue turns no event away that the kernel lets pass
-unfoldable pub replyTo : Due → Reply
-replyTo (CommandDue n) = Command n
-replyTo HostDue = HostReply
-replyTo Decision = DecidedReply
-replyTo Nothing = Refused 4
-
 unfoldable pub accepted : Moved → Called
-accepted m = record { session = record { state = m .state }; reply = replyTo (m .due); buffer = m .buffer }
+accepted m = record { session = record { state = m .state }; reply = m .reply; buffer = m .buffer }
+
+-- silence closes the session without decision; nothing else changes
+unfoldable pub closedState : State → State
+closedState s = changed Closed (s .tvr) (s .tsi) (s .cursor) s
+
+unfoldable pub closedAfter : Session → List ℕ → Called
+closedAfter s buf = record { session = record { state = closedState (s .state) }; reply = ClosedReply; buffer = buf }
+
+-- an event that is taken
+unfoldable pub taken : Session → Entry → List ℕ → Called
+taken s e buf = pick (eqb (e .kind) silence) (closedAfter s buf) (accepted (step (s .state) (e .payload) buf))
 
 unfoldable pub unless : ℕ → Session → List ℕ → Called → Called
-unless n s buf taken = pick (eqb n 0) taken (refused n s buf)
+unless n s buf took = pick (eqb n 0) took (refused n s buf)
 
-unfoldable pub startCall : Session → List ℕ → List ℕ → Called
-startCall s b buf = unless (startRefusal (s .state .phase) b buf) s buf (accepted (started b buf))
-
-unfoldable pub answerCall : Session → List ℕ → List ℕ → Called
-answerCall s a buf = unless (answerRefusal (s .state .phase) a buf) s buf (accepted (answered (s .state) a buf))
-
-unfoldable pub hostCall : Session → List ℕ → List ℕ → Called
-hostCall s h buf = unless (hostRefusal (s .state .phase) h buf) s buf (accepted (hostHeard (s .state) h buf))
-
--- closed: nothing else changes
-unfoldable pub closedAfter : Session → List ℕ → Called
-closedAfter s buf =
-    record {
-      session = record { state = changed Closed (s .state .tvr) (s .state .tsi) (s .state .cursor) (s .state) };
-      reply = ClosedReply;
-      buffer = buf;
-    }
-
-unfoldable pub silenceCall : Session → List ℕ → Called
-silenceCall s buf = unless (silenceRefusal (s .state .phase) buf) s buf (closedAfter s buf)
+unfoldable pub call : Session → Entry → List ℕ → Called
+call s e buf = unless (callRefusal (s .state .waiting) e buf) s buf (taken s e buf)
 
 unfoldable pub freshSession : Session
 freshSession = record { state = freshState }

@@ -1,46 +1,56 @@
 // A session's calls: each consumes one event and gives the next session with the reply. The command is written at the start of the
-// lent buffer; a decision, a reply that is due, a silence and a call that is turned away touch no byte of it.
-use crate::Reply;
+// lent buffer; a decision, a word that is due, a silence and a call that is turned away touch no byte of it.
 use crate::Session;
 use crate::Step;
 use dialogue::event;
-use moves::Due;
 use moves::Step as Move;
-use refusals::refuse;
-use state::Phase;
+use refusals::refusal;
+use session_phase::Reply;
+use session_phase::Waiting;
+use state::State;
 use state::change;
+use tape::ANSWER;
+use tape::HOST;
+use tape::SILENCE;
+use tape::START;
 ghost use mathlib.Core.Path.{_≡_};
-ghost use Rattle.kernel.specs.Calls.{called, replyTo, accepted, startCall, answerCall, silenceCall, hostCall, freshSession};
-ghost use Rattle.moves.specs.Moves.{played};
-
-fn reply_to(due: Due) -> Reply
-    ensures { λ r. ⌜ r ≡ replyTo due ⌝ }
-{
-    match due {
-        Due::Command(n) => Reply::Command(n),
-        Due::Host => Reply::Host,
-        Due::Decision => Reply::Decided,
-        Due::Nothing => Reply::Refused(4),
-    }
-}
+ghost use mathlib.Core.List.{List, []};
+ghost use Rattle.tape.specs.Entries.{entry, start as startKind, answer as answerKind, silence as silenceKind, host as hostKind};
+ghost use Rattle.session_phase.specs.declared.Reply.the-variants.{Refused, Closed as ClosedReply};
+ghost use Rattle.kernel.specs.Calls.{called, call, closedState, freshSession};
 
 fn accept(m: Move) -> Step
-    ensures { λ r. ⌜ (r .session .state ≡ m .state) × (r .reply ≡ replyTo (m .due)) ⌝ }
+    ensures { λ r. ⌜ (r .session .state ≡ m .state) × (r .reply ≡ m .reply) ⌝ }
 {
     let state = m.state;
-    let due = m.due;
+    let reply = m.reply;
     Step {
         session: Session { state },
-        reply: reply_to(due),
+        reply,
     }
 }
 
 fn turn_away(s: Session, why: usize) -> Step
-    ensures { λ r. ⌜ (r .session ≡ s) × (r .reply ≡ Reply.Refused why) ⌝ }
+    ensures { λ r. ⌜ (r .session ≡ s) × (r .reply ≡ Refused why) ⌝ }
 {
     Step {
         session: s,
         reply: Reply::Refused(why),
+    }
+}
+
+// The card says nothing: the session is closed without a decision.
+fn close(state: State) -> Step
+    ensures { λ r. ⌜ (r .session .state ≡ closedState state) × (r .reply ≡ ClosedReply) ⌝ }
+{
+    let tvr = state.tvr;
+    let tsi = state.tsi;
+    let place = state.cursor;
+    Step {
+        session: Session {
+            state: change::change(state, Waiting::Closed, tvr, tsi, place),
+        },
+        reply: Reply::Closed,
     }
 }
 
@@ -53,60 +63,43 @@ impl Session {
         }
     }
 
-    pub fn start(self, terminal: &[u8], command: &mut [u8]) -> Step
-        ensures { λ r. ⌜ called r (now (command .exit)) ≡ startCall self (now (terminal .entry)) (now (command .entry)) ⌝ }
+    // An event of any kind, as the entry that it is on a tape.
+    pub fn event(self, kind: u8, payload: &[u8], command: &mut [u8]) -> Step
+        ensures { λ r. ⌜ called r (now (command .exit)) ≡ call self (entry kind (now (payload .entry))) (now (command .entry)) ⌝ }
     {
         let state = self.state;
-        let phase = state.phase;
-        let why = refuse::start(phase, terminal, command);
+        let waiting = state.waiting;
+        let why = refusal(waiting, kind, payload, command);
         if why != 0 {
             return turn_away(self, why);
         }
-        accept(event::start(terminal, command))
+        if kind == SILENCE {
+            return close(state);
+        }
+        accept(event::step(state, payload, command))
+    }
+
+    pub fn start(self, terminal: &[u8], command: &mut [u8]) -> Step
+        ensures { λ r. ⌜ called r (now (command .exit)) ≡ call self (entry startKind (now (terminal .entry))) (now (command .entry)) ⌝ }
+    {
+        self.event(START, terminal, command)
     }
 
     pub fn answer(self, a: &[u8], command: &mut [u8]) -> Step
-        ensures { λ r. ⌜ called r (now (command .exit)) ≡ answerCall self (now (a .entry)) (now (command .entry)) ⌝ }
+        ensures { λ r. ⌜ called r (now (command .exit)) ≡ call self (entry answerKind (now (a .entry))) (now (command .entry)) ⌝ }
     {
-        let state = self.state;
-        let phase = state.phase;
-        let why = refuse::answer(phase, a, command);
-        if why != 0 {
-            return turn_away(self, why);
-        }
-        accept(event::answer(state, a, command))
+        self.event(ANSWER, a, command)
     }
 
     pub fn host(self, h: &[u8], command: &mut [u8]) -> Step
-        ensures { λ r. ⌜ called r (now (command .exit)) ≡ hostCall self (now (h .entry)) (now (command .entry)) ⌝ }
+        ensures { λ r. ⌜ called r (now (command .exit)) ≡ call self (entry hostKind (now (h .entry))) (now (command .entry)) ⌝ }
     {
-        let state = self.state;
-        let phase = state.phase;
-        let why = refuse::host(phase, h, command);
-        if why != 0 {
-            return turn_away(self, why);
-        }
-        accept(event::host(state, h, command))
+        self.event(HOST, h, command)
     }
 
-    // The card says nothing: the session is closed without a decision.
     pub fn silence(self, command: &mut [u8]) -> Step
-        ensures { λ r. ⌜ called r (now (command .exit)) ≡ silenceCall self (now (command .entry)) ⌝ }
+        ensures { λ r. ⌜ called r (now (command .exit)) ≡ call self (entry silenceKind []) (now (command .entry)) ⌝ }
     {
-        let state = self.state;
-        let phase = state.phase;
-        let why = refuse::silence(phase, command);
-        if why != 0 {
-            return turn_away(self, why);
-        }
-        let tvr = state.tvr;
-        let tsi = state.tsi;
-        let place = state.cursor;
-        Step {
-            session: Session {
-                state: change::change(state, Phase::Closed, tvr, tsi, place),
-            },
-            reply: Reply::Closed,
-        }
+        self.event(SILENCE, b"", command)
     }
 }

@@ -1,59 +1,59 @@
 -- When a call is taken: the buffer has room, the session waits for the event, and the event passes its own line.
 -- Assumes nothing.
-use mathlib.Core.Path.{_≡_, refl, ap, _∙_}
-use mathlib.Core.Bool.{Bool, true, false, not}
-use mathlib.Core.List.{List, _++_}
+use mathlib.Core.Path.{_≡_, refl, sym, ap, _∙_}
+use mathlib.Core.Bool.{Bool, true, false, not, false≢true}
+use mathlib.Core.List.{List}
 use Prim.Native.Nat.{ℕ, _≤_}
+use native.Mathlib.Omega.{arith}
+use lib.Dec.{eqb}
 use lib.ListN.{length}
-use borrow.Author.Tests.{le-ltb}
-use Rattle.lists.specs.Choice.{firstOf}
+use borrow.Author.Tests.{eq-eqb, ne-eqb, le-ltb}
+use Rattle.lists.proofs.Choice.{pick-no, either}
 use Rattle.card_data.proofs.Lines.{line-no, last-no}
-use Rattle.start.specs.Start.{validStart}
-use Rattle.tape.specs.Entries.{payloadMost}
+use Rattle.tape.specs.Entries.{Entry, entry, answer, silence, payloadMost}
 use Rattle.commands.specs.Commands.{longest}
-use Rattle.decide.specs.Replies.{replyOf, isReply}
-use Rattle.decide.specs.declared.reply.Reply.{Reply as Said·Reply}
-use Rattle.decide.specs.declared.reply.Heard.{Heard}
-use Rattle.decide.specs.declared.reply.Heard.the-variants.{Said}
-use Rattle.rulebook.specs.Phase.{Asked, selecting, optioning, reading, first, second}
-use Rattle.state.specs.declared.Phase.{Phase as Kept}
-use Rattle.state.specs.declared.Phase.the-variants.{Start, Host}
-use Rattle.moves.specs.Moves.{awaiting}
+use Rattle.session_phase.specs.Waiting.{kindOf, awaited, isOver}
+use Rattle.session_phase.specs.declared.Question.{Question}
+use Rattle.session_phase.specs.declared.Speaker.{Speaker}
+use Rattle.session_phase.specs.declared.Waiting.{Waiting}
+use Rattle.session_phase.specs.declared.Waiting.the-variants.{ForCard, ForWord}
+use Rattle.dialogue.specs.Events.{allowedBy}
+use Rattle.refinement.proofs.Words.{no-silence, some-kind}
+use Rattle.refusals.specs.Refusals.{isDue, startBad, answerBad, replyBad, refusalLines, callRefusal}
 use Rattle.kernel.specs.declared.Session.{Session}
-use Rattle.refusals.specs.Waiting.{isOver, awaitsStart, awaitsCard, awaitsHost}
-use Rattle.refusals.specs.Refusals.{firstLines, startRefusal, answerRefusal, hostRefusal}
+use Rattle.logs.proofs.Words.{word-passes}
 
-asked-waits : (w : Asked) → (isOver (awaiting w) ≡ false) × (awaitsCard (awaiting w) ≡ true)
-unfolding awaiting isOver awaitsCard
-asked-waits (selecting z) = (refl, refl)
-asked-waits (optioning z list) = (refl, refl)
-asked-waits (reading z number file rest) = (refl, refl)
-asked-waits (first z request) = (refl, refl)
-asked-waits (second z request code) = (refl, refl)
+-- an event of the kind that is waited for, which is no silence, is due
+kind-due : (x : Waiting) (e : Entry) → (e .kind ≡ silence → ⊥) → e .kind ≡ awaited x → isDue x e ≡ true
+unfolding isDue
+kind-due x e n h = pick-no _ _ _ (ne-eqb (e .kind) silence n) ∙ eq-eqb (e .kind) (awaited x) h
+
+goes-on : (x : Waiting) → (awaited x ≡ 0 → ⊥) → isOver x ≡ false
+unfolding isOver
+goes-on x h = ne-eqb (awaited x) 0 h
 
 module _ (s : Session) (buf : List ℕ) (room : longest ≤ length buf) where
-  first-free : (rest : List (Bool × ℕ)) → isOver (s .state .phase) ≡ false → firstOf rest ≡ 0 → firstOf (firstLines (s .state .phase) buf ++ rest) ≡ 0
-  unfolding firstLines
-  first-free rest on h = line-no refl 1 _ (le-ltb (length buf) longest room) ∙ (line-no refl 2 rest on ∙ h)
+  free : (e : Entry) → (awaited (s .state .waiting) ≡ 0 → ⊥) → startBad e ≡ false → isDue (s .state .waiting) e ≡ true → answerBad e ≡ false → replyBad e ≡ false
+      → callRefusal (s .state .waiting) e buf ≡ 0
+  unfolding callRefusal refusalLines
+  free e over start due long reply =
+      line-no refl 1 _ (le-ltb (length buf) longest room)
+      ∙ (line-no refl 2 _ (goes-on (s .state .waiting) over)
+      ∙ (line-no refl 3 _ start ∙ (line-no refl 4 _ (ap not due) ∙ (line-no refl 5 _ long ∙ last-no refl 6 reply))))
 
-  pub start-free : (b : List ℕ) → s .state .phase ≡ Start → validStart b ≡ true → startRefusal (s .state .phase) b buf ≡ 0
-  unfolding startRefusal isOver awaitsStart
-  start-free b k valid =
-      first-free _ (ap isOver k) (line-no refl 3 _ (ap not valid) ∙ last-no refl 4 (ap (λ (x : Kept). not (awaitsStart x)) k))
+  pub answer-free : (question : Question) → s .state .waiting ≡ ForCard question → (a : List ℕ) → length a ≤ payloadMost
+      → callRefusal (s .state .waiting) (entry answer a) buf ≡ 0
+  unfolding awaited startBad answerBad replyBad
+  answer-free question k a most =
+      let waits : awaited (s .state .waiting) ≡ answer = ap awaited k in
+      free (entry answer a) (λ z. let none : answer ≡ 0 = sym waits ∙ z in omega arith) refl
+      (kind-due (s .state .waiting) (entry answer a) (λ e. omega arith) (sym waits)) (le-ltb payloadMost (length a) most) refl
 
-  module _ (w : Asked) (k : s .state .phase ≡ awaiting w) where
-    not-over : isOver (s .state .phase) ≡ false
-    not-over = ap isOver k ∙ asked-waits w .0
-
-    is-due : not (awaitsCard (s .state .phase)) ≡ false
-    is-due = ap (λ (x : Kept). not (awaitsCard x)) k ∙ ap not (asked-waits w .1)
-
-    pub answer-free : (a : List ℕ) → length a ≤ payloadMost → answerRefusal (s .state .phase) a buf ≡ 0
-    unfolding answerRefusal
-    answer-free a most = first-free _ not-over (line-no refl 4 _ is-due ∙ last-no refl 5 (le-ltb payloadMost (length a) most))
-
-  pub host-free : (h : List ℕ) (r : Said·Reply) → s .state .phase ≡ Host → replyOf h ≡ Said r → hostRefusal (s .state .phase) h buf ≡ 0
-  unfolding hostRefusal isOver awaitsHost isReply
-  host-free h r k said =
-      first-free _ (ap isOver k)
-      (line-no refl 4 _ (ap (λ (x : Kept). not (awaitsHost x)) k) ∙ last-no refl 6 (ap (λ (x : Heard). not (isReply x)) said))
+  pub word-free : (speaker : Speaker) → s .state .waiting ≡ ForWord speaker → (p : List ℕ) → allowedBy speaker p ≡ true
+      → callRefusal (s .state .waiting) (entry (kindOf speaker) p) buf ≡ 0
+  unfolding awaited
+  word-free speaker k p fits =
+      let waits : awaited (s .state .waiting) ≡ kindOf speaker = ap awaited k in
+      let own = word-passes p speaker fits in
+      free (entry (kindOf speaker) p) (λ z. some-kind speaker (sym waits ∙ z)) (own .0)
+      (kind-due (s .state .waiting) (entry (kindOf speaker) p) (no-silence speaker) (sym waits)) (own .1) (own .2)

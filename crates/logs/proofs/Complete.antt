@@ -2,53 +2,52 @@
 -- after the other. And the kernel, as a function of the entries so far, gives what the rulebook asks of one.
 -- Assumes nothing.
 use mathlib.Core.Path.{_≡_, refl, sym, ap, _∙_, subst}
-use mathlib.Core.Bool.{Bool, true, _||_}
+use mathlib.Core.Bool.{true, false}
 use mathlib.Core.List.{List, [], _∷_, _++_, append-assoc}
 use Prim.Native.Nat.{ℕ, _≤_}
 use native.Mathlib.Omega.{arith}
-use lib.Dec.{eqb, leb}
+
 use lib.ListN.{length, drop}
 use lib.Pow.{areBytes}
 use lib.Seq.{drop-at}
-use borrow.Author.Tests.{eqb-true}
 use Rattle.lists.specs.Choice.{pick}
 use Rattle.lists.specs.Writing.{zeros}
-use Rattle.lists.proofs.Choice.{either, and-both}
+use Rattle.lists.proofs.Choice.{and-both}
 use Rattle.lists.proofs.Writing.{zeros-length}
-use Rattle.tape.specs.Entries.{Entry, entry, command, decision, payloadMost}
+use Rattle.tape.specs.Entries.{Entry, entry, command, answer, decision}
 use Rattle.commands.specs.Commands.{longest}
-use Rattle.rulebook.specs.Phase.{Heard, terminal, issuer, Phase, opens, dueKind}
+use Rattle.rulebook.specs.Phase.{Phase, opens}
 use Rattle.rulebook.proofs.Payloads.{payload-bytes}
 use Rattle.rulebook.specs.Session.{Plays, exchanged, heard, decided, Session as WholeSession}
-use Rattle.rulebook.proofs.Running.{at, done, run, taken, session-run}
+use Rattle.rulebook.specs.Machine.{at, done, run}
+use Rattle.rulebook.proofs.Running.{taken, session-run}
 use Rattle.rulebook.proofs.Reading.{run-append}
-use Rattle.rulebook.proofs.Roles.{given, RightKernel}
-use Rattle.logs.specs.Log.{Call, payloadOf, plays, allBytes, isDecided}
-use Rattle.logs.specs.Replay.{eventIn, handing, callsIn, firstEntry, givenAfter}
+use Rattle.rulebook.specs.Roles.{given, RightKernel}
+use Rattle.logs.specs.Log.{Call, plays, allBytes}
+use Rattle.logs.specs.Replay.{callsIn, firstEntry, givenAfter}
+use Rattle.logs.specs.Ending.{Reproduces}
 use Rattle.logs.proofs.Lawful.{any-calls}
-use Rattle.logs.proofs.Playing.{pending, read-played, session-played}
+use Rattle.logs.proofs.Playing.{pending, own-entry, event-entry, word-event, read-played, session-played}
 
 -- ---- what a session hands in are bytes
-heard-bytes : (buf : List ℕ) (h : Heard) (b : List ℕ) (cs : List Call) → areBytes b ≡ true → allBytes cs ≡ true
-    → allBytes (handing buf (eventIn (entry (dueKind h) b)) cs) ≡ true
-unfolding handing eventIn pick allBytes payloadOf dueKind
-heard-bytes buf terminal b cs x y = and-both (areBytes b) (allBytes cs) x y
-heard-bytes buf (issuer s) b cs x y = and-both (areBytes b) (allBytes cs) x y
+own-bytes : (buf : List ℕ) (e : Entry) (es : List Entry) → given e ≡ true → allBytes (callsIn buf es) ≡ true → allBytes (callsIn buf (e ∷ es)) ≡ true
+own-bytes buf e es g h = ap allBytes (own-entry buf e es g) ∙ h
+
+event-bytes : (buf : List ℕ) (e : Entry) (es : List Entry) → given e ≡ false → areBytes (e .payload) ≡ true → allBytes (callsIn buf es) ≡ true
+    → allBytes (callsIn buf (e ∷ es)) ≡ true
+unfolding allBytes
+event-bytes buf e es g b h = ap allBytes (event-entry buf e es g) ∙ and-both (areBytes (e .payload)) (allBytes (callsIn buf es)) b h
 
 plays-bytes : (buf : List ℕ) {p : Phase} {es : List Entry} → Plays p es → allBytes (callsIn buf es) ≡ true
-unfolding callsIn handing eventIn pick allBytes payloadOf
-plays-bytes buf (exchanged {a} {es} f ok rest) = and-both (areBytes a) (allBytes (callsIn buf es)) (payload-bytes a ok) (plays-bytes buf rest)
+unfolding given callsIn allBytes
+plays-bytes buf (exchanged {c} {a} {es} f ok rest) =
+    own-bytes buf (entry command c) (entry answer a ∷ es) refl
+    (event-bytes buf (entry answer a) es refl (payload-bytes a ok) (plays-bytes buf rest))
 plays-bytes buf (heard {h} {k} {p = b} {es} f fits ok rest) =
-    ap (λ (n : ℕ). allBytes (handing buf (eventIn (entry n b)) (callsIn buf es))) f
-    ∙ heard-bytes buf h b (callsIn buf es) (payload-bytes b ok) (plays-bytes buf rest)
-plays-bytes buf (decided f) = refl
+    event-bytes buf (entry k b) es (ap (λ (n : ℕ). given (entry n b)) f ∙ word-event h b) (payload-bytes b ok) (plays-bytes buf rest)
+plays-bytes buf (decided {d} f) = own-bytes buf (entry decision d) [] refl refl
 
 -- ---- the kernel plays every session
-pub record Reproduces (buf : List ℕ) (es : List Entry) : Type 0 where
-  pub bytes : allBytes (callsIn buf es) ≡ true
-  pub log : plays (callsIn buf es) .log ≡ es
-  pub decides : isDecided (plays (callsIn buf es) .session .state .phase) ≡ true
-
 -- with any buffer that is long enough
 pub session-logged : (buf : List ℕ) → longest ≤ length buf → (es : List Entry) → WholeSession es → Reproduces buf es
 unfolding WholeSession
@@ -67,18 +66,13 @@ module _ (buf : List ℕ) where
   calls-append : (es fs : List Entry) → callsIn buf fs ≡ [] → callsIn buf (es ++ fs) ≡ callsIn buf es
   unfolding callsIn
   calls-append [] fs h = h
-  calls-append (e ∷ es) fs h = ap (handing buf (eventIn e)) (calls-append es fs h)
+  calls-append (e ∷ es) fs h =
+      ap (λ (cs : List Call). pick (given e) cs (record { event = e; buffer = buf } ∷ cs)) (calls-append es fs h)
 
   -- an entry of the kernel's own is no call
-  own-kind : (e : Entry) (k : ℕ) → e .kind ≡ k → callsIn buf (entry k (e .payload) ∷ []) ≡ [] → callsIn buf (e ∷ []) ≡ []
-  own-kind e k same h = ap (λ (n : ℕ). callsIn buf (entry n (e .payload) ∷ [])) same ∙ h
-
   no-call : (e : Entry) → given e ≡ true → callsIn buf (e ∷ []) ≡ []
-  unfolding given callsIn handing eventIn pick
-  no-call e g =
-      either (eqb (e .kind) command)
-      (λ y. own-kind e command (eqb-true (e .kind) command y) refl)
-      (λ n. own-kind e decision (eqb-true (e .kind) decision (sym (ap (λ (b : Bool). b || eqb (e .kind) decision) n) ∙ g)) refl)
+  unfolding callsIn
+  no-call e g = own-entry buf e [] g
 
   pub right : longest ≤ length buf → RightKernel (givenAfter buf)
   unfolding RightKernel givenAfter firstEntry

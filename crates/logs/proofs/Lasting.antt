@@ -2,26 +2,28 @@
 -- ends its log: a call that is turned away changes neither, a silence closes, and any other that is taken is a step of the machine.
 -- Assumes nothing.
 use mathlib.Core.Path.{_≡_, refl, sym, ap, _∙_, subst}
-use mathlib.Core.Bool.{true, false≢true}
+use mathlib.Core.Bool.{true, false, false≢true}
 use mathlib.Core.List.{List, [], _∷_, _++_, append-nil}
 use Prim.Native.Nat.{ℕ}
+use lib.Dec.{eqb}
 use lib.Pow.{areBytes}
-use Rattle.lists.proofs.Choice.{and-left, and-right}
-use Rattle.tape.specs.Entries.{Entry}
+use borrow.Author.Tests.{eqb-true, eqb-false}
+use Rattle.lists.proofs.Choice.{either, and-left, and-right}
+use Rattle.tape.specs.Entries.{Entry, entry, silence}
 use Rattle.rulebook.specs.Session.{Closed as ClosedLog}
 use Rattle.rulebook.proofs.States.{silence-closes}
-use Rattle.state.specs.Keeping.{changed}
-use Rattle.state.specs.declared.Phase.the-variants.{Closed}
+use Rattle.session_phase.specs.Waiting.{awaited, isOver}
+use Rattle.session_phase.specs.declared.Waiting.the-variants.{Closed}
+use Rattle.dialogue.specs.Events.{step}
 use Rattle.refinement.specs.Logging.{Reached}
 use Rattle.refinement.proofs.Reaching.{reached-fresh}
+use Rattle.refusals.specs.Refusals.{callRefusal}
 use Rattle.kernel.specs.declared.Session.{Session}
-use Rattle.refusals.specs.Waiting.{isOver}
-use Rattle.kernel.specs.Calls.{Called, refused, closedAfter, freshSession}
-use Rattle.logs.specs.Log.{Event, start, answer, silence, host, Call, callOf, call, payloadOf, logged, loggedBy, Played, after, playsFrom, plays, allBytes}
-use Rattle.logs.specs.Table.{refusalOf}
+use Rattle.kernel.specs.Calls.{Called, refused, accepted, closedAfter, call, freshSession}
+use Rattle.logs.specs.Log.{Call, made, logged, loggedBy, Played, after, playsFrom, plays, allBytes}
 use Rattle.logs.specs.Saying.{Silenced}
-use Rattle.logs.proofs.Turning.{takenBy, call-taken, call-refused, zero-or, passed}
-use Rattle.logs.proofs.Taking.{isSilence, taken, silence-taken, taken-reached}
+use Rattle.logs.proofs.Turning.{zero-or, Passed, call-taken, call-refused, taken-silence, taken-step, passed}
+use Rattle.logs.proofs.Taking.{taken-event, silence-alone, silence-taken, taken-reached}
 
 pub data Stands (s : Session) (es : List Entry) : Type 0 where
   going : Reached (s .state) es → Stands s es
@@ -31,47 +33,53 @@ pub data Stands (s : Session) (es : List Entry) : Type 0 where
 pub silenced-log : (s : Session) (es : List Entry) → Silenced s es → ClosedLog es
 silenced-log s es c = subst ClosedLog (sym (c .ends)) (silence-closes (c .before) (c .asked) (c .reads))
 
-module _ (s : Session) (es : List Entry) (buf : List ℕ) where
+module _ (s : Session) (es : List Entry) (buf : List ℕ) (e : Entry) where
   -- where a call leaves the session and its log
-  abbrev Left : Called → Event → Type 0
-  Left r e = Stands (r .session) (es ++ loggedBy r e)
+  abbrev Left : Called → Type 0
+  Left r = Stands (r .session) (es ++ loggedBy r e)
 
-  left-refused : (e : Event) → Stands s es → (refusalOf e s buf ≡ 0 → ⊥) → Left (callOf e s buf) e
+  left-refused : Stands s es → (callRefusal (s .state .waiting) e buf ≡ 0 → ⊥) → Left (call s e buf)
   unfolding refused loggedBy logged
-  left-refused e st h =
-      subst (λ (r : Called). Left r e) (sym (call-refused s buf e h)) (subst (Stands s) (sym (append-nil es)) st)
+  left-refused st h = subst Left (sym (call-refused s e buf h)) (subst (Stands s) (sym (append-nil es)) st)
 
-  left-taken : (e : Event) → areBytes (payloadOf e) ≡ true → Reached (s .state) es → refusalOf e s buf ≡ 0 → Left (callOf e s buf) e
-  unfolding isSilence takenBy closedAfter changed loggedBy logged
-  left-taken (start b) bytes there h =
-      going (taken-reached es (start b) buf _ (passed s buf (start b) h .0) (taken s es buf there (start b) bytes h refl))
-  left-taken (answer a) bytes there h =
-      going (taken-reached es (answer a) buf _ (passed s buf (answer a) h .0) (taken s es buf there (answer a) bytes h refl))
-  left-taken silence bytes there h =
-      subst (λ (r : Called). Left r silence) (sym (call-taken s buf silence h)) (shut (silence-taken s es buf there h))
-  left-taken (host b) bytes there h =
-      going (taken-reached es (host b) buf _ (passed s buf (host b) h .0) (taken s es buf there (host b) bytes h refl))
+  module _ (there : Reached (s .state) es) (h : callRefusal (s .state .waiting) e buf ≡ 0) where
+    left-silent : e .kind ≡ silence → Left (call s e buf)
+    unfolding closedAfter loggedBy logged
+    left-silent k =
+        let p = passed s e buf h in
+        subst Left (sym (call-taken s e buf h ∙ taken-silence s e buf k))
+        (subst (λ (x : Entry). Stands (closedAfter s buf .session) (es ++ (x ∷ []))) (sym (silence-alone s es buf there e p k))
+        (shut (silence-taken s es buf there e p k)))
+
+    left-step : areBytes (e .payload) ≡ true → (e .kind ≡ silence → ⊥) → Left (call s e buf)
+    left-step bytes n =
+        let p = passed s e buf h in
+        subst Left (sym (call-taken s e buf h ∙ taken-step s e buf n))
+        (going (taken-reached es e buf (accepted (step (s .state) (e .payload) buf)) (p .room) (taken-event s es buf there e p bytes n)))
 
   -- a session that is closed takes nothing
-  pub not-closed : (e : Event) → s .state .phase ≡ Closed → refusalOf e s buf ≡ 0 → ⊥
-  unfolding isOver
-  not-closed e k h = false≢true (sym (passed s buf e h .1) ∙ ap isOver k)
+  pub not-closed : s .state .waiting ≡ Closed → callRefusal (s .state .waiting) e buf ≡ 0 → ⊥
+  unfolding isOver awaited
+  not-closed k h = false≢true (sym (passed s e buf h .goes) ∙ ap isOver k)
 
-  by-case : (e : Event) → areBytes (payloadOf e) ≡ true → Stands s es → refusalOf e s buf ≡ 0 → Left (callOf e s buf) e
-  by-case e bytes (going there) h = left-taken e bytes there h
-  by-case e bytes (shut c) h = absurd (not-closed e (c .closed) h)
+  by-case : areBytes (e .payload) ≡ true → Stands s es → callRefusal (s .state .waiting) e buf ≡ 0 → Left (call s e buf)
+  by-case bytes (going there) h =
+      either (eqb (e .kind) silence)
+      (λ y. left-silent there h (eqb-true (e .kind) silence y))
+      (λ n. left-step there h bytes (eqb-false (e .kind) silence n))
+  by-case bytes (shut c) h = absurd (not-closed (c .closed) h)
 
-  pub stands-call : (e : Event) → areBytes (payloadOf e) ≡ true → Stands s es → Left (callOf e s buf) e
-  stands-call e bytes st = zero-or (refusalOf e s buf) (by-case e bytes st) (left-refused e st)
+  pub stands-call : areBytes (e .payload) ≡ true → Stands s es → Left (call s e buf)
+  stands-call bytes st = zero-or (callRefusal (s .state .waiting) e buf) (by-case bytes st) (left-refused st)
 
 -- from call to call
 pub stands-from : (cs : List Call) (p : Played) → allBytes cs ≡ true → Stands (p .session) (p .log)
     → Stands (playsFrom p cs .session) (playsFrom p cs .log)
-unfolding playsFrom allBytes after call
+unfolding playsFrom allBytes after made
 stands-from [] p bytes st = st
 stands-from (c ∷ cs) p bytes st =
-    stands-from cs (after p c) (and-right (areBytes (payloadOf (c .event))) (allBytes cs) bytes)
-    (stands-call (p .session) (p .log) (c .buffer) (c .event) (and-left (areBytes (payloadOf (c .event))) (allBytes cs) bytes) st)
+    stands-from cs (after p c) (and-right (areBytes (c .event .payload)) (allBytes cs) bytes)
+    (stands-call (p .session) (p .log) (c .buffer) (c .event) (and-left (areBytes (c .event .payload)) (allBytes cs) bytes) st)
 
 pub stands-plays : (cs : List Call) → allBytes cs ≡ true → Stands (plays cs .session) (plays cs .log)
 unfolding plays freshSession

@@ -2,7 +2,7 @@
 -- open everywhere else: the machine has read the log to its end just there, and a silence leaves it open.
 -- Assumes nothing.
 use mathlib.Core.Path.{_≡_, refl, sym, ap, _∙_}
-use mathlib.Core.Bool.{true, false, false≢true}
+use mathlib.Core.Bool.{Bool, true, false, false≢true}
 use mathlib.Core.List.{List}
 use mathlib.Core.Logic.{inr, ⊎-elim}
 use mathlib.Core.Option.{some}
@@ -10,62 +10,57 @@ use Prim.Native.Nat.{ℕ}
 use native.Mathlib.Omega.{arith}
 use Rattle.lists.proofs.Choice.{either}
 use Rattle.tape.specs.Entries.{Entry}
-use Rattle.rulebook.specs.Phase.{issuer, terminal, Phase, asks, hears, decides}
+use Rattle.rulebook.specs.Phase.{Phase, asks, hears, decides}
 use Rattle.rulebook.specs.Session.{Session as WholeSession, Open, Lawful}
-use Rattle.rulebook.proofs.Running.{done, session-run}
+use Rattle.rulebook.specs.Machine.{done}
+use Rattle.rulebook.proofs.Running.{session-run}
 use Rattle.rulebook.proofs.Reading.{not-closed}
 use Rattle.rulebook.proofs.Trichotomy.{one-sort}
 use Rattle.rulebook.proofs.States.{state-lawful}
+use Rattle.session_phase.specs.Waiting.{isDecided}
+use Rattle.session_phase.specs.declared.Waiting.{Waiting}
+use Rattle.session_phase.specs.declared.Waiting.the-variants.{ForCard, ForWord, Decided, Closed}
 use Rattle.state.specs.declared.State.{State}
-use Rattle.state.specs.declared.Phase.{Phase as Kept}
-use Rattle.state.specs.declared.Phase.the-variants.{Start, Select, Options, Record, First, Second, Host, Decided, Closed}
+use Rattle.moves.specs.Moves.{keptAs}
 use Rattle.refinement.specs.Agreeing.{StandsAt}
 use Rattle.refinement.specs.Logging.{landing, Reached}
-use Rattle.refinement.proofs.Telling.{stands-phase}
 use Rattle.refinement.proofs.Reaching.{reached-decided}
-use Rattle.moves.specs.Moves.{keptAs}
 use Rattle.kernel.specs.declared.Session.{Session}
-use Rattle.logs.specs.Log.{Call, plays, allBytes, isDecided}
+use Rattle.logs.specs.Log.{Call, plays, allBytes}
 use Rattle.logs.specs.Saying.{Lawfully}
 use Rattle.logs.proofs.Lasting.{Stands, going, shut, silenced-log, stands-plays}
 
-is-decided : (k : Kept) → isDecided k ≡ true → (outcome : ℕ) × ((reason : ℕ) × (k ≡ Decided outcome reason))
+is-decided : (x : Waiting) → isDecided x ≡ true → (outcome : ℕ) × ((reason : ℕ) × (x ≡ Decided outcome reason))
 unfolding isDecided
-is-decided Start e = absurd (false≢true e)
-is-decided Select e = absurd (false≢true e)
-is-decided Options e = absurd (false≢true e)
-is-decided Record e = absurd (false≢true e)
-is-decided (First request) e = absurd (false≢true e)
-is-decided (Second request) e = absurd (false≢true e)
-is-decided Host e = absurd (false≢true e)
+is-decided (ForCard question) e = absurd (false≢true e)
+is-decided (ForWord speaker) e = absurd (false≢true e)
 is-decided (Decided outcome reason) e = (outcome, (reason, refl))
 is-decided Closed e = absurd (false≢true e)
 
 -- the machine is at its end only after a decision
-decided-there : (s : State) (p : Phase) → StandsAt s p → landing p ≡ done → isDecided (s .phase) ≡ true
+decided-there : (s : State) (p : Phase) → StandsAt s p → landing p ≡ done → isDecided (s .waiting) ≡ true
 unfolding landing keptAs isDecided
-decided-there s (hears terminal) h e = absurd (let z : _≡_ {A = ℕ} 0 1 = cc e in omega arith)
 decided-there s (asks w) h e = absurd (let z : _≡_ {A = ℕ} 0 1 = cc e in omega arith)
-decided-there s (hears (issuer z)) h e = absurd (let z : _≡_ {A = ℕ} 0 1 = cc e in omega arith)
-decided-there s (decides outcome reason z) h e = ap isDecided (stands-phase s (decides outcome reason z) h)
+decided-there s (hears w) h e = absurd (let z : _≡_ {A = ℕ} 0 1 = cc e in omega arith)
+decided-there s (decides outcome reason z) h e = ap isDecided (h .waits)
 
 module _ (s : Session) (es : List Entry) where
   module _ (there : Reached (s .state) es) where
-    going-finished : isDecided (s .state .phase) ≡ true → WholeSession es
+    going-finished : isDecided (s .state .waiting) ≡ true → WholeSession es
     going-finished e =
-        let d = is-decided (s .state .phase) e in
+        let d = is-decided (s .state .waiting) e in
         reached-decided (s .state) es there (d .0) (d .1 .0) (d .1 .1)
 
-    going-decided : WholeSession es → isDecided (s .state .phase) ≡ true
+    going-decided : WholeSession es → isDecided (s .state .waiting) ≡ true
     going-decided play =
         let same : some (landing (there .phase)) ≡ some done = sym (there .read) ∙ session-run es play in
         decided-there (s .state) (there .phase) (there .stands) (cc same)
 
-    going-open : isDecided (s .state .phase) ≡ false → Open es
+    going-open : isDecided (s .state .waiting) ≡ false → Open es
     unfolding Lawful
     going-open n = ⊎-elim (λ play. absurd (false≢true (sym n ∙ going-decided play))) (λ o. o) (state-lawful es (landing (there .phase)) (there .read))
 
-  shut-undecided : s .state .phase ≡ Closed → isDecided (s .state .phase) ≡ false
+  shut-undecided : s .state .waiting ≡ Closed → isDecided (s .state .waiting) ≡ false
   unfolding isDecided
   shut-undecided k = ap isDecided k
 
@@ -76,7 +71,7 @@ module _ (s : Session) (es : List Entry) where
         finished = going-finished there;
         decided = going-decided there;
         unfinished = going-open there;
-        undecided = λ o. either (isDecided (s .state .phase)) (λ y. absurd (one-sort es (going-finished there y) o)) (λ n. n);
+        undecided = λ o. either (isDecided (s .state .waiting)) (λ y. absurd (one-sort es (going-finished there y) o)) (λ n. n);
       }
   stands-lawful (shut c) =
       record {

@@ -1,4 +1,5 @@
 pub mod Turning
+pub mod Words
 pub mod Giving
 pub mod Taking
 pub mod Lasting

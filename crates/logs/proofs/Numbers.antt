@@ -1,5 +1,5 @@
 -- The number of a call that is turned away is that of the first line of 01's table that applies to it, and a call is taken exactly
--- where no line does: the kernel's own lists of lines are the table, without the lines that never apply to the event.
+-- where no line does.
 -- Assumes nothing.
 use mathlib.Core.Path.{_≡_, refl, sym, ap, _∙_, subst}
 use mathlib.Core.Bool.{Bool, true, false, false≢true}
@@ -11,11 +11,11 @@ use lib.ListN.{getD}
 use Rattle.lists.specs.Choice.{pick, firstOf}
 use Rattle.lists.proofs.Choice.{pick-yes, pick-no}
 use Rattle.kernel.specs.declared.Session.{Session}
-use Rattle.kernel.specs.declared.Reply.the-variants.{Refused}
-use Rattle.refusals.specs.Refusals.{firstLines, startRefusal, answerRefusal, silenceRefusal, hostRefusal}
+use Rattle.session_phase.specs.declared.Reply.the-variants.{Refused}
+use Rattle.refusals.specs.Refusals.{refusalLines, callRefusal}
 use Rattle.kernel.specs.Calls.{Called, refused}
-use Rattle.logs.specs.Log.{Event, start, answer, silence, host, Call, call}
-use Rattle.logs.specs.Table.{refusalOf, startBad, isDue, answerLong, hostBad, tableOf, FirstLine}
+use Rattle.logs.specs.Log.{Call, made}
+use Rattle.logs.specs.Table.{tableOf, FirstLine, NoLine}
 use Rattle.logs.proofs.Turning.{call-refused}
 use Rattle.logs.proofs.Refusing.{number-of}
 
@@ -23,17 +23,11 @@ unfoldable numbered : ℕ → List Bool → List (Bool × ℕ)
 numbered k [] = []
 numbered k (t ∷ table) = (t, k) ∷ numbered (suc k) table
 
-table-first : (s : Session) (buf : List ℕ) (e : Event) → refusalOf e s buf ≡ firstOf (numbered 1 (tableOf e s buf))
-unfolding refusalOf startRefusal answerRefusal silenceRefusal hostRefusal firstLines firstOf pick numbered tableOf startBad isDue answerLong hostBad
-table-first s buf (start b) = refl
-table-first s buf (answer a) = refl
-table-first s buf silence = refl
-table-first s buf (host h) = refl
+table-first : (s : Session) (c : Call) → callRefusal (s .state .waiting) (c .event) (c .buffer) ≡ firstOf (numbered 1 (tableOf s c))
+unfolding callRefusal refusalLines numbered tableOf
+table-first s c = refl
 
 -- ---- any table
-abbrev pub NoLine : List Bool → Type 0
-NoLine table = (n : ℕ) → getD table n false ≡ false
-
 deeper : (t : Bool) (table : List Bool) (line : ℕ) → t ≡ false → FirstLine table line → FirstLine (t ∷ table) (suc line)
 deeper t table line f h = record { applies = h .applies; alone = alone }
   where
@@ -74,26 +68,21 @@ number-first table line e =
 
 -- ---- the kernel's
 module _ (s : Session) (c : Call) where
-  abbrev table : List Bool
-  table = tableOf (c .event) s (c .buffer)
-
   -- a number, and the first line of the table that applies; lines are counted from 0, numbers from 1
-  pub number-line : (line : ℕ) → call s c .reply ≡ Refused (1 + line) → FirstLine table line
-  unfolding call
-  number-line line h =
-      number-first table line (sym (table-first s (c .buffer) (c .event)) ∙ number-of s (c .buffer) (c .event) (1 + line) h .0)
+  pub number-line : (line : ℕ) → made s c .reply ≡ Refused (1 + line) → FirstLine (tableOf s c) line
+  unfolding made
+  number-line line h = number-first (tableOf s c) line (sym (table-first s c) ∙ number-of s (c .event) (c .buffer) (1 + line) h .0)
 
-  pub line-number : (line : ℕ) → FirstLine table line → call s c .reply ≡ Refused (1 + line)
-  unfolding call refused
+  pub line-number : (line : ℕ) → FirstLine (tableOf s c) line → made s c .reply ≡ Refused (1 + line)
+  unfolding made refused
   line-number line h =
-      let n : refusalOf (c .event) s (c .buffer) ≡ 1 + line = table-first s (c .buffer) (c .event) ∙ first-number table 1 line h in
-      ap (λ (r : Called). r .reply) (call-refused s (c .buffer) (c .event) (λ z. omega arith)) ∙ ap Refused n
+      let n : callRefusal (s .state .waiting) (c .event) (c .buffer) ≡ 1 + line = table-first s c ∙ first-number (tableOf s c) 1 line h in
+      ap (λ (r : Called). r .reply) (call-refused s (c .event) (c .buffer) (λ z. omega arith)) ∙ ap Refused n
 
   -- and taken exactly where none applies
-  pub none-taken : NoLine table → (n : ℕ) → call s c .reply ≡ Refused n → ⊥
-  unfolding call
-  none-taken h n e =
-      number-of s (c .buffer) (c .event) n e .1 (table-first s (c .buffer) (c .event) ∙ none-number table 1 h)
+  pub none-taken : NoLine (tableOf s c) → (n : ℕ) → made s c .reply ≡ Refused n → ⊥
+  unfolding made
+  none-taken h n e = number-of s (c .event) (c .buffer) n e .1 (table-first s c ∙ none-number (tableOf s c) 1 h)
 
-  pub taken-none : ((n : ℕ) → call s c .reply ≡ Refused n → ⊥) → NoLine table
-  taken-none h = ⊎-elim (λ f. absurd (h (1 + f .0) (line-number (f .0) (f .1)))) (λ none′. none′) (found table)
+  pub taken-none : ((n : ℕ) → made s c .reply ≡ Refused n → ⊥) → NoLine (tableOf s c)
+  taken-none h = ⊎-elim (λ f. absurd (h (1 + f .0) (line-number (f .0) (f .1)))) (λ none′. none′) (found (tableOf s c))

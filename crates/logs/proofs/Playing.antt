@@ -3,55 +3,69 @@
 -- is the log of a kernel session.
 -- Assumes nothing.
 use mathlib.Core.Path.{_≡_, refl, sym, ap, _∙_, subst}
-use mathlib.Core.Bool.{true, false≢true}
-use mathlib.Core.List.{List, [], _∷_, _++_, append-nil, append-assoc}
+use mathlib.Core.Bool.{Bool, true, false}
+use mathlib.Core.List.{List, [], _∷_, _++_, append-assoc, append-nil}
 use mathlib.Core.Option.{Option, some}
 use Prim.Native.Nat.{ℕ, _≤_}
-use lib.Dec.{leb}
+use native.Mathlib.Omega.{arith}
 use lib.ListN.{length}
-use lib.Pow.{areBytes}
-use borrow.Author.Tests.{leb-true}
 use Rattle.lists.specs.Choice.{pick}
-use Rattle.lists.proofs.Choice.{either, and-left}
-use Rattle.terminal.specs.Reading.{readingOf}
-use Rattle.start.specs.Start.{validStart}
-use Rattle.tape.specs.Entries.{Entry, entry, start as startKind, command, answer as answerKind, host as hostKind, decision, payloadMost}
-use Rattle.commands.specs.Commands.{longest}
-use Rattle.decide.specs.declared.reply.Reply.{Reply as Said·Reply}
-use Rattle.decide.specs.declared.reply.Heard.{Heard}
-use Rattle.decide.specs.declared.reply.Heard.the-variants.{Said, Nothing as NoReply}
-use Rattle.decide.specs.Replies.{replyOf, isReply}
-use Rattle.rulebook.specs.Situation.{Situation}
-use Rattle.rulebook.specs.Phase.{issuer, terminal, Asked, Phase, opens, asks, hears, decides, commandOf, dueKind, decisionOf}
-use Rattle.rulebook.specs.Turn.{opened, turn, allowed, heard, after as afterHearing}
-use Rattle.rulebook.proofs.Payloads.{payload-most}
-use Rattle.rulebook.specs.Session.{isPayload, Session as WholeSession}
 use Rattle.lists.specs.Tests.{alike}
+use Rattle.lists.proofs.Choice.{pick-yes, pick-no}
 use Rattle.lists.proofs.Comparing.{alike-same}
-use Rattle.rulebook.proofs.Running.{State as Machine, at, owes, done, due, due-entry, due-test, sayable, said-allowed, said-payload, next, run, chosen, taken, no-state, session-run}
-use Rattle.rulebook.proofs.Named.{after-reply}
-use Rattle.moves.specs.Moves.{Moved, keptAs, dueIn}
-use Rattle.dialogue.specs.Events.{started as startMoved, answered as answerMoved, hostHeard}
-use Rattle.moves.specs.declared.Due.the-variants.{Nothing}
-use Rattle.refinement.specs.Agreeing.{Agrees}
+use Rattle.tape.specs.Entries.{Entry, entry, command, answer, silence, decision}
+use Rattle.commands.specs.Commands.{longest}
+use Rattle.rulebook.specs.Situation.{Situation}
+use Rattle.rulebook.specs.Phase.{Asked, Heard, Phase, opens, asks, hears, decides, commandOf, dueKind, decisionOf}
+use Rattle.rulebook.specs.Turn.{turn, allowed, after as afterWord}
+use Rattle.rulebook.specs.Session.{isPayload, Session as WholeSession}
+use Rattle.rulebook.specs.Machine.{Machine, at, owes, done, due, sayable, next, run}
+use Rattle.rulebook.specs.Roles.{given}
+use Rattle.rulebook.proofs.Payloads.{payload-most}
+use Rattle.rulebook.proofs.Running.{due-entry, due-test, said-allowed, said-payload, chosen, taken, no-state, session-run}
+use Rattle.session_phase.specs.Waiting.{kindOf}
+use Rattle.session_phase.specs.declared.Speaker.{Speaker}
+use Rattle.state.specs.Reading.{heardBy}
+use Rattle.state.specs.declared.State.{State}
+use Rattle.moves.specs.Moves.{Moved, questionOf, speakerOf, keptAs}
+use Rattle.dialogue.specs.Events.{step}
+use Rattle.refinement.specs.Agreeing.{Knows, StandsAt, Agrees}
 use Rattle.refinement.specs.Logging.{logged as ruled, landing, Follows as Steps}
-use Rattle.refinement.proofs.Stepping.{fresh-stands, lands-at, start-step, answer-step, host-step}
-use Rattle.refinement.proofs.Telling.{stands-phase}
-use Rattle.refinement.proofs.Onward.{turn-due, heard-due}
+use Rattle.refinement.proofs.Words.{no-silence, not-given, allowed-by}
+use Rattle.refinement.proofs.Telling.{kind-due}
+use Rattle.refinement.proofs.Stepping.{fresh-stands, lands-at, answer-step, word-step}
+use Rattle.refusals.specs.Refusals.{callRefusal}
 use Rattle.kernel.specs.declared.Session.{Session}
 use Rattle.kernel.specs.Calls.{Called, accepted, freshSession}
-use Rattle.logs.specs.Log.{Event, start, answer, host, Call, call, entryOf, loggedBy, Played, after, playsFrom, plays}
-use Rattle.logs.specs.Replay.{eventIn, handing, callsIn}
-use Rattle.logs.specs.Table.{refusalOf}
-use Rattle.logs.proofs.Turning.{takenBy, call-taken}
-use Rattle.logs.proofs.Giving.{opened-due, step-gives, gives-logged}
-use Rattle.logs.proofs.Admitting.{start-free, answer-free, host-free}
+use Rattle.logs.specs.Log.{Call, made, loggedBy, Played, after, playsFrom, plays}
+use Rattle.logs.specs.Replay.{callsIn}
+use Rattle.logs.proofs.Turning.{call-taken, taken-step}
+use Rattle.logs.proofs.Giving.{step-gives, gives-logged}
+use Rattle.logs.proofs.Admitting.{answer-free, word-free}
 
 -- what the kernel has logged before the machine has read it
 unfoldable pub pending : Machine → List Entry
 pending (at p) = ruled p
 pending (owes w) = []
 pending done = []
+
+module _ (buf : List ℕ) where
+  -- an entry of the kernel's own is no call, and any other is one
+  pub own-entry : (e : Entry) (es : List Entry) → given e ≡ true → callsIn buf (e ∷ es) ≡ callsIn buf es
+  unfolding callsIn
+  own-entry e es g = pick-yes _ _ _ g
+
+  pub event-entry : (e : Entry) (es : List Entry) → given e ≡ false → callsIn buf (e ∷ es) ≡ record { event = e; buffer = buf } ∷ callsIn buf es
+  unfolding callsIn
+  event-entry e es g = pick-no _ _ _ g
+
+-- the entry of a word is an event
+pub word-event : (h : Heard) (p : List ℕ) → given (entry (dueKind h) p) ≡ false
+word-event h p = ap (λ (k : ℕ). given (entry k p)) (sym (kind-due h)) ∙ not-given (speakerOf h) p
+
+word-spoken : (h : Heard) (s : State) (p : List ℕ) → StandsAt s (hears h) → allowed h p ≡ true → allowed (heardBy (speakerOf h) s) p ≡ true
+unfolding Knows
+word-spoken h s p stands fits = ap (λ (x : Heard). allowed x p) (stands .knows) ∙ fits
 
 module _ (buf : List ℕ) (room : longest ≤ length buf) where
   -- the kernel plays entries from a state of the machine to another: its log grows by them, and by what is pending at the end
@@ -64,73 +78,77 @@ module _ (buf : List ℕ) (room : longest ≤ length buf) where
   longer log es e τ = ap (λ (l : List Entry). l ++ pending τ) (append-assoc log (e ∷ []) es)
 
   -- ---- an event that is taken
-  module _ (s : Session) (e : Event) (σ : Machine) (p : Phase) (m : Moved) (free : refusalOf e s buf ≡ 0)
-      (same : takenBy e s buf ≡ accepted m) (steps : Steps σ (entryOf e) p buf m) (onward : dueIn (length buf) p ≡ Nothing → ⊥) where
+  module _ (s : Session) (e : Entry) (σ : Machine) (p : Phase) (m : Moved) (free : callRefusal (s .state .waiting) e buf ≡ 0)
+      (same : made s (record { event = e; buffer = buf }) ≡ accepted m) (steps : Steps σ e p buf m) (event : given e ≡ false) where
     abbrev one : Call
     one = record { event = e; buffer = buf }
 
     abbrev further : List Entry → Played
     further log = record { session = record { state = m .state }; log = log }
 
-    after-one : (log : List Entry) → after (record { session = s; log = log }) one ≡ further (log ++ (entryOf e ∷ ruled p))
-    unfolding after accepted call
+    after-one : (log : List Entry) → after (record { session = s; log = log }) one ≡ further (log ++ (e ∷ ruled p))
+    unfolding after accepted
     after-one log =
-        ap (λ (r : Called). record { session = r .session; log = log ++ loggedBy r e }) (call-taken s buf e free ∙ same)
-        ∙ ap (λ (l : List Entry). further (log ++ l))
-        (gives-logged e p buf (accepted m) (step-gives σ (entryOf e) buf m room p steps onward))
+        ap (λ (r : Called). record { session = r .session; log = log ++ loggedBy r e }) same
+        ∙ ap (λ (l : List Entry). further (log ++ l)) (gives-logged e p buf (accepted m) (step-gives σ e buf m room p steps))
 
     goes-one : (es : List Entry) (τ : Machine) → Goes (at p) es τ → (log : List Entry)
-        → playsFrom (record { session = s; log = log ++ [] }) (one ∷ callsIn buf es) .log ≡ (log ++ (entryOf e ∷ es)) ++ pending τ
+        → playsFrom (record { session = s; log = log ++ [] }) (callsIn buf (e ∷ es)) .log ≡ (log ++ (e ∷ es)) ++ pending τ
     unfolding playsFrom Agrees pending
     goes-one es τ rest log =
-        ap (λ (q : Played). playsFrom q (callsIn buf es) .log)
+        ap (λ (cs : List Call). playsFrom (record { session = s; log = log ++ [] }) cs .log) (event-entry buf e es event)
+        ∙ (ap (λ (q : Played). playsFrom q (callsIn buf es) .log)
         (after-one (log ++ [])
-        ∙ ap further
-        (ap (λ (l : List Entry). l ++ (entryOf e ∷ ruled p)) (append-nil log) ∙ sym (append-assoc log (entryOf e ∷ []) (ruled p))))
-        ∙ (rest (record { state = m .state }) (steps .stands) (log ++ (entryOf e ∷ [])) ∙ longer log es (entryOf e) τ)
+        ∙ ap further (ap (λ (l : List Entry). l ++ (e ∷ ruled p)) (append-nil log) ∙ sym (append-assoc log (e ∷ []) (ruled p))))
+        ∙ (rest (record { state = m .state }) (steps .stands) (log ++ (e ∷ [])) ∙ longer log es e τ))
 
-  start-goes : (b : List ℕ) (es : List Entry) (τ : Machine) → validStart b ≡ true → isPayload b ≡ true → Goes (at (opened (readingOf b))) es τ
-      → Goes (at opens) (entry startKind b ∷ es) τ
-  unfolding callsIn handing eventIn pick pending ruled entryOf takenBy refusalOf Agrees keptAs opened
-  start-goes b es τ valid ok rest s h log =
-      goes-one s (start b) (at opens) (opened (readingOf b)) (startMoved b buf)
-      (start-free s buf room b (stands-phase (s .state) opens h) valid) refl (start-step b buf valid ok) (opened-due (length buf) (readingOf b)) es τ rest log
+  -- a call that is taken and is no silence
+  steps-as : (s : Session) (e : Entry) → callRefusal (s .state .waiting) e buf ≡ 0 → (e .kind ≡ silence → ⊥)
+      → made s (record { event = e; buffer = buf }) ≡ accepted (step (s .state) (e .payload) buf)
+  unfolding made
+  steps-as s e free n = call-taken s e buf free ∙ taken-step s e buf n
 
   answer-goes : (w : Asked) (a : List ℕ) (es : List Entry) (τ : Machine) → isPayload a ≡ true → Goes (at (turn w a)) es τ
-      → Goes (owes w) (entry answerKind a ∷ es) τ
-  unfolding callsIn handing eventIn pick pending entryOf takenBy refusalOf Agrees keptAs
+      → Goes (owes w) (entry answer a ∷ es) τ
+  unfolding pending Agrees keptAs given
   answer-goes w a es τ ok rest s h log =
-      goes-one s (answer a) (owes w) (turn w a) (answerMoved (s .state) a buf)
-      (answer-free s buf room w (stands-phase (s .state) (asks w) h) a (payload-most a ok)) refl (answer-step (s .state) w a buf h ok) (turn-due (length buf) w a)
+      let e = entry answer a in
+      let free = answer-free s buf room (questionOf w) (h .waits) a (payload-most a ok) in
+      goes-one s e (owes w) (turn w a) (step (s .state) a buf) free (steps-as s e free (λ k. omega arith)) (answer-step (s .state) w a buf h ok) refl
       es τ rest log
 
-  host-goes : (z : Situation) (b : List ℕ) (r : Said·Reply) (es : List Entry) (τ : Machine) → replyOf b ≡ Said r → isPayload b ≡ true
-      → Goes (at (heard z r b)) es τ → Goes (at (hears (issuer z))) (entry hostKind b ∷ es) τ
-  unfolding callsIn handing eventIn pick pending ruled entryOf takenBy refusalOf Agrees keptAs
-  host-goes z b r es τ said ok rest s h log =
-      goes-one s (host b) (at (hears (issuer z))) (heard z r b) (hostHeard (s .state) b buf)
-      (host-free s buf room b r (stands-phase (s .state) (hears (issuer z)) h) said) refl (host-step (s .state) z r b buf h said ok) (heard-due (length buf) z r b)
-      es τ rest log
+  word-goes : (h : Heard) (p : List ℕ) (es : List Entry) (τ : Machine) → allowed h p ≡ true → isPayload p ≡ true → Goes (at (afterWord h p)) es τ
+      → Goes (at (hears h)) (entry (dueKind h) p ∷ es) τ
+  unfolding pending ruled Agrees keptAs
+  word-goes h p es τ fits ok rest s stands log =
+      let e = entry (dueKind h) p in
+      let may = sym (allowed-by (speakerOf h) (s .state) p) ∙ word-spoken h (s .state) p stands fits in
+      let free : callRefusal (s .state .waiting) e buf ≡ 0 =
+      ap (λ (k : ℕ). callRefusal (s .state .waiting) (entry k p) buf) (sym (kind-due h)) ∙ word-free s buf room (speakerOf h) (stands .waits) p may
+      in
+      goes-one s e (at (hears h)) (afterWord h p) (step (s .state) p buf) free (steps-as s e free (λ k. no-silence (speakerOf h) (kind-due h ∙ k)))
+      (word-step (s .state) h p buf stands fits ok) (word-event h p) es τ rest log
 
   -- ---- an entry of the kernel's own: it was pending
-  own-goes : (s : Session) (e : Entry) (es : List Entry) (τ : Machine) (log : List Entry)
+  own-goes : (s : Session) (e : Entry) (es : List Entry) (τ : Machine) (log : List Entry) → given e ≡ true
       → playsFrom (record { session = s; log = (log ++ (e ∷ [])) ++ [] }) (callsIn buf es) .log ≡ ((log ++ (e ∷ [])) ++ es) ++ pending τ
-      → playsFrom (record { session = s; log = log ++ (e ∷ []) }) (callsIn buf es) .log ≡ (log ++ (e ∷ es)) ++ pending τ
-  own-goes s e es τ log rest =
-      ap (λ (l : List Entry). playsFrom (record { session = s; log = l }) (callsIn buf es) .log) (sym (append-nil (log ++ (e ∷ []))))
-      ∙ (rest ∙ longer log es e τ)
+      → playsFrom (record { session = s; log = log ++ (e ∷ []) }) (callsIn buf (e ∷ es)) .log ≡ (log ++ (e ∷ es)) ++ pending τ
+  own-goes s e es τ log g rest =
+      ap (λ (cs : List Call). playsFrom (record { session = s; log = log ++ (e ∷ []) }) cs .log) (own-entry buf e es g)
+      ∙ (ap (λ (l : List Entry). playsFrom (record { session = s; log = l }) (callsIn buf es) .log) (sym (append-nil (log ++ (e ∷ []))))
+      ∙ (rest ∙ longer log es e τ))
 
   command-goes : (w : Asked) (es : List Entry) (τ : Machine) → Goes (owes w) es τ → Goes (at (asks w)) (entry command (commandOf w) ∷ es) τ
-  unfolding callsIn handing eventIn pick pending ruled Agrees
+  unfolding pending ruled Agrees given
   command-goes w es τ rest s h log =
-      own-goes s (entry command (commandOf w)) es τ log (rest s h (log ++ (entry command (commandOf w) ∷ [])))
+      own-goes s (entry command (commandOf w)) es τ log refl (rest s h (log ++ (entry command (commandOf w) ∷ [])))
 
   decision-goes : (outcome reason : ℕ) (z : Situation) (es : List Entry) (τ : Machine) → Goes done es τ
       → Goes (at (decides outcome reason z)) (entry decision (decisionOf outcome reason z) ∷ es) τ
-  unfolding callsIn handing eventIn pick pending ruled Agrees landing
+  unfolding pending ruled Agrees landing given
   decision-goes outcome reason z es τ rest s h log =
       let e = entry decision (decisionOf outcome reason z) in
-      own-goes s e es τ log (rest s (lands-at (s .state) (decides outcome reason z) h) (log ++ (e ∷ [])))
+      own-goes s e es τ log refl (rest s (lands-at (s .state) (decides outcome reason z) h) (log ++ (e ∷ [])))
 
   -- ---- whatever the machine takes
   abbrev Onward : List Entry → Machine → Type 0
@@ -141,41 +159,28 @@ module _ (buf : List ℕ) (room : longest ≤ length buf) where
     settled : (σ σ′ : Machine) (o : Option Machine) → o ≡ some σ → o ≡ some σ′ → run es σ ≡ some τ → Goes σ′ es τ
     settled σ σ′ o a b r = let same : some σ ≡ some σ′ = sym a ∙ b in on σ′ (subst (λ (x : Machine). run es x ≡ some τ) (cc same) r)
 
-    by-reply : (z : Situation) (b : List ℕ) (σ : Machine) (x : Heard) → replyOf b ≡ x → isPayload b ≡ true → isReply (replyOf b) ≡ true
-        → some (at (afterHearing (issuer z) b)) ≡ some σ → run es σ ≡ some τ → Goes (at (hears (issuer z))) (entry hostKind b ∷ es) τ
-    unfolding isReply
-    by-reply z b σ (Said reply) said ok fits h r =
-        host-goes z b reply es τ said ok (settled σ (at (heard z reply b)) _ h (ap (λ (q : Phase). some (at q)) (after-reply z b reply said)) r)
-    by-reply z b σ NoReply said ok fits h r = absurd (false≢true (sym (ap isReply said) ∙ fits))
-
     by-state : (e : Entry) (σ ρ : Machine) → next σ e ≡ some ρ → run es ρ ≡ some τ → Goes σ (e ∷ es) τ
-    unfolding next dueKind allowed afterHearing
-    by-state e (at (hears terminal)) ρ h r =
-        let b = e .payload in
-        let c = chosen (due startKind (sayable terminal b) e) (some (at (opened (readingOf b)))) ρ h in
-        let said = due-test startKind _ e (c .0) in
-        subst (λ (x : Entry). Goes (at opens) (x ∷ es) τ) (sym (due-entry startKind _ e (c .0)))
-        (start-goes b es τ (said-allowed terminal b said) (said-payload terminal b said) (settled ρ (at (opened (readingOf b))) _ (c .1) refl r))
+    unfolding next
     by-state e (at (asks w)) ρ h r =
         let c = chosen (due command (alike (e .payload) (commandOf w)) e) (some (owes w)) ρ h in
         let same = alike-same (e .payload) (commandOf w) (due-test command _ e (c .0)) in
         subst (λ (x : Entry). Goes (at (asks w)) (x ∷ es) τ) (sym (due-entry command _ e (c .0) ∙ ap (entry command) same))
         (command-goes w es τ (settled ρ (owes w) _ (c .1) refl r))
-    by-state e (at (hears (issuer z))) ρ h r =
-        let b = e .payload in
-        let c = chosen (due hostKind (sayable (issuer z) b) e) (some (at (afterHearing (issuer z) b))) ρ h in
-        let said = due-test hostKind _ e (c .0) in
-        subst (λ (x : Entry). Goes (at (hears (issuer z))) (x ∷ es) τ) (sym (due-entry hostKind _ e (c .0)))
-        (by-reply z b ρ (replyOf b) refl (said-payload (issuer z) b said) (said-allowed (issuer z) b said) (c .1) r)
+    by-state e (at (hears h)) ρ n r =
+        let p = e .payload in
+        let c = chosen (due (dueKind h) (sayable h p) e) (some (at (afterWord h p))) ρ n in
+        let said = due-test (dueKind h) _ e (c .0) in
+        subst (λ (x : Entry). Goes (at (hears h)) (x ∷ es) τ) (sym (due-entry (dueKind h) _ e (c .0)))
+        (word-goes h p es τ (said-allowed h p said) (said-payload h p said) (settled ρ (at (afterWord h p)) _ (c .1) refl r))
     by-state e (at (decides outcome reason z)) ρ h r =
         let c = chosen (due decision (alike (e .payload) (decisionOf outcome reason z)) e) (some done) ρ h in
         let same = alike-same (e .payload) (decisionOf outcome reason z) (due-test decision _ e (c .0)) in
         subst (λ (x : Entry). Goes (at (decides outcome reason z)) (x ∷ es) τ) (sym (due-entry decision _ e (c .0) ∙ ap (entry decision) same))
         (decision-goes outcome reason z es τ (settled ρ done _ (c .1) refl r))
     by-state e (owes w) ρ h r =
-        let c = chosen (due answerKind (isPayload (e .payload)) e) (some (at (turn w (e .payload)))) ρ h in
-        subst (λ (x : Entry). Goes (owes w) (x ∷ es) τ) (sym (due-entry answerKind _ e (c .0)))
-        (answer-goes w (e .payload) es τ (due-test answerKind _ e (c .0)) (settled ρ (at (turn w (e .payload))) _ (c .1) refl r))
+        let c = chosen (due answer (isPayload (e .payload)) e) (some (at (turn w (e .payload)))) ρ h in
+        subst (λ (x : Entry). Goes (owes w) (x ∷ es) τ) (sym (due-entry answer _ e (c .0)))
+        (answer-goes w (e .payload) es τ (due-test answer _ e (c .0)) (settled ρ (at (turn w (e .payload))) _ (c .1) refl r))
     by-state e done ρ h r = no-state ρ h
 
   goes : (es : List Entry) (τ : Machine) → Onward es τ

@@ -1,142 +1,174 @@
 -- A call that is taken is a step of the rulebook's machine, from where the log has led it: the kernel lets an event pass only where
 -- the machine waits for it, with a payload that a tape can hold.
 -- Assumes nothing.
-use mathlib.Core.Path.{_≡_, refl, sym, _∙_, subst}
-use mathlib.Core.Bool.{Bool, true, false, false≢true}
+use mathlib.Core.Path.{_≡_, refl, sym, ap, _∙_, subst}
+use mathlib.Core.Bool.{Bool, true, false, _&&_, false≢true}
 use mathlib.Core.List.{List, [], _∷_, _++_}
 use mathlib.Core.Option.{some}
 use Prim.Native.Nat.{ℕ, _≤_}
 use native.Mathlib.Omega.{arith}
-use lib.Dec.{eqb, leb}
+use lib.Dec.{eqb, ltb}
 use lib.ListN.{length}
 use lib.Pow.{areBytes}
-use borrow.Author.Tests.{eqb-true}
-use Rattle.lists.proofs.Choice.{pick-no, either}
-use Rattle.terminal.specs.Reading.{readingOf}
-use Rattle.start.proofs.Laws.{start-length}
-use Rattle.tape.specs.Entries.{Entry, payloadMost}
+use borrow.Author.Tests.{eqb-true, eq-eqb, ne-eqb, ltb-false}
+use Rattle.lists.proofs.Choice.{pick-yes, pick-no, and-left, and-right}
+use Rattle.lists.proofs.Cutting.{none-left}
+use Rattle.tape.specs.Entries.{Entry, entry, answer, silence, payloadMost}
 use Rattle.commands.specs.Commands.{longest}
-use Rattle.decide.specs.Replies.{replyOf}
-use Rattle.decide.specs.declared.reply.Reply.{Reply as Said·Reply}
-use Rattle.decide.specs.declared.reply.Heard.the-variants.{Said}
-use Rattle.rulebook.specs.Phase.{issuer, Phase, opens, asks, hears, tvrOf, tsiOf}
-use Rattle.rulebook.specs.Turn.{opened, turn, heard}
+use Rattle.rulebook.specs.Phase.{Asked, Heard, Phase, opens, asks, hears, dueKind, tvrOf, tsiOf}
+use Rattle.rulebook.specs.Turn.{turn, allowed, after}
 use Rattle.rulebook.proofs.Payloads.{payload}
-use Rattle.rulebook.proofs.Running.{State as Machine, at, owes, run}
+use Rattle.rulebook.specs.Machine.{Machine, at, owes, run}
 use Rattle.rulebook.proofs.States.{state-next}
-use Rattle.state.specs.Reading.{late}
+use Rattle.session_phase.specs.Waiting.{kindOf, awaited, isOver}
+use Rattle.session_phase.specs.declared.Question.{Question}
+use Rattle.session_phase.specs.declared.Speaker.{Speaker}
+use Rattle.session_phase.specs.declared.Waiting.{Waiting}
+use Rattle.session_phase.specs.declared.Waiting.the-variants.{ForCard, ForWord, Decided, Closed}
+use Rattle.state.specs.Reading.{heardBy}
 use Rattle.state.specs.Keeping.{changed}
-use Rattle.moves.specs.Moves.{Moved, dueIn}
-use Rattle.dialogue.specs.Events.{started, answered, hostHeard}
-use Rattle.moves.specs.declared.Due.the-variants.{Nothing}
-use Rattle.refinement.specs.Agreeing.{StandsAt, Agrees}
+use Rattle.state.specs.declared.State.{State}
+use Rattle.moves.specs.Moves.{Moved, speakerOf}
+use Rattle.dialogue.specs.Events.{allowedBy, step}
+use Rattle.refinement.specs.Agreeing.{Knows, StandsAt}
 use Rattle.refinement.specs.Logging.{logged as ruled, Follows as Steps, Reached}
-use Rattle.refinement.proofs.Standing.{stands-tvr, stands-tsi}
-use Rattle.refinement.proofs.Telling.{stands-phase}
-use Rattle.refinement.proofs.Onward.{turn-due, heard-due}
-use Rattle.refinement.proofs.Stepping.{start-step, answer-step, host-step}
-use Rattle.refinement.proofs.Reaching.{reached-on, reached-start, reached-asked, reached-host}
+use Rattle.refinement.proofs.Words.{no-answer, allowed-by, allowed-short}
+use Rattle.refinement.proofs.Telling.{kind-due}
+use Rattle.refinement.proofs.Stepping.{answer-step, word-step}
+use Rattle.refinement.proofs.Reaching.{reached-on, reached-asked, reached-word}
+use Rattle.refusals.specs.Refusals.{isDue, startBad, answerBad, replyBad}
+use Rattle.refusals.proofs.OwnTests.{of-kind}
 use Rattle.kernel.specs.declared.Session.{Session}
-use Rattle.kernel.specs.Calls.{Called, accepted, closedAfter}
-use Rattle.logs.specs.Log.{Event, start, answer, silence, host, callOf, entryOf, payloadOf, loggedBy}
-use Rattle.logs.specs.Table.{refusalOf}
+use Rattle.kernel.specs.Calls.{Called, accepted, closedState, closedAfter}
+use Rattle.logs.specs.Log.{loggedBy}
 use Rattle.logs.specs.Saying.{Gives, Follows, Silenced}
-use Rattle.logs.proofs.Turning.{takenBy, call-taken, start-passed, answer-passed, silence-passed, host-passed}
-use Rattle.logs.proofs.Giving.{opened-due, step-gives, gives-logged}
+use Rattle.logs.proofs.Turning.{Passed}
+use Rattle.logs.proofs.Words.{passed-word}
+use Rattle.logs.proofs.Giving.{step-gives, gives-logged}
 
--- a reply of the issuer's has three bytes
-said-length : (h : List ℕ) (r : Said·Reply) → replyOf h ≡ Said r → length h ≡ 3
-unfolding replyOf
-said-length h r e =
-    either (eqb (length h) 3)
-    (λ y. eqb-true (length h) 3 y)
-    (λ n. let not-said = sym (pick-no _ _ _ n) ∙ e in absurd (let z : _≡_ {A = ℕ} 0 1 = cc not-said in omega arith))
+-- ---- what it means that an event is due
+as-entry : (e : Entry) (k : ℕ) → e .kind ≡ k → e ≡ entry k (e .payload)
+as-entry e k h = ap (λ (n : ℕ). entry n (e .payload)) h
 
--- ---- an event that is taken, and is no silence
-unfoldable pub isSilence : Event → Bool
-isSilence (start b) = false
-isSilence (answer a) = false
-isSilence silence = true
-isSilence (host h) = false
+due-kind : (x : Waiting) (e : Entry) → isDue x e ≡ true → (e .kind ≡ silence → ⊥) → e .kind ≡ awaited x
+unfolding isDue
+due-kind x e d n = eqb-true (e .kind) (awaited x) (sym (pick-no _ _ _ (ne-eqb (e .kind) silence n)) ∙ d)
 
--- the machine stands where the event is due, and the call is a step of the dialogue's
-pub record Taken (es : List Entry) (e : Event) (buf : List ℕ) (r : Called) : Type 0 where
+module _ (x : Waiting) (e : Entry) (d : isDue x e ≡ true) (k : e .kind ≡ silence) where
+  silent-due : (eqb (awaited x) answer && eqb (length (e .payload)) 0) ≡ true
+  unfolding isDue
+  silent-due = sym (pick-yes _ _ _ (eq-eqb (e .kind) silence k)) ∙ d
+
+  silent-waits : awaited x ≡ answer
+  silent-waits = eqb-true (awaited x) answer (and-left (eqb (awaited x) answer) _ silent-due)
+
+  silent-entry : e ≡ entry silence []
+  silent-entry =
+      as-entry e silence k ∙ ap (entry silence) (none-left (e .payload) (eqb-true (length (e .payload)) 0 (and-right (eqb (awaited x) answer) _ silent-due)))
+
+waits-card : (x : Waiting) → awaited x ≡ answer → (question : Question) × (x ≡ ForCard question)
+unfolding awaited
+waits-card (ForCard question) e = (question, refl)
+waits-card (ForWord speaker) e = absurd (no-answer speaker e)
+waits-card (Decided outcome reason) e = absurd (omega arith)
+waits-card Closed e = absurd (omega arith)
+
+-- ---- an event that is taken, and is no silence: the machine stands where it is due, and the call is a step of the session's
+pub record Taken (es : List Entry) (e : Entry) (buf : List ℕ) (r : Called) : Type 0 where
   pub from : Machine
   pub read : run es (at opens) ≡ some from
   pub to : Phase
   pub moved : Moved
-  pub steps : Steps from (entryOf e) to buf moved
-  pub onward : dueIn (length buf) to ≡ Nothing → ⊥
+  pub steps : Steps from e to buf moved
   pub same : r ≡ accepted moved
 
-module _ (s : Session) (es : List Entry) (buf : List ℕ) (there : Reached (s .state) es) where
-  taken-event : (e : Event) → areBytes (payloadOf e) ≡ true → refusalOf e s buf ≡ 0 → isSilence e ≡ false → Taken es e buf (takenBy e s buf)
-  unfolding takenBy payloadOf refusalOf isSilence entryOf opened
-  taken-event (start b) bytes h n =
-      let p = start-passed s buf b h in
-      let size = start-length b (p .0) in
-      record {
-        from = at opens;
-        read = reached-start (s .state) es there (p .1);
-        to = opened (readingOf b);
-        moved = started b buf;
-        steps = start-step b buf (p .0) (payload b (omega arith) bytes);
-        onward = opened-due (length buf) (readingOf b);
-        same = refl;
-      }
-  taken-event (answer a) bytes h n =
-      let p = answer-passed s buf a h in
-      let w = reached-asked (s .state) es there (p .1 .0) (p .1 .1) in
-      record {
-        from = owes (w .0);
-        read = w .1 .1 .0;
-        to = turn (w .0) a;
-        moved = answered (s .state) a buf;
-        steps = answer-step (s .state) (w .0) a buf (w .1 .1 .1) (payload a (p .0) bytes);
-        onward = turn-due (length buf) (w .0) a;
-        same = refl;
-      }
-  taken-event silence bytes h n = absurd (false≢true (sym n))
-  taken-event (host b) bytes h n =
-      let p = host-passed s buf b h in
-      let r = p .1 .0 in
-      let size = said-length b r (p .1 .1) in
-      let w = reached-host (s .state) es there (p .0) in
-      record {
-        from = at (hears (issuer (late (s .state))));
-        read = w .0;
-        to = heard (late (s .state)) r b;
-        moved = hostHeard (s .state) b buf;
-        steps = host-step (s .state) (late (s .state)) r b buf (w .1) (p .1 .1) (payload b (omega arith) bytes);
-        onward = heard-due (length buf) (late (s .state)) r b;
-        same = refl;
-      }
+module _ (s : Session) (es : List Entry) (buf : List ℕ) (there : Reached (s .state) es) (e : Entry) (passed : Passed s e buf) where
+  abbrev p : List ℕ
+  p = e .payload
 
-  pub taken : (e : Event) → areBytes (payloadOf e) ≡ true → refusalOf e s buf ≡ 0 → isSilence e ≡ false → Taken es e buf (callOf e s buf)
-  taken e bytes h n = subst (Taken es e buf) (sym (call-taken s buf e h)) (taken-event e bytes h n)
+  abbrev stepped : Moved
+  stepped = step (s .state) p buf
+
+  module _ (bytes : areBytes p ≡ true) (n : e .kind ≡ silence → ⊥) where
+    on-card : (question : Question) → s .state .waiting ≡ ForCard question → Taken es e buf (accepted stepped)
+    unfolding awaited answerBad
+    on-card question k =
+        let w = reached-asked (s .state) es there question k in
+        let kind : e .kind ≡ answer = due-kind (s .state .waiting) e (passed .due) n ∙ ap awaited k in
+        let short = ltb-false payloadMost (length p) (sym (of-kind (e .kind) answer _ kind) ∙ passed .answer) in
+        record {
+          from = owes (w .0);
+          read = w .1 .0;
+          to = turn (w .0) p;
+          moved = stepped;
+          steps =
+            subst (λ (x : Entry). Steps (owes (w .0)) x (turn (w .0) p) buf stepped) (sym (as-entry e answer kind))
+                (answer-step (s .state) (w .0) p buf (w .1 .1) (payload p short bytes));
+          same = refl;
+        }
+
+    on-word : (speaker : Speaker) → s .state .waiting ≡ ForWord speaker → Taken es e buf (accepted stepped)
+    unfolding awaited Knows
+    on-word speaker k =
+        let there′ = reached-word (s .state) es there speaker k in
+        let h = there′ .0 in
+        let stands = there′ .1 .1 .1 in
+        let kind : e .kind ≡ kindOf speaker = due-kind (s .state .waiting) e (passed .due) n ∙ ap awaited k in
+        let same = as-entry e (kindOf speaker) kind in
+        let fits = passed-word p speaker (ap startBad (sym same) ∙ passed .start) (ap replyBad (sym same) ∙ passed .reply) in
+        let known : heardBy speaker (s .state) ≡ h = ap (λ (x : Speaker). heardBy x (s .state)) (sym (there′ .1 .0)) ∙ stands .knows in
+        let may : allowed h p ≡ true = ap (λ (x : Heard). allowed x p) (sym known) ∙ (allowed-by speaker (s .state) p ∙ fits) in
+        let due : e .kind ≡ dueKind h = kind ∙ (ap kindOf (sym (there′ .1 .0)) ∙ kind-due h) in
+        record {
+          from = at (hears h);
+          read = there′ .1 .1 .0;
+          to = after h p;
+          moved = stepped;
+          steps =
+            subst (λ (x : Entry). Steps (at (hears h)) x (after h p) buf stepped) (sym (as-entry e (dueKind h) due))
+                (word-step (s .state) h p buf stands may (payload p (allowed-short speaker p fits) bytes));
+          same = refl;
+        }
+
+    over : {A : Type 0} (x : Waiting) → s .state .waiting ≡ x → isOver x ≡ true → A
+    over x k h = absurd (false≢true (sym (passed .goes) ∙ (ap isOver k ∙ h)))
+
+    by-waiting : (x : Waiting) → s .state .waiting ≡ x → Taken es e buf (accepted stepped)
+    unfolding isOver awaited
+    by-waiting (ForCard question) k = on-card question k
+    by-waiting (ForWord speaker) k = on-word speaker k
+    by-waiting (Decided outcome reason) k = over (Decided outcome reason) k refl
+    by-waiting Closed k = over Closed k refl
+
+    pub taken-event : Taken es e buf (accepted stepped)
+    taken-event = by-waiting (s .state .waiting) refl
 
   -- a silence that is taken closes what waits for the card
-  pub silence-taken : refusalOf silence s buf ≡ 0 → Silenced (closedAfter s buf .session) (es ++ (entryOf silence ∷ []))
-  unfolding refusalOf entryOf closedAfter changed Agrees tvrOf tsiOf
-  silence-taken h =
-      let p = silence-passed s buf h in
-      let w = reached-asked (s .state) es there (p .0) (p .1) in
-      record {
-        before = es;
-        asked = w .0;
-        reads = w .1 .1 .0;
-        ends = refl;
-        closed = refl;
-        tvr = stands-tvr (s .state) (asks (w .0)) (w .1 .1 .1);
-        tsi = stands-tsi (s .state) (asks (w .0)) (w .1 .1 .1);
-      }
+  module _ (k : e .kind ≡ silence) where
+    pub silence-alone : e ≡ entry silence []
+    silence-alone = silent-entry (s .state .waiting) e (passed .due) k
+
+    pub silence-taken : Silenced (closedAfter s buf .session) (es ++ (entry silence [] ∷ []))
+    unfolding closedAfter closedState changed tvrOf tsiOf
+    silence-taken =
+        let q = waits-card (s .state .waiting) (silent-waits (s .state .waiting) e (passed .due) k) in
+        let w = reached-asked (s .state) es there (q .0) (q .1) in
+        record {
+          before = es;
+          asked = w .0;
+          reads = w .1 .0;
+          ends = refl;
+          closed = refl;
+          tvr = w .1 .1 .tvr;
+          tsi = w .1 .1 .tsi;
+        }
 
 -- ---- what follows of a call that is taken
-module _ (es : List Entry) (e : Event) (buf : List ℕ) (r : Called) (room : longest ≤ length buf) (t : Taken es e buf r) where
+module _ (es : List Entry) (e : Entry) (buf : List ℕ) (r : Called) (room : longest ≤ length buf) (t : Taken es e buf r) where
   pub taken-gives : Gives (t .to) buf r
-  taken-gives = subst (Gives (t .to) buf) (sym (t .same)) (step-gives (t .from) (entryOf e) buf (t .moved) room (t .to) (t .steps) (t .onward))
+  taken-gives = subst (Gives (t .to) buf) (sym (t .same)) (step-gives (t .from) e buf (t .moved) room (t .to) (t .steps))
 
-  pub taken-logged : loggedBy r e ≡ entryOf e ∷ ruled (t .to)
+  pub taken-logged : loggedBy r e ≡ e ∷ ruled (t .to)
   taken-logged = gives-logged e (t .to) buf r taken-gives
 
   taken-stands : StandsAt (r .session .state) (t .to)
@@ -148,16 +180,16 @@ module _ (es : List Entry) (e : Event) (buf : List ℕ) (r : Called) (room : lon
   taken-reached =
       subst (λ (x : Called). Reached (x .session .state) (es ++ loggedBy r e)) (sym (t .same))
       (subst (λ (l : List Entry). Reached (t .moved .state) (es ++ l)) (sym taken-logged)
-      (reached-on es (t .from) (entryOf e) (t .to) buf (t .moved) (t .read) (t .steps)))
+      (reached-on es (t .from) e (t .to) buf (t .moved) (t .read) (t .steps)))
 
   pub taken-follows : Follows es e buf r
   taken-follows =
       record {
         phase = t .to;
-        reads = state-next es (t .from) (entryOf e) (t .read) (at (t .to)) (t .steps .taken);
+        reads = state-next es (t .from) e (t .read) (at (t .to)) (t .steps .taken);
         gives = taken-gives;
-        waits = stands-phase (r .session .state) (t .to) taken-stands;
-        tvr = stands-tvr (r .session .state) (t .to) taken-stands;
-        tsi = stands-tsi (r .session .state) (t .to) taken-stands;
+        waits = taken-stands .waits;
+        tvr = taken-stands .tvr;
+        tsi = taken-stands .tsi;
         grows = taken-logged;
       }

@@ -9,40 +9,42 @@ use lib.Pow.{areBytes}
 use Rattle.commands.specs.Commands.{longest}
 use Rattle.tape.specs.Entries.{Entry}
 use Rattle.rulebook.specs.Session.{Session as WholeSession, Open}
-use Rattle.rulebook.proofs.Roles.{RightKernel}
-use Rattle.refinement.proofs.Clearing.{Keeps}
+use Rattle.rulebook.specs.Roles.{RightKernel}
+use Rattle.refinement.specs.Bits.{Keeps}
+use Rattle.session_phase.specs.Waiting.{isDecided, isClosed}
 use Rattle.kernel.specs.declared.Session.{Session}
-use Rattle.kernel.specs.declared.Reply.the-variants.{Refused}
-use Rattle.logs.specs.Log.{Call, call, payloadOf, plays, allBytes, isDecided, isClosed}
+use Rattle.session_phase.specs.declared.Reply.the-variants.{Refused}
+use Rattle.logs.specs.Log.{Call, made, plays, allBytes}
 use Rattle.logs.specs.Replay.{givenAfter}
-use Rattle.logs.specs.Table.{tableOf, FirstLine}
+use Rattle.logs.specs.Table.{tableOf, FirstLine, NoLine}
+use Rattle.logs.specs.Ending.{EndsDecided, Ended, Reproduces}
 use Rattle.logs.specs.Saying.{Lawfully, Says, Replies, Unchanged}
 use Rattle.logs.proofs.Lawful.{any-calls}
 use Rattle.logs.proofs.Refusing.{refused-unchanged}
-use Rattle.logs.proofs.Ending.{Ended, decided-ended, closed-ended, silence-is-open, silence-is-no-session}
+use Rattle.logs.proofs.Ending.{decided-ended, closed-ended, silence-is-open, silence-is-no-session}
 use Rattle.logs.proofs.Holding.{plays-keeps}
 use Rattle.logs.proofs.Telling.{plays-says, plays-replies}
-use Rattle.logs.proofs.Deciding.{Ends, decision-last}
-use Rattle.logs.proofs.Complete.{Reproduces, session-logged, right}
-use Rattle.logs.proofs.Numbers.{NoLine, number-line, line-number, none-taken, taken-none}
+use Rattle.logs.proofs.Deciding.{decision-last}
+use Rattle.logs.proofs.Complete.{session-logged, right}
+use Rattle.logs.proofs.Numbers.{number-line, line-number, none-taken, taken-none}
 
 pub record Kernel : Type 0 where
   pub lawful : (cs : List Call) → allBytes cs ≡ true → Lawfully (plays cs .session) (plays cs .log)
   pub says : (cs : List Call) → allBytes cs ≡ true → Says (plays cs .session) (plays cs .log)
-  pub replies : (cs : List Call) (c : Call) → allBytes cs ≡ true → areBytes (payloadOf (c .event)) ≡ true → Replies (plays cs) c
-  pub ends : (cs : List Call) → allBytes cs ≡ true → Ends (plays cs .session) (plays cs .log)
+  pub replies : (cs : List Call) (c : Call) → allBytes cs ≡ true → areBytes (c .event .payload) ≡ true → Replies (plays cs) c
+  pub ends : (cs : List Call) → allBytes cs ≡ true → EndsDecided (plays cs .session) (plays cs .log)
   pub complete : (buf : List ℕ) → longest ≤ length buf → (es : List Entry) → WholeSession es → Reproduces buf es
   pub rightly : (buf : List ℕ) → longest ≤ length buf → RightKernel (givenAfter buf)
   pub keeps : (cs more : List Call) → allBytes cs ≡ true → allBytes more ≡ true → Keeps (plays cs .session .state) (plays (cs ++ more) .session .state)
-  pub decided : (cs : List Call) → isDecided (plays cs .session .state .phase) ≡ true → Ended cs
-  pub closed : (cs : List Call) → isClosed (plays cs .session .state .phase) ≡ true → Ended cs
-  pub silent : (cs : List Call) → allBytes cs ≡ true → isClosed (plays cs .session .state .phase) ≡ true → Open (plays cs .log)
-  pub no-session : (cs : List Call) → allBytes cs ≡ true → isClosed (plays cs .session .state .phase) ≡ true → WholeSession (plays cs .log) → ⊥
-  pub unchanged : (s : Session) (c : Call) (n : ℕ) → call s c .reply ≡ Refused n → Unchanged s c
-  pub number : (s : Session) (c : Call) (line : ℕ) → call s c .reply ≡ Refused (1 + line) → FirstLine (tableOf (c .event) s (c .buffer)) line
-  pub line : (s : Session) (c : Call) (line : ℕ) → FirstLine (tableOf (c .event) s (c .buffer)) line → call s c .reply ≡ Refused (1 + line)
-  pub free : (s : Session) (c : Call) → NoLine (tableOf (c .event) s (c .buffer)) → (n : ℕ) → call s c .reply ≡ Refused n → ⊥
-  pub taken : (s : Session) (c : Call) → ((n : ℕ) → call s c .reply ≡ Refused n → ⊥) → NoLine (tableOf (c .event) s (c .buffer))
+  pub decided : (cs : List Call) → isDecided (plays cs .session .state .waiting) ≡ true → Ended cs
+  pub closed : (cs : List Call) → isClosed (plays cs .session .state .waiting) ≡ true → Ended cs
+  pub silent : (cs : List Call) → allBytes cs ≡ true → isClosed (plays cs .session .state .waiting) ≡ true → Open (plays cs .log)
+  pub no-session : (cs : List Call) → allBytes cs ≡ true → isClosed (plays cs .session .state .waiting) ≡ true → WholeSession (plays cs .log) → ⊥
+  pub unchanged : (s : Session) (c : Call) (n : ℕ) → made s c .reply ≡ Refused n → Unchanged s c
+  pub number : (s : Session) (c : Call) (line : ℕ) → made s c .reply ≡ Refused (1 + line) → FirstLine (tableOf s c) line
+  pub line : (s : Session) (c : Call) (line : ℕ) → FirstLine (tableOf s c) line → made s c .reply ≡ Refused (1 + line)
+  pub free : (s : Session) (c : Call) → NoLine (tableOf s c) → (n : ℕ) → made s c .reply ≡ Refused n → ⊥
+  pub taken : (s : Session) (c : Call) → ((n : ℕ) → made s c .reply ≡ Refused n → ⊥) → NoLine (tableOf s c)
 
 pub kernel : Kernel
 kernel =

@@ -15,30 +15,32 @@ use Rattle.start.specs.Start.{validKind, validDigits, validRandom, validPercent
 use Rattle.lists.specs.Tests.{every, between}
 use Rattle.decimals.specs.Decimal.{decimalFrom, decimal, decimalByte, digitsOnly, zerosOnly}
 use Rattle.decimals.specs.Dates.{monthAndDay, validStartDate}
-use Rattle.tape.specs.Entries.{Entry, entry, start as startKind, command, decision}
+use Rattle.tape.specs.Entries.{Entry, entry, command, decision}
 use Rattle.commands.specs.Commands.{longest, selectCommand}
 use Rattle.rulebook.specs.Situation.{begun}
-use Rattle.rulebook.specs.Phase.{selecting, opens, commandOf}
-use Rattle.rulebook.specs.Turn.{opened}
+use Rattle.rulebook.specs.Phase.{selecting, terminal, opens, commandOf, dueKind}
+use Rattle.rulebook.specs.Turn.{opened, allowed, after}
 use Rattle.rulebook.specs.Session.{isPayload}
-use Rattle.rulebook.proofs.Running.{at}
+use Rattle.rulebook.specs.Machine.{at}
 use Rattle.rulebook.proofs.Made.{startOf, tc, aac, given as cryptogram, opening, exchange, firstAsked}
 use Rattle.rulebook.proofs.Sessions.{offline, approved-offline}
 use Rattle.rulebook.proofs.Trichotomy.{snoc-same}
 use Rattle.rulebook.proofs.ShutOut.{Parts, not-terminating, not-always-aac, not-idle, not-settled}
-use Rattle.state.specs.Results.{outcomeOf, decisionIn}
+use Rattle.session_phase.specs.Waiting.{kindOf, isDecided, outcomeOf}
+use Rattle.session_phase.specs.declared.Speaker.the-variants.{Terminal}
+use Rattle.state.specs.Results.{decisionIn}
 use Rattle.state.specs.Keeping.{stateAt, fresh}
-use Rattle.dialogue.specs.Events.{started}
-use Rattle.refinement.proofs.Stepping.{start-step}
+use Rattle.moves.specs.Moves.{speakerOf}
+use Rattle.dialogue.specs.Events.{allowedBy, step}
+use Rattle.refinement.proofs.Stepping.{fresh-stands, word-step}
 use Rattle.kernel.specs.declared.Session.{Session}
 use Rattle.kernel.specs.Calls.{Called, accepted, freshSession}
-use Rattle.logs.specs.Log.{start, Call, call, entryOf, plays, allBytes, isDecided}
+use Rattle.logs.specs.Log.{Call, made, plays, allBytes}
 use Rattle.logs.specs.Replay.{callsIn, givenAfter}
-use Rattle.logs.specs.Table.{refusalOf}
 use Rattle.logs.specs.Saying.{Gives}
-use Rattle.logs.proofs.Turning.{takenBy, call-taken}
-use Rattle.logs.proofs.Giving.{opened-due, step-gives}
-use Rattle.logs.proofs.Admitting.{start-free}
+use Rattle.logs.proofs.Turning.{call-taken, taken-step}
+use Rattle.logs.proofs.Giving.{step-gives}
+use Rattle.logs.proofs.Admitting.{word-free}
 use Rattle.logs.proofs.Complete.{session-logged, right}
 use Rattle.logs.proofs.Deciding.{decision-last}
 
@@ -72,7 +74,7 @@ not-settled-at-start s p = not-settled s p kernel (right (zeros longest) room)
 abbrev approvedCalls : List Call
 approvedCalls = callsIn (zeros longest) (offline 2 tc 1)
 
-approved : outcomeOf (plays approvedCalls .session .state .phase) ≡ 1
+approved : outcomeOf (plays approvedCalls .session .state .waiting) ≡ 1
 unfolding decisionIn
 approved =
     let it = session-logged (zeros longest) room (offline 2 tc 1) (approved-offline .0) in
@@ -84,8 +86,8 @@ approved =
     in
     ap (λ (e : Entry). getD (e .payload) 0 0) (same .1)
 
-pub not-every-outcome-3 : ((cs : List Call) → allBytes cs ≡ true → isDecided (plays cs .session .state .phase) ≡ true
-    → outcomeOf (plays cs .session .state .phase) ≡ 3) → ⊥
+pub not-every-outcome-3 : ((cs : List Call) → allBytes cs ≡ true → isDecided (plays cs .session .state .waiting) ≡ true
+    → outcomeOf (plays cs .session .state .waiting) ≡ 3) → ⊥
 not-every-outcome-3 wrong =
     let it = session-logged (zeros longest) room (offline 2 tc 1) (approved-offline .0) in
     let said = wrong approvedCalls (it .bytes) (it .decides) in
@@ -111,16 +113,18 @@ also-room : longest ≤ length lent
 also-room = let size = zeros-length 260 in omega arith
 
 -- it writes the command into the buffer: SELECT stands there after START
-pub not-left-alone : ((s : Session) (c : Call) → call s c .buffer ≡ c .buffer) → ⊥
-unfolding call freshSession fresh stateAt refusalOf takenBy accepted opened Gives commandOf selectCommand entryOf
+pub not-left-alone : ((s : Session) (c : Call) → made s c .buffer ≡ c .buffer) → ⊥
+unfolding made freshSession fresh stateAt accepted opened after dueKind Gives commandOf selectCommand speakerOf kindOf allowedBy allowed
 not-left-alone wrong =
-    let same = call-taken freshSession lent (start begin) (start-free freshSession lent also-room begin refl valid) in
-    let steps = start-step begin lent valid held in
-    let gives =
-    step-gives (at opens) (entry startKind begin) lent (started begin lent) also-room (opened (readingOf begin)) steps
-    (opened-due (length lent) (readingOf begin))
+    let e = entry (dueKind terminal) begin in
+    let free = word-free freshSession lent also-room Terminal refl begin valid in
+    let m = step (freshSession .state) begin lent in
+    let same : made freshSession (record { event = e; buffer = lent }) ≡ accepted m =
+    call-taken freshSession e lent free ∙ taken-step freshSession e lent (λ k. omega arith)
     in
-    let left : started begin lent .buffer ≡ lent = ap (λ (r : Called). r .buffer) (sym same) ∙ wrong freshSession (record { event = start begin; buffer = lent }) in
+    let steps = word-step (freshSession .state) terminal begin lent fresh-stands valid held in
+    let gives = step-gives (at opens) e lent m also-room (opened (readingOf begin)) steps in
+    let left : m .buffer ≡ lent = ap (λ (r : Called). r .buffer) (sym same) ∙ wrong freshSession (record { event = e; buffer = lent }) in
     let select = commandOf (selecting (begun (readingOf begin))) in
     let there : take (length select) lent ≡ select = ap (take (length select)) (sym left) ∙ gives .1 in
     let first : _≡_ {A = ℕ} 1 0 = ap (λ (l : List ℕ). getD l 0 0) there in

@@ -3,3 +3,4 @@ pub mod Log
 pub mod Replay
 pub mod Table
 pub mod Saying
+pub mod Ending

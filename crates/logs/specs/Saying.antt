@@ -8,46 +8,46 @@ use Prim.Native.Nat.{ℕ}
 use lib.ListN.{length, take, drop}
 use Rattle.tape.specs.Entries.{Entry, entry, silence}
 use Rattle.rulebook.specs.Situation.{Situation}
-use Rattle.rulebook.specs.Phase.{issuer, terminal, Asked, Phase, opens, asks, hears, decides, situationOf, commandOf, decisionOf, tvrOf, tsiOf}
+use Rattle.rulebook.specs.Phase.{Asked, Phase, opens, asks, hears, decides, situationOf, commandOf, dueKind, decisionOf, tvrOf, tsiOf}
 use Rattle.rulebook.specs.Session.{Session as WholeSession, Open}
-use Rattle.rulebook.proofs.Running.{at, owes, run}
+use Rattle.rulebook.specs.Machine.{at, owes, run}
+use Rattle.session_phase.specs.Waiting.{isDecided}
+use Rattle.session_phase.specs.declared.Waiting.the-variants.{Closed}
+use Rattle.session_phase.specs.declared.Reply.the-variants.{Command, Due, Decided as DecidedReply, Closed as ClosedReply, Refused}
 use Rattle.state.specs.Results.{decisionIn}
-use Rattle.state.specs.declared.Phase.the-variants.{Closed}
 use Rattle.moves.specs.Moves.{keptAs}
 use Rattle.refinement.specs.Logging.{logged, landing}
 use Rattle.kernel.specs.declared.Session.{Session}
-use Rattle.kernel.specs.declared.Reply.the-variants.{Command, Host, Decided, Closed as ClosedReply, Refused}
 use Rattle.kernel.specs.Calls.{Called}
-use Rattle.logs.specs.Log.{Event, silence as silent, Call, call, entryOf, loggedBy, Played, isDecided}
+use Rattle.logs.specs.Log.{Call, made, loggedBy, Played}
 
 -- the log is a session of the rulebook exactly where the kernel has decided, and open everywhere else
 pub record Lawfully (s : Session) (log : List Entry) : Type 0 where
-  pub finished : isDecided (s .state .phase) ≡ true → WholeSession log
-  pub decided : WholeSession log → isDecided (s .state .phase) ≡ true
-  pub unfinished : isDecided (s .state .phase) ≡ false → Open log
-  pub undecided : Open log → isDecided (s .state .phase) ≡ false
+  pub finished : isDecided (s .state .waiting) ≡ true → WholeSession log
+  pub decided : WholeSession log → isDecided (s .state .waiting) ≡ true
+  pub unfinished : isDecided (s .state .waiting) ≡ false → Open log
+  pub undecided : Open log → isDecided (s .state .waiting) ≡ false
 
 -- what a phase of the rulebook asks of a call that leads to it: the reply, and the command or the decision. The buffer behind the
 -- command stays as it was lent
 unfoldable pub Gives : Phase → List ℕ → Called → Type 0
-Gives (hears terminal) buf r = ⊥
 Gives (asks w) buf r =
     (r .reply ≡ Command (length (commandOf w)))
     × (take (length (commandOf w)) (r .buffer) ≡ commandOf w)
     × (drop (length (commandOf w)) (r .buffer) ≡ drop (length (commandOf w)) buf)
-Gives (hears (issuer z)) buf r = (r .reply ≡ Host) × (r .buffer ≡ buf)
+Gives (hears h) buf r = (r .reply ≡ Due (dueKind h)) × (r .buffer ≡ buf)
 Gives (decides outcome reason z) buf r =
-    (r .reply ≡ Decided) × (decisionIn (r .session .state) ≡ decisionOf outcome reason z) × (r .buffer ≡ buf)
+    (r .reply ≡ DecidedReply) × (decisionIn (r .session .state) ≡ decisionOf outcome reason z) × (r .buffer ≡ buf)
 
 -- an accepted event, with the log before it, leads the rulebook to a phase, and all that the call gives is what that phase names
-pub record Follows (log : List Entry) (e : Event) (buf : List ℕ) (r : Called) : Type 0 where
+pub record Follows (log : List Entry) (e : Entry) (buf : List ℕ) (r : Called) : Type 0 where
   pub phase : Phase
-  pub reads : run (log ++ (entryOf e ∷ [])) (at opens) ≡ some (at phase)
+  pub reads : run (log ++ (e ∷ [])) (at opens) ≡ some (at phase)
   pub gives : Gives phase buf r
-  pub waits : r .session .state .phase ≡ keptAs phase
+  pub waits : r .session .state .waiting ≡ keptAs phase
   pub tvr : r .session .state .tvr ≡ tvrOf phase
   pub tsi : r .session .state .tsi ≡ tsiOf phase
-  pub grows : loggedBy r e ≡ entryOf e ∷ logged phase
+  pub grows : loggedBy r e ≡ e ∷ logged phase
 
 -- a log that a closing silence ends: something was asked before it, and TVR and TSI are as they were then
 pub record Silenced (s : Session) (log : List Entry) : Type 0 where
@@ -55,7 +55,7 @@ pub record Silenced (s : Session) (log : List Entry) : Type 0 where
   pub asked : Asked
   pub reads : run before (at opens) ≡ some (owes asked)
   pub ends : log ≡ before ++ (entry silence [] ∷ [])
-  pub closed : s .state .phase ≡ Closed
+  pub closed : s .state .waiting ≡ Closed
   pub tvr : s .state .tvr ≡ situationOf asked .tvr
   pub tsi : s .state .tsi ≡ situationOf asked .tsi
 
@@ -64,7 +64,7 @@ pub record Silenced (s : Session) (log : List Entry) : Type 0 where
 pub record Named (s : Session) (log : List Entry) : Type 0 where
   pub phase : Phase
   pub reads : run log (at opens) ≡ some (landing phase)
-  pub waits : s .state .phase ≡ keptAs phase
+  pub waits : s .state .waiting ≡ keptAs phase
   pub tvr : s .state .tvr ≡ tvrOf phase
   pub tsi : s .state .tsi ≡ tsiOf phase
   pub decision : (outcome reason : ℕ) (z : Situation) → phase ≡ decides outcome reason z → decisionIn (s .state) ≡ decisionOf outcome reason z
@@ -76,13 +76,13 @@ pub data Says (s : Session) (log : List Entry) : Type 0 where
 
 -- a call that changed nothing: the session and the buffer come back as they were, and nothing is logged
 pub record Unchanged (s : Session) (c : Call) : Type 0 where
-  pub session : call s c .session ≡ s
-  pub buffer : call s c .buffer ≡ c .buffer
-  pub log : loggedBy (call s c) (c .event) ≡ []
+  pub session : made s c .session ≡ s
+  pub buffer : made s c .buffer ≡ c .buffer
+  pub log : loggedBy (made s c) (c .event) ≡ []
 
 -- every call on a session is one of these: it follows the rulebook, it closes the session, or it is turned away
 pub data Replies (p : Played) (c : Call) : Type 0 where
-  follows : Follows (p .log) (c .event) (c .buffer) (call (p .session) c) → Replies p c
-  closes : c .event ≡ silent → call (p .session) c .reply ≡ ClosedReply → call (p .session) c .buffer ≡ c .buffer
-      → Silenced (call (p .session) c .session) (p .log ++ (entry silence [] ∷ [])) → Replies p c
-  refuses : (n : ℕ) → call (p .session) c .reply ≡ Refused n → Unchanged (p .session) c → Replies p c
+  follows : Follows (p .log) (c .event) (c .buffer) (made (p .session) c) → Replies p c
+  closes : c .event ≡ entry silence [] → made (p .session) c .reply ≡ ClosedReply → made (p .session) c .buffer ≡ c .buffer
+      → Silenced (made (p .session) c .session) (p .log ++ (entry silence [] ∷ [])) → Replies p c
+  refuses : (n : ℕ) → made (p .session) c .reply ≡ Refused n → Unchanged (p .session) c → Replies p c

@@ -4,14 +4,14 @@ use mathlib.Core.Path.{_≡_, refl, ap}
 use mathlib.Core.List.{List}
 use Prim.Native.Nat.{ℕ}
 use lib.ListN.{length}
-use Rattle.rulebook.specs.Phase.{issuer, terminal, Asked, selecting, optioning, reading, first, second, Phase, asks, hears, decides, tvrOf, tsiOf}
+use Rattle.rulebook.specs.Phase.{Asked, selecting, optioning, reading, first, second, Phase, asks, hears, decides, tvrOf, tsiOf}
 use Rattle.locator.specs.Cursor.{stepped}
 use Rattle.locator.specs.declared.cursor.Cursor.{Cursor}
 use Rattle.told.specs.Runs.{inRun}
 use Rattle.state.specs.Keeping.{changed}
 use Rattle.state.specs.declared.State.{State}
-use Rattle.state.specs.declared.Phase.{Phase as Kept}
-use Rattle.moves.specs.Moves.{keptAs, cursorAsking, cursorAfter, standing, dueIn, bufferIn, moved}
+use Rattle.session_phase.specs.declared.Waiting.{Waiting}
+use Rattle.moves.specs.Moves.{keptAs, cursorAsking, cursorAfter, standing, replyIn, bufferIn, moved}
 
 same-asking : (w : Asked) (s t : State) → s .locator ≡ t .locator → s .cursor ≡ t .cursor → cursorAsking w s ≡ cursorAsking w t
 unfolding cursorAsking
@@ -23,14 +23,13 @@ same-asking (second z request code) s t l e = e
 
 same-cursor : (p : Phase) (s t : State) → s .locator ≡ t .locator → s .cursor ≡ t .cursor → cursorAfter p s ≡ cursorAfter p t
 unfolding cursorAfter
-same-cursor (hears terminal) s t l e = e
 same-cursor (asks w) s t l e = same-asking w s t l e
-same-cursor (hears (issuer z)) s t l e = e
+same-cursor (hears h) s t l e = e
 same-cursor (decides outcome reason z) s t l e = e
 
-pub bits-moved : (p : Phase) (phase : Kept) (tvr tsi : List ℕ) (s : State) (buf : List ℕ)
-    → moved p (changed phase tvr tsi (s .cursor) s) buf ≡ moved p s buf
+pub bits-moved : (p : Phase) (waiting : Waiting) (tvr tsi : List ℕ) (s : State) (buf : List ℕ)
+    → moved p (changed waiting tvr tsi (s .cursor) s) buf ≡ moved p s buf
 unfolding moved standing changed
-bits-moved p phase tvr tsi s buf =
-    ap (λ (c : Cursor). record { state = changed (keptAs p) (tvrOf p) (tsiOf p) c s; due = dueIn (length buf) p; buffer = bufferIn p buf })
-    (same-cursor p (changed phase tvr tsi (s .cursor) s) s refl refl)
+bits-moved p waiting tvr tsi s buf =
+    ap (λ (c : Cursor). record { state = changed (keptAs p) (tvrOf p) (tsiOf p) c s; reply = replyIn (length buf) p; buffer = bufferIn p buf })
+    (same-cursor p (changed waiting tvr tsi (s .cursor) s) s refl refl)

@@ -16,19 +16,17 @@ use Rattle.lists.proofs.Choice.{pick-yes, pick-no}
 use Rattle.commands.specs.Commands.{sizeIn}
 use Rattle.locator.specs.declared.cursor.Cursor.{Cursor}
 use Rattle.rulebook.specs.Situation.{Situation}
-use Rattle.rulebook.specs.Phase.{issuer, Asked, Phase, asks, hears, decides, situationOf, commandOf, tvrOf, tsiOf, ended}
+use Rattle.rulebook.specs.Phase.{Asked, Heard, Phase, asks, hears, decides, situationOf, commandOf, dueKind, tvrOf, tsiOf, ended}
 use Rattle.rulebook.specs.Turn.{goesOn}
 use Rattle.state.specs.Reading.{situationWith, early, late}
 use Rattle.told.specs.Runs.{inRun}
 use Rattle.state.specs.Keeping.{changed}
 use Rattle.told.specs.declared.Run.{Run}
 use Rattle.state.specs.declared.State.{State}
-use Rattle.state.specs.declared.Phase.{Phase as Kept}
-use Rattle.state.specs.declared.Phase.the-variants.{Host, Decided}
-use Rattle.moves.specs.declared.Due.{Due}
-use Rattle.moves.specs.declared.Due.the-variants.{Command, Host as HostDue, Decision, Nothing}
+use Rattle.session_phase.specs.declared.Waiting.the-variants.{ForCard, ForWord, Decided}
+use Rattle.session_phase.specs.declared.Reply.the-variants.{Command, Due, Decided as DecidedReply, Refused}
 use Rattle.moves.specs.declared.Step.{Step}
-use Rattle.moves.specs.Moves.{Moved, played, awaiting, keptAs, cursorAsking, cursorAfter, standing, dueIn, bufferIn, moved, unmoved, waiting}
+use Rattle.moves.specs.Moves.{Moved, played, questionOf, speakerOf, keptAs, cursorAsking, cursorAfter, standing, replyIn, bufferIn, moved, unmoved, waitingFor}
 
 -- the bytes of a run, as the code cuts them out
 module _ (r : Run) (n : ℕ) (b : List ℕ) (same : b ≡ r .bytes) (part : take n (r .bytes) ≡ inRun r) where
@@ -57,46 +55,49 @@ module _ (why reason : ℕ) (z : Situation) (p : Phase) (s : State) (buf : List 
 
 module _ (s : State) (buf : List ℕ) where
   -- a step to a decision
-  module _ (outcome reason : ℕ) {r : Step} (e : r ≡ waiting (Decided outcome reason) Decision s) where
+  module _ (outcome reason : ℕ) {r : Step} (e : r ≡ waitingFor (Decided outcome reason) DecidedReply s) where
     pub late-decided : played r buf ≡ moved (decides outcome reason (late s)) s buf
-    unfolding played waiting moved standing keptAs cursorAfter dueIn bufferIn tvrOf tsiOf late situationWith
+    unfolding played waitingFor moved standing keptAs cursorAfter replyIn bufferIn tvrOf tsiOf late situationWith
     late-decided = ap (λ (x : Step). played x buf) e
 
     pub early-decided : played r buf ≡ moved (decides outcome reason (early s)) s buf
-    unfolding played waiting moved standing keptAs cursorAfter dueIn bufferIn tvrOf tsiOf early situationWith
+    unfolding played waitingFor moved standing keptAs cursorAfter replyIn bufferIn tvrOf tsiOf early situationWith
     early-decided = ap (λ (x : Step). played x buf) e
 
-  -- to the issuer's reply
-  pub late-hears : {r : Step} → r ≡ waiting Host HostDue s → played r buf ≡ moved (hears (issuer (late s))) s buf
-  unfolding played waiting moved standing keptAs cursorAfter dueIn bufferIn tvrOf tsiOf late situationWith
-  late-hears e = ap (λ (x : Step). played x buf) e
+  -- to somebody else's word
+  pub hearing : (h : Heard) {r : Step} → r ≡ waitingFor (ForWord (speakerOf h)) (Due (dueKind h)) s → s .tvr ≡ tvrOf (hears h) → s .tsi ≡ tsiOf (hears h)
+      → played r buf ≡ moved (hears h) s buf
+  unfolding played waitingFor moved standing keptAs cursorAfter replyIn bufferIn
+  hearing h e t u =
+      ap (λ (x : Step). played x buf) e
+      ∙ (λ i. record { state = changed (ForWord (speakerOf h)) (t i) (u i) (s .cursor) s; reply = Due (dueKind h); buffer = buf })
 
   -- to a command
   module _ (w : Asked) {n : ℕ} {out command : List ℕ} (same : command ≡ commandOf w) (size : n ≡ sizeIn (length buf) command) (laidOut : out ≡ laid command 0 buf) where
-    pub asking : {r : Step} → r .due ≡ Command n → (tvr tsi : List ℕ) (cursor : Cursor) → r .state ≡ changed (awaiting w) tvr tsi cursor s
+    pub asking : {r : Step} → r .reply ≡ Command n → (tvr tsi : List ℕ) (cursor : Cursor) → r .state ≡ changed (ForCard (questionOf w)) tvr tsi cursor s
         → tvr ≡ situationOf w .tvr → tsi ≡ situationOf w .tsi → cursor ≡ cursorAsking w s → played r out ≡ moved (asks w) s buf
-    unfolding played moved standing keptAs cursorAfter dueIn bufferIn tvrOf tsiOf
+    unfolding played moved standing keptAs cursorAfter replyIn bufferIn tvrOf tsiOf
     asking d tvr tsi cursor e t u c =
         λ i. record {
-          state = (e ∙ (λ j. changed (awaiting w) (t j) (u j) (c j) s)) i;
-          due = (d ∙ (ap Command size ∙ ap (λ (x : List ℕ). Command (sizeIn (length buf) x)) same)) i;
+          state = (e ∙ (λ j. changed (ForCard (questionOf w)) (t j) (u j) (c j) s)) i;
+          reply = (d ∙ (ap Command size ∙ ap (λ (x : List ℕ). Command (sizeIn (length buf) x)) same)) i;
           buffer = (laidOut ∙ ap (λ (x : List ℕ). laid x 0 buf) same) i;
         }
 
-    pub asking-on : {r : Step} → r ≡ waiting (awaiting w) (Command n) s → s .tvr ≡ situationOf w .tvr → s .tsi ≡ situationOf w .tsi
+    pub asking-on : {r : Step} → r ≡ waitingFor (ForCard (questionOf w)) (Command n) s → s .tvr ≡ situationOf w .tvr → s .tsi ≡ situationOf w .tsi
         → s .cursor ≡ cursorAsking w s → played r out ≡ moved (asks w) s buf
-    unfolding waiting
-    asking-on e t u c = asking (ap (λ (x : Step). x .due) e) (s .tvr) (s .tsi) (s .cursor) (ap (λ (x : Step). x .state) e) t u c
+    unfolding waitingFor
+    asking-on e t u c = asking (ap (λ (x : Step). x .reply) e) (s .tvr) (s .tsi) (s .cursor) (ap (λ (x : Step). x .state) e) t u c
 
-  -- an event that is not due
-  pub stays : {r : Step} → (r .state ≡ s) × (r .due ≡ Nothing) → played r buf ≡ unmoved s buf
+  -- a session that is over
+  pub stays : {r : Step} → (r .state ≡ s) × (r .reply ≡ Refused 4) → played r buf ≡ unmoved s buf
   unfolding played unmoved
-  stays e = λ i. record { state = e .0 i; due = e .1 i; buffer = buf }
+  stays e = λ i. record { state = e .0 i; reply = e .1 i; buffer = buf }
 
 -- a bad answer ends the session for its reason, of which a state keeps a byte
-module _ (s : State) (buf : List ℕ) (why reason : ℕ) (p : Phase) (e : why ≡ reason) (small : reason < 256) (bad : why ≡ 0 → ⊥) {r : Step} (w : r ≡ waiting (Decided 3 (why % 256)) Decision s) where
-  whole : r ≡ waiting (Decided 3 why) Decision s
-  whole = w ∙ ap (λ (n : ℕ). waiting (Decided 3 n) Decision s) (mod-eq-of-lt (omega (arith, e, small)))
+module _ (s : State) (buf : List ℕ) (why reason : ℕ) (p : Phase) (e : why ≡ reason) (small : reason < 256) (bad : why ≡ 0 → ⊥) {r : Step} (w : r ≡ waitingFor (Decided 3 (why % 256)) DecidedReply s) where
+  whole : r ≡ waitingFor (Decided 3 why) DecidedReply s
+  whole = w ∙ ap (λ (n : ℕ). waitingFor (Decided 3 n) DecidedReply s) (mod-eq-of-lt (omega (arith, e, small)))
 
   pub late-refused : played r buf ≡ moved (goesOn reason (late s) p) s buf
   late-refused = late-decided s buf 3 why whole ∙ sym (reason-ended why reason (late s) p s buf e bad)

@@ -1,5 +1,5 @@
--- Where a session goes on: the state that waits for what a phase of the rulebook asks for, what is then due, and the command in the
--- lent buffer. The rules are the rulebook's; what is added here is where a state keeps their results.
+-- Where a session goes on: the state that waits for what a phase of the rulebook waits for, the reply to the call, and the command in
+-- the lent buffer. The rules are the rulebook's; what is added here is where a state keeps their results.
 -- Assumes nothing.
 use mathlib.Core.List.{List}
 use Prim.Native.Nat.{ℕ}
@@ -8,37 +8,44 @@ use Rattle.lists.specs.Writing.{laid}
 use Rattle.commands.specs.Commands.{sizeIn}
 use Rattle.locator.specs.Cursor.{stepped}
 use Rattle.locator.specs.declared.cursor.Cursor.{Cursor}
-use Rattle.rulebook.specs.Phase.{issuer, terminal, Asked, selecting, optioning, reading, first, second, Phase, asks, hears, decides, commandOf, tvrOf, tsiOf}
+use Rattle.rulebook.specs.Phase.{Asked, selecting, optioning, reading, first, second, Heard, terminal, issuer, Phase, asks, hears, decides, commandOf, dueKind, tvrOf, tsiOf}
+use Rattle.session_phase.specs.declared.Question.{Question}
+use Rattle.session_phase.specs.declared.Question.the-variants.{Select, Options, Record, First, Second}
+use Rattle.session_phase.specs.declared.Speaker.{Speaker}
+use Rattle.session_phase.specs.declared.Speaker.the-variants.{Terminal, Issuer}
+use Rattle.session_phase.specs.declared.Waiting.{Waiting}
+use Rattle.session_phase.specs.declared.Waiting.the-variants.{ForCard, ForWord, Decided}
+use Rattle.session_phase.specs.declared.Reply.{Reply}
+use Rattle.session_phase.specs.declared.Reply.the-variants.{Command, Due, Decided as DecidedReply, Refused}
 use Rattle.told.specs.Runs.{inRun}
 use Rattle.state.specs.Keeping.{changed}
 use Rattle.state.specs.declared.State.{State}
-use Rattle.state.specs.declared.Phase.{Phase as Kept}
-use Rattle.state.specs.declared.Phase.the-variants.{Start, Select, Options, Record, First, Second, Host, Decided}
-use Rattle.moves.specs.declared.Due.{Due}
-use Rattle.moves.specs.declared.Due.the-variants.{Command, Host as HostDue, Decision, Nothing}
 use Rattle.moves.specs.declared.Step.{Step}
 
--- what a step leaves behind: the state, what is due, and the lent buffer
+-- what a step leaves behind: the state, the reply, and the lent buffer
 pub record Moved : Type 0 where
   pub state : State
-  pub due : Due
+  pub reply : Reply
   pub buffer : List ℕ
 
 unfoldable pub played : Step → List ℕ → Moved
-played r out = record { state = r .state; due = r .due; buffer = out }
+played r out = record { state = r .state; reply = r .reply; buffer = out }
 
--- the event that a state waits for
-unfoldable pub awaiting : Asked → Kept
-awaiting (selecting s) = Select
-awaiting (optioning s list) = Options
-awaiting (reading s number file rest) = Record
-awaiting (first s request) = First request
-awaiting (second s request code) = Second request
+-- what a state keeps of a phase: whose word is due, and which of the card's answers
+unfoldable pub questionOf : Asked → Question
+questionOf (selecting s) = Select
+questionOf (optioning s list) = Options
+questionOf (reading s number file rest) = Record
+questionOf (first s request) = First request
+questionOf (second s request code) = Second request
 
-unfoldable pub keptAs : Phase → Kept
-keptAs (hears terminal) = Start
-keptAs (asks w) = awaiting w
-keptAs (hears (issuer s)) = Host
+unfoldable pub speakerOf : Heard → Speaker
+speakerOf terminal = Terminal
+speakerOf (issuer s) = Issuer
+
+unfoldable pub keptAs : Phase → Waiting
+keptAs (asks w) = ForCard (questionOf w)
+keptAs (hears h) = ForWord (speakerOf h)
 keptAs (decides outcome reason s) = Decided outcome reason
 
 -- asking for a record takes the place among the records one further
@@ -50,35 +57,33 @@ cursorAsking (first z request) s = s .cursor
 cursorAsking (second z request code) s = s .cursor
 
 unfoldable pub cursorAfter : Phase → State → Cursor
-cursorAfter (hears terminal) s = s .cursor
 cursorAfter (asks w) s = cursorAsking w s
-cursorAfter (hears (issuer z)) s = s .cursor
+cursorAfter (hears h) s = s .cursor
 cursorAfter (decides outcome reason z) s = s .cursor
 
 -- the state in which a phase is waited for
 unfoldable pub standing : Phase → State → State
 standing p s = changed (keptAs p) (tvrOf p) (tsiOf p) (cursorAfter p s) s
 
--- a command is written at the start of the buffer, where it fits; nothing else changes the buffer
-unfoldable pub dueIn : ℕ → Phase → Due
-dueIn room (hears terminal) = Nothing
-dueIn room (asks w) = Command (sizeIn room (commandOf w))
-dueIn room (hears (issuer s)) = HostDue
-dueIn room (decides outcome reason s) = Decision
+-- a command of so many bytes, the kind of the entry that has somebody else's word, or that the session is decided
+unfoldable pub replyIn : ℕ → Phase → Reply
+replyIn room (asks w) = Command (sizeIn room (commandOf w))
+replyIn room (hears h) = Due (dueKind h)
+replyIn room (decides outcome reason s) = DecidedReply
 
+-- a command is written at the start of the buffer, where it fits; nothing else changes the buffer
 unfoldable pub bufferIn : Phase → List ℕ → List ℕ
-bufferIn (hears terminal) buf = buf
 bufferIn (asks w) buf = laid (commandOf w) 0 buf
-bufferIn (hears (issuer s)) buf = buf
+bufferIn (hears h) buf = buf
 bufferIn (decides outcome reason s) buf = buf
 
 unfoldable pub moved : Phase → State → List ℕ → Moved
-moved p s buf = record { state = standing p s; due = dueIn (length buf) p; buffer = bufferIn p buf }
+moved p s buf = record { state = standing p s; reply = replyIn (length buf) p; buffer = bufferIn p buf }
 
--- an event that is not due changes nothing
+-- a session that is over takes nothing: the event is not the one due (01, "When a call is turned away", 4), and nothing changes
 unfoldable pub unmoved : State → List ℕ → Moved
-unmoved s buf = record { state = s; due = Nothing; buffer = buf }
+unmoved s buf = record { state = s; reply = Refused 4; buffer = buf }
 
--- the same state, but for what is due
-unfoldable pub waiting : Kept → Due → State → Step
-waiting phase due s = record { state = changed phase (s .tvr) (s .tsi) (s .cursor) s; due = due }
+-- the same state, but for what is waited for
+unfoldable pub waitingFor : Waiting → Reply → State → Step
+waitingFor waiting reply s = record { state = changed waiting (s .tvr) (s .tsi) (s .cursor) s; reply = reply }

@@ -3,17 +3,11 @@
 pub mod command;
 pub mod ends;
 
+use session_phase::Reply;
 use state::State;
 
-// What comes next: a command of so many bytes, the issuer's reply, the decision; nothing where the event was not due.
-pub enum Due {
-    Command(usize),
-    Host,
-    Decision,
-    Nothing,
-}
-
+// The state afterwards, and what the call is answered with.
 pub struct Step {
     pub state: State,
-    pub due: Due,
+    pub reply: Reply,
 }

@@ -1,9 +1,8 @@
 // After the first cryptogram: approved, declined, or the issuer is asked and then the card again.
-use decide::reply::Reply;
+use decide::reply::HostReply;
 use decide::reply::response_code;
 use decide::requests::Cryptogram;
 use decide::requests::second_request;
-use moves::Due;
 use moves::Step;
 use moves::command::generate;
 use moves::ends::decide;
@@ -11,8 +10,12 @@ use moves::ends::end;
 use moves::ends::wait;
 use readings::facts::codes;
 use readings::known::at_second;
-use state::Phase;
+use session_phase::Question;
+use session_phase::Reply;
+use session_phase::Speaker;
+use session_phase::Waiting;
 use state::State;
+use tape::HOST;
 use terminal::fields;
 use told::Run;
 use told::runs::bytes_of;
@@ -36,7 +39,7 @@ fn can_fill(list: Run) -> bool
     is_fillable(&bytes[..n])
 }
 
-fn second(s: State, reply: Reply) -> Cryptogram
+fn second(s: State, reply: HostReply) -> Cryptogram
     ensures { λ r. ⌜ r ≡ secondRequest reply (readingOf (s .start)) (issuerCodes (late s)) (s .tvr) ⌝ }
 {
     let start = s.start;
@@ -45,7 +48,7 @@ fn second(s: State, reply: Reply) -> Cryptogram
 }
 
 // The second request, once the issuer's reply is in.
-pub fn request_second(s: State, reply: Reply, code: [u8; 2], buf: &mut [u8]) -> Step
+pub fn request_second(s: State, reply: HostReply, code: [u8; 2], buf: &mut [u8]) -> Step
     ensures { λ r. ⌜ played r (now (buf .exit)) ≡ moved (replied (late s) reply code) s (now (buf .entry)) ⌝ }
 {
     let told = s.told;
@@ -54,7 +57,11 @@ pub fn request_second(s: State, reply: Reply, code: [u8; 2], buf: &mut [u8]) -> 
         let request = second(s, reply);
         let response = response_code(reply, request, code);
         let n = generate(s, request, list, at_second(s, response), buf);
-        wait(s, Phase::Second(request), Due::Command(n))
+        wait(
+            s,
+            Waiting::ForCard(Question::Second(request)),
+            Reply::Command(n),
+        )
     } else {
         end(s, 9)
     }
@@ -66,9 +73,9 @@ fn go_online(s: State, buf: &mut [u8]) -> Step
 {
     let start = s.start;
     if fields::kind(&start) == 0 {
-        request_second(s, Reply::Unable, [0, 0], buf)
+        request_second(s, HostReply::Unable, [0, 0], buf)
     } else {
-        wait(s, Phase::Host, Due::Host)
+        wait(s, Waiting::ForWord(Speaker::Issuer), Reply::Due(HOST))
     }
 }
 

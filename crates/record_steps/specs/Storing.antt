@@ -10,7 +10,7 @@ use Rattle.state.specs.declared.State.{State}
 -- after the last record
 unfoldable pub managedState : State → State
 managedState s =
-    changed (s .phase)
+    changed (s .waiting)
     (tvrAfterRecords (readingOf (s .start)) (factsOf (decisionFacts s)) (s .tvr))
     (tsiAfterRecords (factsOf (decisionFacts s)) (s .tsi))
     (s .cursor) s

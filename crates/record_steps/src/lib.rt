@@ -4,7 +4,6 @@ use checks::results::tvr_after_records;
 use decide::requests::first_request;
 use locator::cursor;
 use locator::cursor::Cursor;
-use moves::Due;
 use moves::Step;
 use moves::command::generate;
 use moves::command::read;
@@ -15,7 +14,9 @@ use readings::facts::facts;
 use readings::facts::seen;
 use readings::known::at_first;
 use record_answer::complete_reason;
-use state::Phase;
+use session_phase::Question;
+use session_phase::Reply;
+use session_phase::Waiting;
 use state::State;
 use state::change::change;
 use told::runs::bytes_of;
@@ -69,12 +70,12 @@ fn managed(s: State) -> State
     let start = s.start;
     let tvr = s.tvr;
     let tsi = s.tsi;
-    let phase = s.phase;
+    let waiting = s.waiting;
     let place = s.cursor;
     let told = facts(s);
     change(
         s,
-        phase,
+        waiting,
         tvr_after_records(&start, told, tvr),
         tsi_after_records(told, tsi),
         place,
@@ -95,7 +96,11 @@ fn request_first(s: State, why: usize, buf: &mut [u8]) -> Step
     let list = told.first_list;
     let request = first_request(&start, codes(s), tvr);
     let n = generate(s, request, list, at_first(s), buf);
-    wait(s, Phase::First(request), Due::Command(n))
+    wait(
+        s,
+        Waiting::ForCard(Question::First(request)),
+        Reply::Command(n),
+    )
 }
 
 // After the last record.
@@ -119,8 +124,14 @@ pub fn read_on(s: State, buf: &mut [u8]) -> Step
         let tsi = s.tsi;
         let place = next(s);
         Step {
-            state: change(s, Phase::Record, tvr, tsi, place),
-            due: Due::Command(n),
+            state: change(
+                s,
+                Waiting::ForCard(Question::Record),
+                tvr,
+                tsi,
+                place,
+            ),
+            reply: Reply::Command(n),
         }
     } else {
         all_read(s, buf)

@@ -13,8 +13,9 @@ use Rattle.tape.specs.Entries.{Entry, entry, silence, storable, allStorable, bl
 use Rattle.tape.specs.Tapes.{written}
 use Rattle.rulebook.specs.Session.{Session, Beginning, AwaitsCard, Closed, Open}
 use Rattle.rulebook.proofs.Bound.{session-bound}
-use Rattle.verdicts.specs.Judged.{says, undecided, Judged}
-use Rattle.verdicts.specs.declared.Verdict.the-variants.{Pass, Fail, Inconclusive}
+use Rattle.verdict.specs.Saying.{says}
+use Rattle.verdicts.specs.Judged.{undecided, Judged}
+use Rattle.verdict.specs.declared.Verdict.the-variants.{Pass, Fail, Inconclusive}
 use Rattle.verdicts.proofs.Stored.{written-judged}
 use Rattle.storable.proofs.Theorem.{open-storable}
 use Rattle.storable.proofs.Recorded.{session-recorded, session-cut, session-exceeded}

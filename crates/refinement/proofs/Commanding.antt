@@ -21,12 +21,12 @@ use Rattle.commands.proofs.Sizes.{data-length, data-most}
 use Rattle.commands.proofs.Shapes.{aid-most, select-most, options-most, record-most, cryptogram-most}
 use Rattle.decide.specs.Requests.{p1Of}
 use Rattle.rulebook.specs.Situation.{knownIn, listIn}
-use Rattle.rulebook.specs.Phase.{issuer, terminal, Asked, selecting, optioning, reading, first, second, Phase, asks, hears, decides, situationOf, commandOf}
+use Rattle.rulebook.specs.Phase.{Asked, selecting, optioning, reading, first, second, Phase, asks, hears, decides, situationOf, commandOf}
 use Rattle.state.specs.declared.State.{State}
-use Rattle.moves.specs.declared.Due.the-variants.{Command}
-use Rattle.moves.specs.Moves.{dueIn, bufferIn}
-use Rattle.refinement.specs.Agreeing.{forgets, StandsAt}
-use Rattle.refinement.proofs.Standing.{situation-forgets, asked-terminal}
+use Rattle.session_phase.specs.declared.Reply.the-variants.{Command}
+use Rattle.moves.specs.Moves.{replyIn, bufferIn}
+use Rattle.refinement.specs.Agreeing.{StandsAt}
+use Rattle.refinement.proofs.Standing.{asked-terminal}
 
 filling-most : (t : Terminal) (k : Known) (list : List ℕ) → length (filling t k list) ≤ 252
 filling-most t k list = let size = data-length t k list in let limit = data-most list in omega arith
@@ -40,18 +40,13 @@ command-fits (first z request) h = cryptogram-most (p1Of request) _ (filling-mos
 command-fits (second z request code) h = cryptogram-most (p1Of request) _ (filling-most (z .terminal) (knownIn z (some code)) (listIn z 0x8D))
 
 pub command-most : (s : State) (w : Asked) → StandsAt s (asks w) → length (commandOf w) ≤ longest
-unfolding StandsAt
-command-most s w h =
-    command-fits w
-    (subst (λ (t : Terminal). length (t .aid) ≤ 16)
-    (sym (ap (λ z. z .terminal) (situation-forgets w) ∙ asked-terminal s (forgets w) h))
-    (aid-most (s .start)))
+command-most s w h = command-fits w (subst (λ (t : Terminal). length (t .aid) ≤ 16) (sym (asked-terminal s w h)) (aid-most (s .start)))
 
 -- a command in a buffer that has room for it
 module _ (w : Asked) (buf : List ℕ) (room : length (commandOf w) ≤ length buf) where
-  pub command-due : dueIn (length buf) (asks w) ≡ Command (length (commandOf w))
-  unfolding dueIn sizeIn
-  command-due = ap Command (pick-yes _ _ _ (le-leb (length (commandOf w)) (length buf) room))
+  pub command-reply : replyIn (length buf) (asks w) ≡ Command (length (commandOf w))
+  unfolding replyIn sizeIn
+  command-reply = ap Command (pick-yes _ _ _ (le-leb (length (commandOf w)) (length buf) room))
 
   pub command-there : take (length (commandOf w)) (bufferIn (asks w) buf) ≡ commandOf w
   unfolding bufferIn
@@ -68,7 +63,6 @@ laid-length c buf =
 
 pub buffer-length : (p : Phase) (buf : List ℕ) → length (bufferIn p buf) ≡ length buf
 unfolding bufferIn
-buffer-length (hears terminal) buf = refl
 buffer-length (asks w) buf = laid-length (commandOf w) buf
-buffer-length (hears (issuer z)) buf = refl
+buffer-length (hears h) buf = refl
 buffer-length (decides outcome reason z) buf = refl

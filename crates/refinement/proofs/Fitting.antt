@@ -1,10 +1,9 @@
 -- The state that a step leaves stands at the phase that the step leads to: what the answer told is kept in the very form in which
--- the rulebook's next situation has it, and the phase, TVR, TSI and the place among the records are the phase's own.
+-- the rulebook's next situation has it; what is waited for, TVR, TSI and the place among the records are the phase's own.
 -- Assumes nothing.
 use mathlib.Core.Path.{_≡_, refl, sym, ap, subst}
 use mathlib.Core.Bool.{Bool, true, false}
 use mathlib.Core.List.{List, []}
-use mathlib.Core.Option.{some}
 use Prim.Native.Nat.{ℕ}
 use lib.Dec.{eqb}
 use lib.ListN.{length}
@@ -20,29 +19,37 @@ use Rattle.select_answer.specs.Select.{selectReason}
 use Rattle.form_answers.specs.Options.{optionsReason}
 use Rattle.record_answer.specs.Records.{recordReason, afterRecords}
 use Rattle.form_answers.specs.Cryptogram.{cryptogramReason, cryptogramOf}
-use Rattle.decide.specs.Replies.{codeIn}
+use Rattle.start.proofs.Laws.{start-length}
+use Rattle.decide.specs.Replies.{codeIn, replyOf}
 use Rattle.decide.specs.declared.requests.Cryptogram.{Cryptogram}
-use Rattle.decide.specs.declared.reply.Reply.{Reply}
-use Rattle.decide.specs.declared.reply.Reply.the-variants.{Unable}
+use Rattle.decide.specs.declared.reply.HostReply.{HostReply}
+use Rattle.decide.specs.declared.reply.HostReply.the-variants.{Unable}
 use Rattle.rulebook.specs.Situation.{Situation, listIn, begun as situationBegun}
-use Rattle.rulebook.specs.Phase.{Asked, selecting, optioning, reading, first, second, Phase, decides, situationOf, decided, ended, tvrOf, tsiOf}
-use Rattle.rulebook.specs.Turn.{goesOn, opened, selected, managed, requested, allRead, readOn, optioned, recorded, answered, replied, online, byFirst, firstAllows, secondAllows, firstAnswered, secondAnswered, turn, heard}
-use Rattle.state.specs.Reading.{situationWith, early, late, recordsLeft, askedBy, askedIn}
+use Rattle.rulebook.specs.Phase.{Asked, selecting, optioning, reading, first, second, Phase, decides, situationOf, terminated, decided, ended, tvrOf, tsiOf}
+use Rattle.rulebook.specs.Turn.{goesOn, opened, selected, managed, requested, allRead, readOn, optioned, recorded, answered, replied, online, byFirst, firstAllows, secondAllows, firstAnswered, secondAnswered, turn, allowed, replyMade, heard, after}
+use Rattle.state.specs.Reading.{situationWith, early, late, recordsLeft, askedBy, heardBy}
+use Rattle.session_phase.specs.declared.Question.{Question}
+use Rattle.session_phase.specs.declared.Question.the-variants.{Select, Options, Record, First, Second}
+use Rattle.session_phase.specs.declared.Speaker.{Speaker}
+use Rattle.session_phase.specs.declared.Speaker.the-variants.{Terminal, Issuer}
 use Rattle.told.specs.Facts.{factsIn}
 use Rattle.told.specs.Runs.{inRun}
 use Rattle.state.specs.Keeping.{withTold, withOptions, changed, stateAt, begun}
 use Rattle.told.specs.Telling.{withRecord}
 use Rattle.state.specs.declared.State.{State}
-use Rattle.state.specs.declared.Phase.{Phase as Kept}
 use Rattle.state.proofs.Starting.{late-told, early-begun, late-options, left-options}
-use Rattle.moves.specs.Moves.{awaiting, keptAs, cursorAsking, cursorAfter, standing}
+use Rattle.moves.specs.Moves.{questionOf, speakerOf, keptAs, cursorAsking, cursorAfter, standing}
 use Rattle.turns.specs.Keeping.{keeping}
-use Rattle.refinement.specs.Agreeing.{forgets, StandsAt}
-use Rattle.refinement.proofs.Standing.{asked-one}
+use Rattle.dialogue.specs.Events.{keepingWord}
+use Rattle.refinement.specs.Agreeing.{forgets, Knows, StandsAt}
 
 -- a state that can wait for a phase: once what the phase overwrites is overwritten, it stands there
 unfoldable pub Fits : Phase → State → Type 0
-Fits p s = StandsAt (standing p s) p
+Fits p s = Knows (standing p s) p
+
+pub fits-stands : (p : Phase) (s : State) → Fits p s → StandsAt (standing p s) p
+unfolding Fits standing changed
+fits-stands p s h = record { waits = refl; tvr = refl; tsi = refl; knows = h }
 
 -- two choices by one test
 both : {A B : Type 0} (P : A → B → Type 0) (t : Bool) (a a′ : A) (b b′ : B) → (t ≡ true → P a b) → (t ≡ false → P a′ b′) → P (pick t a a′) (pick t b b′)
@@ -53,8 +60,8 @@ both P false a a′ b b′ yes′ no′ = no′ refl
 module _ (s : State) where
   -- a decision keeps nothing but TVR and TSI
   decides-fits : (outcome reason : ℕ) (z : Situation) → Fits (decides outcome reason z) s
-  unfolding Fits StandsAt standing changed keptAs tvrOf tsiOf
-  decides-fits outcome reason z = (refl, refl, refl)
+  unfolding Fits Knows standing changed keptAs tvrOf tsiOf
+  decides-fits outcome reason z = tt
 
   goes-fits : (reason : ℕ) (z : Situation) (p : Phase) → Fits p s → Fits (goesOn reason z p) s
   unfolding goesOn ended
@@ -70,16 +77,16 @@ module _ (s : State) where
     z = lateWith tvr tsi
 
     requested-fits : (reason : ℕ) → Fits (requested reason z) s
-    unfolding requested Fits StandsAt forgets standing changed keptAs awaiting tvrOf tsiOf situationOf cursorAfter cursorAsking askedIn askedBy late situationWith
+    unfolding requested Fits Knows forgets standing changed keptAs questionOf tvrOf tsiOf situationOf cursorAfter cursorAsking askedBy late situationWith
     requested-fits reason = goes-fits reason z _ refl
 
-    replied-fits : (reply : Reply) (code : List ℕ) → Fits (replied z reply code) s
-    unfolding replied ended Fits StandsAt forgets standing changed keptAs awaiting tvrOf tsiOf situationOf cursorAfter cursorAsking askedIn askedBy late situationWith
-    replied-fits reply code = picked (λ (q : Phase). Fits q s) (fillable (listIn z 0x8D)) _ _ (λ y. refl) (λ n. decides-fits _ 9 z)
+    replied-fits : (reply : HostReply) (code : List ℕ) → Fits (replied z reply code) s
+    unfolding replied ended Fits Knows forgets standing changed keptAs questionOf tvrOf tsiOf situationOf cursorAfter cursorAsking askedBy late situationWith
+    replied-fits reply code = picked (λ (q : Phase). Fits q s) (fillable (listIn z 0x8D)) _ _ (λ y. refl) (λ n. decides-fits terminated 9 z)
 
     online-fits : Fits (online z) s
-    unfolding online Fits StandsAt standing changed keptAs tvrOf tsiOf cursorAfter late situationWith
-    online-fits = picked (λ (q : Phase). Fits q s) (eqb (z .terminal .kind) 0) _ _ (λ y. replied-fits Unable []) (λ n. (refl, refl))
+    unfolding online Fits Knows standing changed keptAs speakerOf heardBy tvrOf tsiOf cursorAfter late situationWith
+    online-fits = picked (λ (q : Phase). Fits q s) (eqb (z .terminal .kind) 0) _ _ (λ y. replied-fits Unable []) (λ n. refl)
 
     by-first-fits : (type : ℕ) → Fits (byFirst type z) s
     unfolding byFirst decided
@@ -95,7 +102,7 @@ module _ (s : State) where
 
   -- the next record is the one at the cursor, and the cursor goes one further
   read-fits : Fits (readOn (late s) (recordsLeft s)) s
-  unfolding readOn recordsLeft Fits StandsAt forgets standing changed keptAs awaiting tvrOf tsiOf situationOf cursorAfter cursorAsking askedIn askedBy late situationWith
+  unfolding readOn recordsLeft Fits Knows forgets standing changed keptAs questionOf tvrOf tsiOf situationOf cursorAfter cursorAsking askedBy late situationWith
   read-fits =
       let v = inRun (s .locator) in
       either (isLeft v (s .cursor))
@@ -112,7 +119,7 @@ module _ (s : State) (a : List ℕ) where
   Turns w = Fits (turn w a) (keeping w a s)
 
   select-fits : Turns (selecting (early s))
-  unfolding turn keeping selected Fits StandsAt forgets standing changed keptAs awaiting tvrOf tsiOf situationOf cursorAfter cursorAsking askedIn askedBy early situationWith
+  unfolding turn keeping selected Fits Knows forgets standing changed keptAs questionOf tvrOf tsiOf situationOf cursorAfter cursorAsking askedBy early situationWith
   select-fits = goes-fits s (selectReason (early s .terminal) a) (early s) _ refl
 
   options-fits : Turns (optioning (early s) [])
@@ -141,18 +148,22 @@ module _ (s : State) (a : List ℕ) where
   second-fits request = goes-fits s (cryptogramReason (secondAllows request) a) (late s) _ (decides-fits s _ 0 (late s))
 
 -- an answer to what the state waits for
-pub turn-fits : (s : State) (w : Asked) (a : List ℕ) → askedIn s ≡ some w → Fits (turn w a) (keeping w a s)
-turn-fits s w a e =
-    asked-one s (λ (k : Kept) (v : Asked). Turns s a v)
-    (record { atSelect = select-fits s a; atOptions = options-fits s a; atRecord = record-fits s a; atFirst = first-fits s a; atSecond = second-fits s a })
-    w e
+pub turn-fits : (question : Question) (s : State) (a : List ℕ) → Fits (turn (askedBy question s) a) (keeping (askedBy question s) a s)
+unfolding askedBy
+turn-fits Select s a = select-fits s a
+turn-fits Options s a = options-fits s a
+turn-fits Record s a = record-fits s a
+turn-fits (First request) s a = first-fits s a request
+turn-fits (Second request) s a = second-fits s a request
 
--- the issuer's reply
-pub heard-fits : (s : State) (reply : Reply) (h : List ℕ) → Fits (heard (late s) reply h) s
-unfolding heard late situationWith
-heard-fits s reply h = replied-fits s (s .tvr) (s .tsi) reply (codeIn h)
+-- START, and the issuer's reply
+started-fits : (b : List ℕ) → length b ≡ 74 → Fits (opened (readingOf b)) (begun b)
+unfolding opened Fits Knows forgets standing changed keptAs questionOf tvrOf tsiOf situationOf cursorAfter cursorAsking askedBy early situationWith begun stateAt situationBegun
+started-fits b e = ap (λ (z : Situation). selecting z) (early-begun b e)
 
--- START
-pub started-fits : (b : List ℕ) → length b ≡ 74 → Fits (opened (readingOf b)) (begun b)
-unfolding opened Fits StandsAt forgets standing changed keptAs awaiting tvrOf tsiOf situationOf cursorAfter cursorAsking askedIn askedBy early situationWith begun stateAt situationBegun
-started-fits b e = ap (λ (z : Situation). some (selecting z)) (early-begun b e)
+-- somebody else's word that may be taken
+pub word-fits : (speaker : Speaker) (s : State) (p : List ℕ) → allowed (heardBy speaker s) p ≡ true
+    → Fits (after (heardBy speaker s) p) (keepingWord speaker p s)
+unfolding heardBy allowed after keepingWord heard late situationWith
+word-fits Terminal s p fits = started-fits p (start-length p fits)
+word-fits Issuer s p fits = replied-fits s (s .tvr) (s .tsi) (replyMade (replyOf p)) (codeIn p)

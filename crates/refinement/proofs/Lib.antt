@@ -1,8 +1,8 @@
 pub mod Standing
+pub mod Words
 pub mod Fitting
 pub mod Commanding
 pub mod Stepping
 pub mod Clearing
 pub mod Telling
 pub mod Reaching
-pub mod Onward

@@ -1,23 +1,27 @@
 -- A whole session, event by event: from START on, the entries of the events with the commands and the decision that they bring
 -- about lead the machine to where the state stands. So the state alone says what the rulebook says of the tape so far.
 -- Assumes nothing.
-use mathlib.Core.Path.{_≡_, refl, ap, _∙_, subst}
+use mathlib.Core.Path.{_≡_, refl, sym, ap, _∙_, subst}
 use mathlib.Core.List.{List, [], _∷_, _++_}
 use mathlib.Core.Option.{some}
 use Prim.Native.Nat.{ℕ}
 use Rattle.tape.specs.Entries.{Entry}
-use Rattle.rulebook.specs.Phase.{issuer, Asked, Phase, opens, asks, hears, decides}
+use Rattle.rulebook.specs.Phase.{Asked, Heard, Phase, opens, asks, hears, decides, tvrOf, tsiOf}
 use Rattle.rulebook.specs.Session.{Session}
-use Rattle.rulebook.proofs.Running.{State as Machine, at, owes, run, run-session}
-use Rattle.state.specs.Reading.{late, askedIn}
+use Rattle.rulebook.specs.Machine.{Machine, at, owes, run}
+use Rattle.rulebook.proofs.Running.{run-session}
+use Rattle.session_phase.specs.declared.Question.{Question}
+use Rattle.session_phase.specs.declared.Speaker.{Speaker}
+use Rattle.session_phase.specs.declared.Waiting.the-variants.{ForCard, ForWord, Decided, Closed}
+use Rattle.state.specs.Reading.{heardBy}
 use Rattle.state.specs.Keeping.{fresh}
 use Rattle.state.specs.declared.State.{State}
-use Rattle.state.specs.declared.Phase.the-variants.{Start, Host, Decided, Closed}
-use Rattle.moves.specs.Moves.{Moved}
-use Rattle.refinement.specs.Agreeing.{forgets, StandsAt, Agrees}
+use Rattle.moves.specs.Moves.{Moved, speakerOf}
+use Rattle.refinement.specs.Agreeing.{Knows, StandsAt}
 use Rattle.refinement.specs.Logging.{logged, landing, Follows, Reached}
-use Rattle.refinement.proofs.Stepping.{run-on, lands-at, fresh-stands}
-use Rattle.refinement.proofs.Telling.{start-at, asked-at, host-at, decided-at, closed-never}
+use Rattle.refinement.specs.Bits.{Even}
+use Rattle.refinement.proofs.Stepping.{run-on, fresh-stands}
+use Rattle.refinement.proofs.Telling.{asked-at, heard-at, decided-at, closed-never}
 
 pub reached-fresh : Reached fresh []
 unfolding run landing
@@ -34,32 +38,39 @@ module _ (s : State) (es : List Entry) (reached : Reached s es) where
   landed : (p : Phase) → reached .phase ≡ p → run es (at opens) ≡ some (landing p)
   landed p e = reached .read ∙ ap (λ (q : Phase). some (landing q)) e
 
-  stood : (p : Phase) → reached .phase ≡ p → Agrees s (landing p)
-  stood p e = lands-at s p (subst (StandsAt s) e (reached .stands))
+  stood : (p : Phase) → reached .phase ≡ p → StandsAt s p
+  stood p e = subst (StandsAt s) e (reached .stands)
 
-  pub reached-start : s .phase ≡ Start → run es (at opens) ≡ some (at opens)
+  pub reached-asked : (question : Question) → s .waiting ≡ ForCard question → (w : Asked) × ((run es (at opens) ≡ some (owes w)) × StandsAt s (asks w))
   unfolding landing
-  reached-start e = landed opens (start-at s (reached .phase) (reached .stands) e)
-
-  pub reached-asked : (v : Asked) → askedIn s ≡ some v → (w : Asked) × ((forgets w ≡ v) × ((run es (at opens) ≡ some (owes w)) × Agrees s (owes w)))
-  unfolding landing
-  reached-asked v e =
-      let there = asked-at s (reached .phase) v (reached .stands) e in
+  reached-asked question e =
+      let there = asked-at s (reached .phase) question (reached .stands) e in
       let w = there .0 in
-      (w, (there .1 .1, (landed (asks w) (there .1 .0), stood (asks w) (there .1 .0))))
+      (w, (landed (asks w) (there .1), stood (asks w) (there .1)))
 
-  pub reached-host : s .phase ≡ Host → (run es (at opens) ≡ some (at (hears (issuer (late s))))) × Agrees s (at (hears (issuer (late s))))
+  pub reached-word : (speaker : Speaker) → s .waiting ≡ ForWord speaker
+      → (h : Heard) × ((speakerOf h ≡ speaker) × ((run es (at opens) ≡ some (at (hears h))) × StandsAt s (hears h)))
   unfolding landing
-  reached-host e =
-      let there = host-at s (reached .phase) (reached .stands) e in
-      (landed (hears (issuer (late s))) there, stood (hears (issuer (late s))) there)
+  reached-word speaker e =
+      let there = heard-at s (reached .phase) speaker (reached .stands) e in
+      let h = there .0 in
+      (h, (there .1 .1, (landed (hears h) (there .1 .0), stood (hears h) (there .1 .0))))
 
   -- a state that has decided is one of a finished session
-  pub reached-decided : (outcome reason : ℕ) → s .phase ≡ Decided outcome reason → Session es
+  pub reached-decided : (outcome reason : ℕ) → s .waiting ≡ Decided outcome reason → Session es
   unfolding landing
   reached-decided outcome reason e =
       let there = decided-at s (reached .phase) outcome reason (reached .stands) e in
       run-session es (landed (decides outcome reason (there .0)) (there .1))
 
-  pub reached-open : s .phase ≡ Closed → ⊥
+  pub reached-open : s .waiting ≡ Closed → ⊥
   reached-open e = closed-never s (reached .phase) (reached .stands) e
+
+  -- TVR and TSI are those of the word that is due
+  pub reached-even : Even s
+  unfolding Knows
+  reached-even speaker e =
+      let there = reached-word speaker e in
+      let stands = there .1 .1 .1 in
+      let same : there .0 ≡ heardBy speaker s = sym (ap (λ (x : Speaker). heardBy x s) (sym (there .1 .0)) ∙ stands .knows) in
+      (stands .tvr ∙ ap (λ (h : Heard). tvrOf (hears h)) same, stands .tsi ∙ ap (λ (h : Heard). tsiOf (hears h)) same)

@@ -1,22 +1,20 @@
--- What a state that stands at a phase knows: the situation of what was asked is the state's own reading, so its TVR and TSI are the
--- phase's, and what the state does not keep has no part in the turn.
+-- What a state that stands at a phase knows: the situation of what was asked is the state's own reading, and what the state does not
+-- keep has no part in the turn.
 -- Assumes nothing.
 use mathlib.Core.Path.{_≡_, refl, sym, ap, _∙_, subst}
 use mathlib.Core.List.{List, [], _∷_, _++_}
-use mathlib.Core.Option.{none, some}
 use Prim.Native.Nat.{ℕ}
-use native.Mathlib.Omega.{arith}
 use Rattle.terminal.specs.Reading.{readingOf}
-use Rattle.decide.specs.declared.requests.Cryptogram.{Cryptogram}
 use Rattle.rulebook.specs.Situation.{Situation}
-use Rattle.rulebook.specs.Phase.{issuer, terminal, Asked, selecting, optioning, reading, first, second, Phase, asks, hears, decides, situationOf, decisionOf, tvrOf, tsiOf}
+use Rattle.rulebook.specs.Phase.{Asked, selecting, optioning, reading, first, second, asks, decides, situationOf, decisionOf, tvrOf, tsiOf}
 use Rattle.rulebook.specs.Turn.{turn}
-use Rattle.state.specs.Reading.{situationWith, early, late, recordsLeft, askedBy, askedIn}
+use Rattle.session_phase.specs.declared.Question.{Question}
+use Rattle.session_phase.specs.declared.Question.the-variants.{Select, Options, Record, First, Second}
+use Rattle.state.specs.Reading.{situationWith, early, late, askedBy}
 use Rattle.state.specs.declared.State.{State}
-use Rattle.state.specs.declared.Phase.{Phase as Kept}
-use Rattle.state.specs.declared.Phase.the-variants.{Start, Select, Options, Record, First, Second, Host, Decided, Closed}
+use Rattle.moves.specs.Moves.{questionOf}
 use Rattle.turns.specs.Keeping.{keeping}
-use Rattle.refinement.specs.Agreeing.{forgets, StandsAt}
+use Rattle.refinement.specs.Agreeing.{forgets, Knows, StandsAt}
 
 -- what is forgotten has no part in the turn, nor in what is kept of the answer, nor in the situation
 pub turn-forgets : (w : Asked) (a : List ℕ) → turn w a ≡ turn (forgets w) a
@@ -43,79 +41,32 @@ situation-forgets (reading z number file rest) = refl
 situation-forgets (first z request) = refl
 situation-forgets (second z request code) = refl
 
--- where something was asked it is one of five, by the state's phase: what holds of each holds of it
-pub record Each (s : State) (P : Kept → Asked → Type 0) : Type 0 where
-  pub atSelect : P Select (selecting (early s))
-  pub atOptions : P Options (optioning (early s) [])
-  pub atRecord : P Record (reading (late s) 0 0 (recordsLeft s))
-  pub atFirst : (request : Cryptogram) → P (First request) (first (late s) request)
-  pub atSecond : (request : Cryptogram) → P (Second request) (second (late s) request [])
+-- the situation of what was asked is read off the state
+asked-read : (question : Question) (s : State) → (profile : List ℕ) × (situationOf (askedBy question s) ≡ situationWith profile s)
+unfolding askedBy situationOf early late
+asked-read Select s = ([], refl)
+asked-read Options s = ([], refl)
+asked-read Record s = (s .profile, refl)
+asked-read (First request) s = (s .profile, refl)
+asked-read (Second request) s = (s .profile, refl)
 
-module _ (s : State) (P : Kept → Asked → Type 0) (each : Each s P) where
-  same : (k : Kept) (v w : Asked) → P k v → some v ≡ some w → P k w
-  same k v w h e = let one : v ≡ w = cc in subst (P k) one h
+pub asked-tvr : (question : Question) (s : State) → s .tvr ≡ situationOf (askedBy question s) .tvr
+unfolding situationWith
+asked-tvr question s = sym (ap (λ (z : Situation). z .tvr) (asked-read question s .1))
 
-  not-asked : (k : Kept) (w : Asked) → none ≡ some w → P k w
-  not-asked k w e = absurd (let z : _≡_ {A = ℕ} 0 1 = cc in omega arith)
+pub asked-tsi : (question : Question) (s : State) → s .tsi ≡ situationOf (askedBy question s) .tsi
+unfolding situationWith
+asked-tsi question s = sym (ap (λ (z : Situation). z .tsi) (asked-read question s .1))
 
-  by-phase : (k : Kept) (w : Asked) → askedBy k s ≡ some w → P k w
-  unfolding askedBy
-  by-phase Start w e = not-asked Start w e
-  by-phase Select w e = same Select (selecting (early s)) w (each .atSelect) e
-  by-phase Options w e = same Options (optioning (early s) []) w (each .atOptions) e
-  by-phase Record w e = same Record (reading (late s) 0 0 (recordsLeft s)) w (each .atRecord) e
-  by-phase (First request) w e = same (First request) (first (late s) request) w (each .atFirst request) e
-  by-phase (Second request) w e = same (Second request) (second (late s) request []) w (each .atSecond request) e
-  by-phase Host w e = not-asked Host w e
-  by-phase (Decided outcome reason) w e = not-asked (Decided outcome reason) w e
-  by-phase Closed w e = not-asked Closed w e
+-- START is the one that the state keeps
+pub asked-terminal : (s : State) (w : Asked) → StandsAt s (asks w) → situationOf w .terminal ≡ readingOf (s .start)
+unfolding Knows situationWith
+asked-terminal s w h =
+    ap (λ (z : Situation). z .terminal)
+    (situation-forgets w ∙ (ap situationOf (sym (h .knows)) ∙ asked-read (questionOf w) s .1))
 
-  pub asked-one : (w : Asked) → askedIn s ≡ some w → P (s .phase) w
-  unfolding askedIn
-  asked-one w e = by-phase (s .phase) w e
-
--- its situation is read off the state
-module _ (s : State) where
-  abbrev ReadOff : Kept → Asked → Type 0
-  ReadOff k w = (profile : List ℕ) × (situationOf w ≡ situationWith profile s)
-
-  module _ (w : Asked) (e : askedIn s ≡ some w) where
-    read : ReadOff (s .phase) w
-    unfolding situationOf early late
-    read =
-        asked-one s ReadOff
-        (record { atSelect = ([], refl); atOptions = ([], refl); atRecord = (s .profile, refl); atFirst = λ request. (s .profile, refl); atSecond = λ request. (s .profile, refl) })
-        w e
-
-    pub asked-tvr : s .tvr ≡ situationOf w .tvr
-    unfolding situationWith
-    asked-tvr = sym (ap (λ (z : Situation). z .tvr) (read .1))
-
-    pub asked-tsi : s .tsi ≡ situationOf w .tsi
-    unfolding situationWith
-    asked-tsi = sym (ap (λ (z : Situation). z .tsi) (read .1))
-
-    pub asked-terminal : situationOf w .terminal ≡ readingOf (s .start)
-    unfolding situationWith
-    asked-terminal = ap (λ (z : Situation). z .terminal) (read .1)
-
--- TVR and TSI of the state are those of the phase, in every phase
-pub stands-tvr : (s : State) (p : Phase) → StandsAt s p → s .tvr ≡ tvrOf p
-unfolding StandsAt tvrOf late situationWith
-stands-tvr s (hears terminal) h = h .1
-stands-tvr s (asks w) h = asked-tvr s (forgets w) h ∙ ap (λ (z : Situation). z .tvr) (sym (situation-forgets w))
-stands-tvr s (hears (issuer z)) h = ap (λ (z : Situation). z .tvr) (h .1)
-stands-tvr s (decides outcome reason z) h = h .1
-
-pub stands-tsi : (s : State) (p : Phase) → StandsAt s p → s .tsi ≡ tsiOf p
-unfolding StandsAt tsiOf late situationWith
-stands-tsi s (hears terminal) h = h .2
-stands-tsi s (asks w) h = asked-tsi s (forgets w) h ∙ ap (λ (z : Situation). z .tsi) (sym (situation-forgets w))
-stands-tsi s (hears (issuer z)) h = ap (λ (z : Situation). z .tsi) (h .1)
-stands-tsi s (decides outcome reason z) h = h .2
-
--- so the decision is written from the state
+-- the decision is written from the state
 pub stands-decision : (s : State) (outcome reason : ℕ) (z : Situation) → StandsAt s (decides outcome reason z)
     → decisionOf outcome reason z ≡ outcome ∷ reason ∷ (s .tvr ++ s .tsi)
-unfolding StandsAt decisionOf
-stands-decision s outcome reason z h = λ i. outcome ∷ reason ∷ (sym (h .1) i ++ sym (h .2) i)
+unfolding decisionOf tvrOf tsiOf
+stands-decision s outcome reason z h = λ i. outcome ∷ reason ∷ (sym (h .tvr) i ++ sym (h .tsi) i)

@@ -6,31 +6,28 @@ use mathlib.Core.Option.{some}
 use Prim.Native.Nat.{ℕ}
 use lib.ListN.{length}
 use Rattle.tape.specs.Entries.{Entry, entry, command, decision}
-use Rattle.rulebook.specs.Phase.{issuer, terminal, Phase, opens, asks, hears, decides, commandOf, decisionOf}
-use Rattle.rulebook.proofs.Running.{State as Machine, at, owes, done, next, run}
+use Rattle.rulebook.specs.Phase.{Phase, opens, asks, hears, decides, commandOf, decisionOf}
+use Rattle.rulebook.specs.Machine.{Machine, at, owes, done, next, run}
 use Rattle.state.specs.declared.State.{State}
-use Rattle.moves.specs.Moves.{Moved, dueIn, bufferIn}
-use Rattle.refinement.specs.Agreeing.{StandsAt, Agrees}
+use Rattle.moves.specs.Moves.{Moved, replyIn, bufferIn}
+use Rattle.refinement.specs.Agreeing.{StandsAt}
 
 -- the command or the decision that is due
 unfoldable pub logged : Phase → List Entry
-logged (hears terminal) = []
 logged (asks w) = entry command (commandOf w) ∷ []
-logged (hears (issuer z)) = []
+logged (hears h) = []
 logged (decides outcome reason z) = entry decision (decisionOf outcome reason z) ∷ []
 
 unfoldable pub landing : Phase → Machine
-landing (hears terminal) = at opens
 landing (asks w) = owes w
-landing (hears (issuer z)) = at (hears (issuer z))
+landing (hears h) = at (hears h)
 landing (decides outcome reason z) = done
 
--- an event takes the machine to a phase; the state left behind stands there, what is due is the phase's, and so is the buffer
+-- an event takes the machine to a phase; the state left behind stands there, and the reply and the buffer are the phase's
 pub record Follows (σ : Machine) (event : Entry) (p : Phase) (buf : List ℕ) (m : Moved) : Type 0 where
   pub taken : next σ event ≡ some (at p)
   pub stands : StandsAt (m .state) p
-  pub lands : Agrees (m .state) (landing p)
-  pub due : m .due ≡ dueIn (length buf) p
+  pub reply : m .reply ≡ replyIn (length buf) p
   pub buffer : m .buffer ≡ bufferIn p buf
 
 -- a tape's entries lead to a phase, its own entry among them, and the state stands there

@@ -1,2 +1,2 @@
-pub mod Deciding
+pub mod OwnTests
 pub mod Order

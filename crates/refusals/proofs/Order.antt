@@ -1,65 +1,60 @@
 -- Which number a call is turned away with, line by line of 01's table: an earlier line is given whatever the later ones say.
 -- Assumes nothing.
 use mathlib.Core.Path.{_≡_, refl, ap, _∙_}
-use mathlib.Core.Bool.{Bool, true, false, not}
-use mathlib.Core.List.{List, [], _∷_, _++_}
+use mathlib.Core.Bool.{Bool, true, false, not, _&&_}
+use mathlib.Core.List.{List, [], _∷_}
 use Prim.Native.Nat.{ℕ, _≤_, _<_}
+use lib.Dec.{eqb}
 use lib.ListN.{length}
-use borrow.Author.Tests.{lt-ltb, le-ltb}
+use borrow.Author.Tests.{eq-eqb, lt-ltb, le-ltb}
 use Rattle.lists.specs.Choice.{pick, firstOf}
 use Rattle.lists.proofs.Choice.{pick-yes, pick-no}
 use Rattle.start.specs.Start.{validStart}
-use Rattle.tape.specs.Entries.{payloadMost}
+use Rattle.tape.specs.Entries.{Entry, entry, start, answer, silence, host, payloadMost}
 use Rattle.commands.specs.Commands.{longest}
 use Rattle.decide.specs.Replies.{replyOf, isReply}
-use Rattle.state.specs.declared.Phase.{Phase}
-use Rattle.refusals.specs.Waiting.{isOver, awaitsStart, awaitsCard, awaitsHost}
-use Rattle.refusals.specs.Refusals.{firstLines, startRefusal, answerRefusal, silenceRefusal, hostRefusal}
+use Rattle.session_phase.specs.Waiting.{awaited, isOver}
+use Rattle.session_phase.specs.declared.Waiting.{Waiting}
+use Rattle.refusals.specs.Refusals.{isDue, startBad, answerBad, replyBad, refusalLines, callRefusal}
 
-module _ (phase : Phase) (buf : List ℕ) where
+module _ (waiting : Waiting) (buf : List ℕ) where
   -- 1, whatever the session and the event
-  pub short-buffer : (lines : List (Bool × ℕ)) → length buf < longest → firstOf (firstLines phase buf ++ lines) ≡ 1
-  unfolding firstLines firstOf
-  short-buffer lines h = pick-yes _ _ _ (lt-ltb (length buf) longest h)
+  pub short-buffer : (e : Entry) → length buf < longest → callRefusal waiting e buf ≡ 1
+  unfolding callRefusal refusalLines firstOf
+  short-buffer e h = pick-yes _ _ _ (lt-ltb (length buf) longest h)
 
   module _ (room : longest ≤ length buf) where
     -- 2, whatever the event
-    pub session-over : (lines : List (Bool × ℕ)) → isOver phase ≡ true → firstOf (firstLines phase buf ++ lines) ≡ 2
-    unfolding firstLines firstOf
-    session-over lines h = pick-no _ _ _ (le-ltb (length buf) longest room) ∙ pick-yes _ _ _ h
+    pub session-over : (e : Entry) → isOver waiting ≡ true → callRefusal waiting e buf ≡ 2
+    unfolding callRefusal refusalLines firstOf
+    session-over e h = pick-no _ _ _ (le-ltb (length buf) longest room) ∙ pick-yes _ _ _ h
 
-    module _ (goes : isOver phase ≡ false) where
-      others : (lines : List (Bool × ℕ)) → firstOf (firstLines phase buf ++ lines) ≡ firstOf lines
-      unfolding firstLines firstOf
-      others lines = pick-no _ _ _ (le-ltb (length buf) longest room) ∙ pick-no _ _ _ goes
-
+    module _ (goes : isOver waiting ≡ false) where
       -- 3, in turn or not; then 4
-      pub start-invalid : (b : List ℕ) → validStart b ≡ false → startRefusal phase b buf ≡ 3
-      unfolding startRefusal firstOf
-      start-invalid b h = others _ ∙ pick-yes _ _ _ (ap not h)
+      pub start-invalid : (b : List ℕ) → validStart b ≡ false → callRefusal waiting (entry start b) buf ≡ 3
+      unfolding callRefusal refusalLines firstOf startBad
+      start-invalid b h = pick-no _ _ _ (le-ltb (length buf) longest room) ∙ (pick-no _ _ _ goes ∙ pick-yes _ _ _ (ap not h))
 
-      pub start-not-due : (b : List ℕ) → validStart b ≡ true → awaitsStart phase ≡ false → startRefusal phase b buf ≡ 4
-      unfolding startRefusal firstOf
-      start-not-due b h t = others _ ∙ (pick-no _ _ _ (ap not h) ∙ pick-yes _ _ _ (ap not t))
+      -- 4, whatever the event's own line says, but after 3
+      pub not-due : (e : Entry) → startBad e ≡ false → isDue waiting e ≡ false → callRefusal waiting e buf ≡ 4
+      unfolding callRefusal refusalLines firstOf
+      not-due e s h =
+          pick-no _ _ _ (le-ltb (length buf) longest room) ∙ (pick-no _ _ _ goes ∙ (pick-no _ _ _ s ∙ pick-yes _ _ _ (ap not h)))
 
-      -- 4, however long the answer; then 5
-      pub answer-not-due : (a : List ℕ) → awaitsCard phase ≡ false → answerRefusal phase a buf ≡ 4
-      unfolding answerRefusal firstOf
-      answer-not-due a t = others _ ∙ pick-yes _ _ _ (ap not t)
+      module _ (e : Entry) (s : startBad e ≡ false) (d : isDue waiting e ≡ true) where
+        pub answer-long : answerBad e ≡ true → callRefusal waiting e buf ≡ 5
+        unfolding callRefusal refusalLines firstOf
+        answer-long h =
+            pick-no _ _ _ (le-ltb (length buf) longest room)
+            ∙ (pick-no _ _ _ goes ∙ (pick-no _ _ _ s ∙ (pick-no _ _ _ (ap not d) ∙ pick-yes _ _ _ h)))
 
-      pub answer-long : (a : List ℕ) → awaitsCard phase ≡ true → payloadMost < length a → answerRefusal phase a buf ≡ 5
-      unfolding answerRefusal firstOf
-      answer-long a t h = others _ ∙ (pick-no _ _ _ (ap not t) ∙ pick-yes _ _ _ (lt-ltb payloadMost (length a) h))
+        pub no-reply : answerBad e ≡ false → replyBad e ≡ true → callRefusal waiting e buf ≡ 6
+        unfolding callRefusal refusalLines firstOf
+        no-reply a h =
+            pick-no _ _ _ (le-ltb (length buf) longest room)
+            ∙ (pick-no _ _ _ goes ∙ (pick-no _ _ _ s ∙ (pick-no _ _ _ (ap not d) ∙ (pick-no _ _ _ a ∙ pick-yes _ _ _ h))))
 
-      pub silence-not-due : awaitsCard phase ≡ false → silenceRefusal phase buf ≡ 4
-      unfolding silenceRefusal firstOf
-      silence-not-due t = others _ ∙ pick-yes _ _ _ (ap not t)
-
-      -- 4, whatever the reply; then 6
-      pub host-not-due : (h : List ℕ) → awaitsHost phase ≡ false → hostRefusal phase h buf ≡ 4
-      unfolding hostRefusal firstOf
-      host-not-due h t = others _ ∙ pick-yes _ _ _ (ap not t)
-
-      pub no-reply : (h : List ℕ) → awaitsHost phase ≡ true → isReply (replyOf h) ≡ false → hostRefusal phase h buf ≡ 6
-      unfolding hostRefusal firstOf
-      no-reply h t n = others _ ∙ (pick-no _ _ _ (ap not t) ∙ pick-yes _ _ _ (ap not n))
+-- a silence is turned away wherever no answer is due
+pub silence-not-due : (waiting : Waiting) (p : List ℕ) → eqb (awaited waiting) answer ≡ false → isDue waiting (entry silence p) ≡ false
+unfolding isDue
+silence-not-due waiting p h = pick-yes _ _ _ refl ∙ ap (λ (t : Bool). t && eqb (length p) 0) h

@@ -1,3 +1,2 @@
 -- When a call is turned away.
-pub mod Waiting
 pub mod Refusals

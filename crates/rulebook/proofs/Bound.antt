@@ -19,8 +19,8 @@ use Rattle.record_answer.specs.Records.{afterRecords}
 use Rattle.form_answers.specs.Cryptogram.{cryptogramOf}
 use Rattle.answers.proofs.AcceptedAnswers.{options-entries}
 use Rattle.decide.specs.Replies.{codeIn, replyOf}
-use Rattle.decide.specs.declared.reply.Reply.{Reply}
-use Rattle.decide.specs.declared.reply.Reply.the-variants.{Unable}
+use Rattle.decide.specs.declared.reply.HostReply.{HostReply}
+use Rattle.decide.specs.declared.reply.HostReply.the-variants.{Unable}
 use Rattle.rulebook.specs.Situation.{Situation, listIn}
 use Rattle.rulebook.specs.Phase.{Asked, selecting, optioning, reading, first, second, Heard, terminal, issuer, Phase, asks, hears, decides, decided as settled, ended}
 use Rattle.rulebook.specs.Turn.{goesOn, opened, selected, requested, allRead, readOn, withProfile, optioned, withRecord, recorded, answered, replied, online, byFirst, firstAnswered, secondAnswered, replyMade, turn, heard as issuerHeard, after}
@@ -62,7 +62,7 @@ module _ (s : Situation) where
   unfolding requested toCome afterAsking
   requested-few reason = goes-few fromFirst reason _ (omega arith) (λ e. omega arith)
 
-  replied-few : (reply : Reply) (code : List ℕ) → toCome (replied s reply code) ≤ 3
+  replied-few : (reply : HostReply) (code : List ℕ) → toCome (replied s reply code) ≤ 3
   unfolding replied ended toCome afterAsking
   replied-few reply code = picked (λ (p : Phase). toCome p ≤ 3) (fillable (listIn s 0x8D)) _ _ (λ e. omega arith) (λ e. omega arith)
 

@@ -14,7 +14,7 @@ use Rattle.lists.proofs.Choice.{either}
 use Rattle.tape.specs.Entries.{Entry, entry, answer}
 use Rattle.rulebook.specs.Phase.{opens}
 use Rattle.rulebook.specs.Session.{Session, Beginning, AwaitsCard, Closed, Open, Lawful, BreaksAt}
-use Rattle.rulebook.proofs.Running.{at, run}
+use Rattle.rulebook.specs.Machine.{at, run}
 use Rattle.rulebook.proofs.Reading.{not-both, not-begun}
 use Rattle.rulebook.proofs.Sorting.{run-beginning}
 use Rattle.rulebook.proofs.Trichotomy.{snoc-same, Last, no-entry, last, last-of, Sort, finished, unfinished, neither, sorted}

@@ -20,8 +20,8 @@ use Rattle.form_answers.specs.Cryptogram.{cryptogramReason, cryptogramOf}
 use Rattle.checks.specs.Bits.{joined}
 use Rattle.decide.specs.Requests.{firstRequest, secondRequest}
 use Rattle.decide.specs.Replies.{codeIn, responseCode}
-use Rattle.decide.specs.declared.reply.Reply.{Reply}
-use Rattle.decide.specs.declared.reply.Reply.the-variants.{Unable}
+use Rattle.decide.specs.declared.reply.HostReply.{HostReply}
+use Rattle.decide.specs.declared.reply.HostReply.the-variants.{Unable}
 use Rattle.checks.proofs.Rows.{joined-self, kept-on}
 use Rattle.checks.proofs.Laws.{tvr-kept, tsi-kept, tsi-kept-on}
 use Rattle.rulebook.specs.Situation.{Situation, begun, cardFacts, issuerCodes, listIn}
@@ -60,7 +60,7 @@ module _ (s : Situation) where
   unfolding requested situationOf
   requested-kept reason = goes-kept reason _ (asks-kept (first s (firstRequest (s .terminal) (issuerCodes s) (s .tvr))))
 
-  replied-kept : (reply : Reply) (code : List ℕ) → Reaches s (replied s reply code)
+  replied-kept : (reply : HostReply) (code : List ℕ) → Reaches s (replied s reply code)
   unfolding replied ended situationOf
   replied-kept reply code =
       let request = secondRequest reply (s .terminal) (issuerCodes s) (s .tvr) in
@@ -120,7 +120,7 @@ pub opened-grows : (t : Terminal) → Grows (hears terminal) (opened t)
 unfolding tvrOf tsiOf opened begun situationOf
 opened-grows t = record { tvr = joined-self (zeros 5); tsi = joined-self (zeros 2) }
 
-pub heard-grows : (s : Situation) (reply : Reply) (payload : List ℕ) → Grows (hears (issuer s)) (issuerHeard s reply payload)
+pub heard-grows : (s : Situation) (reply : HostReply) (payload : List ℕ) → Grows (hears (issuer s)) (issuerHeard s reply payload)
 unfolding tvrOf tsiOf issuerHeard
 heard-grows s reply payload = let reached = replied-kept s reply (codeIn payload) in record { tvr = reached .tvr; tsi = reached .tsi }
 

@@ -13,7 +13,8 @@ use Rattle.objects.specs.Objects.{isSome}
 use Rattle.tape.specs.Entries.{Entry, entry, start, command, answer, silence, decision}
 use Rattle.rulebook.specs.Phase.{opens}
 use Rattle.rulebook.specs.Session.{Session, BreaksAt}
-use Rattle.rulebook.proofs.Running.{State, at, done, run, run-session}
+use Rattle.rulebook.specs.Machine.{Machine, at, done, run}
+use Rattle.rulebook.proofs.Running.{run-session}
 use Rattle.rulebook.proofs.Breaks.{break-here}
 use Rattle.rulebook.proofs.States.{state-lawful, stopped-breaks}
 use Rattle.rulebook.proofs.Opening.{reached}
@@ -114,7 +115,7 @@ pub reads : (es : List Entry) → reached es ≡ some done → Session es
 unfolding reached
 reads es h = run-session es h
 
-some-state : (o : Option State) → isSome o ≡ true → (σ : State) × (o ≡ some σ)
+some-state : (o : Option Machine) → isSome o ≡ true → (σ : Machine) × (o ≡ some σ)
 unfolding isSome
 some-state none h = absurd (false≢true h)
 some-state (some σ) h = (σ, refl)

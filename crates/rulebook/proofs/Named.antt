@@ -9,27 +9,28 @@ use Rattle.terminal.specs.Reading.{readingOf}
 use Rattle.start.specs.Start.{validStart}
 use Rattle.tape.specs.Entries.{entry, start, host}
 use Rattle.decide.specs.Replies.{replyOf, isReply}
-use Rattle.decide.specs.declared.reply.Reply.{Reply}
-use Rattle.decide.specs.declared.reply.Heard.{Heard as Reading}
-use Rattle.decide.specs.declared.reply.Heard.the-variants.{Said}
+use Rattle.decide.specs.declared.reply.HostReply.{HostReply}
+use Rattle.decide.specs.declared.reply.HostHeard.{HostHeard}
+use Rattle.decide.specs.declared.reply.HostHeard.the-variants.{Said}
 use Rattle.rulebook.specs.Situation.{Situation}
 use Rattle.rulebook.specs.Phase.{terminal, issuer, Phase, opens, hears, dueKind}
 use Rattle.rulebook.specs.Turn.{opened, allowed, replyMade, heard, after}
 use Rattle.rulebook.specs.Session.{isPayload}
-use Rattle.rulebook.proofs.Running.{at, next, takes-heard}
+use Rattle.rulebook.specs.Machine.{at, next}
+use Rattle.rulebook.proofs.Running.{takes-heard}
 
 pub takes-start : (b : List ℕ) → validStart b ≡ true → isPayload b ≡ true → next (at opens) (entry start b) ≡ some (at (opened (readingOf b)))
 unfolding allowed after dueKind
 takes-start b valid ok = takes-heard terminal b valid ok
 
-module _ (s : Situation) (p : List ℕ) (r : Reply) (said : replyOf p ≡ Said r) where
+module _ (s : Situation) (p : List ℕ) (r : HostReply) (said : replyOf p ≡ Said r) where
   pub reply-allowed : allowed (issuer s) p ≡ true
   unfolding allowed isReply
   reply-allowed = ap isReply said
 
   pub after-reply : after (issuer s) p ≡ heard s r p
   unfolding after replyMade
-  after-reply = ap (λ (x : Reading). heard s (replyMade x) p) said
+  after-reply = ap (λ (x : HostHeard). heard s (replyMade x) p) said
 
   pub takes-reply : isPayload p ≡ true → next (at (hears (issuer s))) (entry host p) ≡ some (at (heard s r p))
   unfolding dueKind

@@ -43,9 +43,9 @@ use Rattle.rulebook.specs.Phase.{situationOf as r·situationOf, commandO
 use Rattle.rulebook.specs.Turn.{goesOn as r·goesOn, opened as r·opened, selected as r·selected, managed as r·managed, requested as r·requested, allRead as r·allRead, readOn as r·readOn, withProfile as r·withProfile, optioned as r·optioned, withRecord as r·withRecord, recorded as r·recorded, answered as r·answered, replied as r·replied, online as r·online, byFirst as r·byFirst, firstAllows as r·firstAllows, secondAllows as r·secondAllows, firstAnswered as r·firstAnswered, secondAnswered as r·secondAnswered, turn as r·turn, allowed as r·allowed, replyMade as r·replyMade, heard as r·heard, after as r·after}
 use Rattle.rulebook.specs.Session.{isPayload as r·isPayload}
 use Rattle.rulebook.specs.Phase.{opens}
-use Rattle.rulebook.proofs.Running.{State, at, due as m·due, sayable as m·sayable, next as m·next, andOn as m·andOn, run}
+use Rattle.rulebook.specs.Machine.{Machine, at, due as m·due, sayable as m·sayable, next as m·next, andOn as m·andOn, run}
 
 -- the state that a session's entries lead to
-unfoldable pub reached : List Entry → Option State
+unfoldable pub reached : List Entry → Option Machine
 unfolding l·pick l·firstOf l·counted l·shorter l·put l·laid l·zeros o·firstByte o·constructed o·twoBytes o·tagSize o·tagOf o·tagRight o·lengthByte o·lengthForm o·lengthSize o·lengthOf o·valueStart o·valueEnd o·whole o·met o·lookup o·between o·firstObject o·isSome o·before o·rightInside o·listed o·objects o·isList o·readRefusal o·dataField o·isTag o·tagBytes o·lengthBytes o·written o·writtenAll o·fitsTag o·writeRefusal o·refusalOf o·sizeOf o·sizeWritten o·bufferAfter t·dateKey t·monthAndDay t·validStartDate t·validCardDate t·decimalFrom t·decimal t·decimalByte t·digitsOnly t·zerosOnly t·readingOf t·validKind t·validDigits t·validRandom t·validPercentages t·validThreshold t·validAid t·validStart t·terminalOf t·every t·between d·joined d·meet d·flag d·codeIn d·saidBy d·replyOf d·isReply d·responseCode d·issuerCode d·codeMatch d·byType d·firstRequest d·whenUnable d·secondRequest d·givenBy d·differentVersions d·expired d·notYetEffective d·riskManaged d·atFloorLimit d·drawn d·restrictions d·risks d·tvrAfterRecords d·tsiAfterRecords d·tsiAfterFirstAnswer d·biased d·chosen d·selected q·entryBytes q·firstBytes q·filled q·filledBy q·filledList q·filling q·held q·nothing q·kept q·ofTerminal q·ofSession q·orElse q·valueFor q·withFormat q·supplied q·shaped q·numeric q·formatOf q·andThen q·sizeAt q·firstWanted q·asks q·wantedStep q·entriesOf q·total q·totalBy q·totalOf q·fits q·fillable q·tally c·selectCommand c·optionsCommand c·recordCommand c·withLength c·cryptogramCommand c·sizeIn c·dataSize a·sizeBad a·statusBad a·only a·outer a·theOne a·tagged a·valueUnder a·isOne a·inside a·outerBad a·frame a·halves a·digits a·onlyF a·cardNumber a·wholeEntries a·meets a·rules a·ruleFor a·rightValue a·informationOf a·cryptogramOf a·cryptogramWrong a·cryptogramLines a·cryptogramReason a·allows a·lacks a·firstEntry a·entries a·sfi a·records a·fileRight a·entryRight a·entriesRight a·recordsOf a·recordCount a·tooMany a·run a·readEntry a·readAll a·toRead a·membersIn a·direct a·times a·told a·valueOf a·wrongValue a·anyTimes a·anyWrong a·again a·anyAgain a·profileOf a·locatorOf a·optionsWrong a·optionsLines a·optionsReason a·recordTwice a·recordLines a·recordReason a·valueIn a·namedIn a·listed a·incomplete a·completeReason a·afterRecords a·toldBy a·inner a·begins a·nameWrong a·selectTwice a·selectWrong a·named a·among a·standing a·selectLines a·selectReason a·pdolOf a·anyOf a·beside r·begun r·perhaps r·profileKnown r·knownIn r·cardFacts r·issuerCodes r·listIn r·situationOf r·commandOf r·dueKind r·decisionOf r·decided r·ended r·goesOn r·opened r·selected r·managed r·requested r·allRead r·readOn r·withProfile r·optioned r·withRecord r·recorded r·answered r·replied r·online r·byFirst r·firstAllows r·secondAllows r·firstAnswered r·secondAnswered r·turn r·allowed r·replyMade r·heard r·after r·isPayload l·alike m·due m·sayable m·next m·andOn run
 reached es = run es (at opens)

@@ -13,41 +13,42 @@ use Rattle.tape.specs.Entries.{Entry, entry, command, answer, silence, decision
 use Rattle.rulebook.specs.Phase.{Asked, opens, asks, hears, decides, dueKind}
 use Rattle.rulebook.specs.Session.{Session, Beginning, AwaitsCard, Closed}
 use Rattle.rulebook.proofs.Said.{other-kinds}
-use Rattle.rulebook.proofs.Running.{State, at, owes, done, due, next, andOn, run, taken, chosen, session-run}
+use Rattle.rulebook.specs.Machine.{Machine, at, owes, done, due, next, andOn, run}
+use Rattle.rulebook.proofs.Running.{taken, chosen, session-run}
 
-then-twice : (f g h : State → Option State) (o : Option State) → ((σ : State) → f σ ≡ andOn g (h σ)) → andOn f o ≡ andOn g (andOn h o)
+then-twice : (f g h : Machine → Option Machine) (o : Option Machine) → ((σ : Machine) → f σ ≡ andOn g (h σ)) → andOn f o ≡ andOn g (andOn h o)
 unfolding andOn
 then-twice f g h none same = refl
 then-twice f g h (some σ) same = same σ
 
-pub run-append : (es fs : List Entry) (σ : State) → run (es ++ fs) σ ≡ andOn (run fs) (run es σ)
+pub run-append : (es fs : List Entry) (σ : Machine) → run (es ++ fs) σ ≡ andOn (run fs) (run es σ)
 unfolding run andOn
 run-append [] fs σ = refl
 run-append (e ∷ es) fs σ = then-twice (run (es ++ fs)) (run fs) (run es) (next σ e) (run-append es fs)
 
 -- nothing is due at the end
-ended : (e : Entry) (es : List Entry) (τ : State) → run (e ∷ es) done ≡ some τ → ⊥
+ended : (e : Entry) (es : List Entry) (τ : Machine) → run (e ∷ es) done ≡ some τ → ⊥
 unfolding run next andOn
 ended e es τ h = let z : _≡_ {A = ℕ} 0 1 = cc in omega arith
 
 -- an unfinished beginning is read up to a state before the end
-pub beginning-run : (es : List Entry) → Beginning es → (σ : State) × ((run es (at opens) ≡ some σ) × (σ ≡ done → ⊥))
+pub beginning-run : (es : List Entry) → Beginning es → (σ : Machine) × ((run es (at opens) ≡ some σ) × (σ ≡ done → ⊥))
 unfolding Beginning
 beginning-run es b =
     let whole = sym (run-append es (b .0 ∷ b .1 .0) (at opens)) ∙ session-run (es ++ (b .0 ∷ b .1 .0)) (b .1 .1) in
     let t = taken (run (b .0 ∷ b .1 .0)) (run es (at opens)) done whole in
-    (t .0, (t .1 .0, λ e. ended (b .0) (b .1 .0) done (subst (λ (σ : State). run (b .0 ∷ b .1 .0) σ ≡ some done) e (t .1 .1))))
+    (t .0, (t .1 .0, λ e. ended (b .0) (b .1 .0) done (subst (λ (σ : Machine). run (b .0 ∷ b .1 .0) σ ≡ some done) e (t .1 .1))))
 
 -- another kind than the one due
 pub other-kind : (k j : ℕ) (test : Bool) (p : List ℕ) → eqb j k ≡ false → due k test (entry j p) ≡ false
 unfolding due
 other-kind k j test p e = ap (λ (b : Bool). b && test) e
 
-refused-kind : (k j : ℕ) (test : Bool) (p : List ℕ) (o : Option State) (τ : State) → eqb j k ≡ false → pick (due k test (entry j p)) o none ≡ some τ → ⊥
+refused-kind : (k j : ℕ) (test : Bool) (p : List ℕ) (o : Option Machine) (τ : Machine) → eqb j k ≡ false → pick (due k test (entry j p)) o none ≡ some τ → ⊥
 refused-kind k j test p o τ e h = false≢true (sym (other-kind k j test p e) ∙ chosen (due k test (entry j p)) o τ h .0)
 
 -- only where the card owes an answer is one taken
-answer-owed : (σ τ : State) (a : List ℕ) → next σ (entry answer a) ≡ some τ → (w : Asked) × (σ ≡ owes w)
+answer-owed : (σ τ : Machine) (a : List ℕ) → next σ (entry answer a) ≡ some τ → (w : Asked) × (σ ≡ owes w)
 unfolding next
 answer-owed (at (asks w)) τ a h = absurd (refused-kind command answer _ a _ τ refl h)
 answer-owed (at (hears x)) τ a h = absurd (refused-kind (dueKind x) answer _ a _ τ (other-kinds x .no-answer) h)
@@ -56,7 +57,7 @@ answer-owed (owes w) τ a h = (w, refl)
 answer-owed done τ a h = absurd (let z : _≡_ {A = ℕ} 0 1 = cc in omega arith)
 
 -- a silence is never an entry of a session
-silence-refused : (σ τ : State) (p : List ℕ) → next σ (entry silence p) ≡ some τ → ⊥
+silence-refused : (σ τ : Machine) (p : List ℕ) → next σ (entry silence p) ≡ some τ → ⊥
 unfolding next
 silence-refused (at (asks w)) τ p h = refused-kind command silence _ p _ τ refl h
 silence-refused (at (hears x)) τ p h = refused-kind (dueKind x) silence _ p _ τ (other-kinds x .no-silence) h
@@ -76,14 +77,14 @@ awaits-run es b =
     (o .0, t .1 .0 ∙ ap some (o .1))
 
 -- a silence is where the machine stops
-silence-stops : (before : List Entry) (p : List ℕ) (σ : State) → run (before ++ (entry silence p ∷ [])) (at opens) ≡ some σ → ⊥
+silence-stops : (before : List Entry) (p : List ℕ) (σ : Machine) → run (before ++ (entry silence p ∷ [])) (at opens) ≡ some σ → ⊥
 unfolding run
 silence-stops before p σ h =
     let t = taken (run (entry silence p ∷ [])) (run before (at opens)) σ (sym (run-append before (entry silence p ∷ []) (at opens)) ∙ h) in
     let n = taken (run []) (next (t .0) (entry silence p)) σ (t .1 .1) in
     silence-refused (t .0) (n .0) p (n .1 .0)
 
-pub closed-run : (es : List Entry) (σ : State) → Closed es → run es (at opens) ≡ some σ → ⊥
+pub closed-run : (es : List Entry) (σ : Machine) → Closed es → run es (at opens) ≡ some σ → ⊥
 unfolding Closed
 closed-run es σ c h = silence-stops (c .0) _ σ (ap (λ (l : List Entry). run l (at opens)) (sym (c .1 .1)) ∙ h)
 

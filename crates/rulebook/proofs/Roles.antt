@@ -1,5 +1,4 @@
--- What the rulebook asks of a kernel and of a judge, each taken as any function of the entries so far, and that such functions
--- exist: what comes before settles the command or the decision that is due, and each list is a session, or open, or breaks somewhere.
+-- There are a right kernel and a right judge: what comes before settles the command or the decision that is due, and each list is a session, or open, or breaks somewhere.
 -- Assumes nothing.
 use mathlib.Core.Path.{_≡_, refl, sym, ap, _∙_}
 use mathlib.Core.Bool.{Bool, true, false, _||_, false≢true}
@@ -11,10 +10,12 @@ use lib.Dec.{eqb}
 use Rattle.tape.specs.Entries.{Entry, entry, command, answer, decision}
 use Rattle.rulebook.specs.Phase.{opens, asks, hears, decides, commandOf, dueKind, decisionOf}
 use Rattle.rulebook.specs.Session.{Session, Open, Lawful, BreaksAt}
+use Rattle.rulebook.specs.Roles.{given, Kernel, RightKernel, Verdict, pass, inconclusive, fail, Judge, RightJudge}
 use Rattle.lists.specs.Tests.{alike}
 use Rattle.lists.proofs.Comparing.{alike-same}
 use Rattle.rulebook.proofs.Said.{other-kinds}
-use Rattle.rulebook.proofs.Running.{State, at, owes, done, due, due-entry, due-test, next, run, chosen, taken, no-state, session-run}
+use Rattle.rulebook.specs.Machine.{Machine, at, owes, done, due, next, run}
+use Rattle.rulebook.proofs.Running.{due-entry, due-test, chosen, taken, no-state, session-run}
 use Rattle.rulebook.proofs.Reading.{run-append}
 use Rattle.rulebook.proofs.Trichotomy.{Sort, finished, unfinished, neither, sorted, one-sort}
 use Rattle.rulebook.proofs.Ends.{finishes}
@@ -22,26 +23,15 @@ use Rattle.rulebook.proofs.Breaks.{one-break, break-unlawful, break-fou
 
 -- ---- kernels
 
--- what a kernel gives: commands and the decision
-unfoldable pub given : Entry → Bool
-given e = eqb (e .kind) command || eqb (e .kind) decision
-
-abbrev pub Kernel : Type 0
-Kernel = List Entry → Entry
-
--- in every session, wherever a command or the decision stands, the kernel gives just that after the entries before it
-unfoldable pub RightKernel : Kernel → Type 0
-RightKernel k = (es : List Entry) (e : Entry) (rest : List Entry) → Session (es ++ (e ∷ rest)) → given e ≡ true → k es ≡ e
-
 -- the command or decision that is due in a state; elsewhere any entry
-unfoldable dueIn : State → Entry
+unfoldable dueIn : Machine → Entry
 dueIn (at (asks w)) = entry command (commandOf w)
 dueIn (at (hears h)) = entry (dueKind h) []
 dueIn (at (decides outcome reason s)) = entry decision (decisionOf outcome reason s)
 dueIn (owes w) = entry answer []
 dueIn done = entry answer []
 
-unfoldable after : Option State → Entry
+unfoldable after : Option Machine → Entry
 after none = entry answer []
 after (some σ) = dueIn σ
 
@@ -49,7 +39,7 @@ not-given : {A : Type 0} (k : ℕ) (test : Bool) (e : Entry) → given (entry k 
 not-given k test e other d g = absurd (false≢true (sym other ∙ (sym (ap given (due-entry k test e d)) ∙ g)))
 
 -- whatever is given is what is due
-given-due : (σ τ : State) (e : Entry) → next σ e ≡ some τ → given e ≡ true → dueIn σ ≡ e
+given-due : (σ τ : Machine) (e : Entry) → next σ e ≡ some τ → given e ≡ true → dueIn σ ≡ e
 unfolding next dueIn given
 given-due (at (asks w)) τ e h g =
     let d = chosen (due command (alike (e .payload) (commandOf w)) e) _ τ h .0 in
@@ -84,21 +74,6 @@ unfolding RightKernel
 one-given es d e rest more a b g h = sym (right-kernel es d rest a g) ∙ right-kernel es e more b h
 
 -- ---- judges
-
--- the answers for a readable tape
-pub data Verdict : Type 0 where
-  pass : Verdict
-  inconclusive : Verdict
-  fail : ℕ → Verdict
-
-abbrev pub Judge : Type 0
-Judge = List Entry → Verdict
-
--- demand 3
-pub record RightJudge (j : Judge) : Type 0 where
-  pub finished : (es : List Entry) → Session es → j es ≡ pass
-  pub unfinished : (es : List Entry) → Open es → j es ≡ inconclusive
-  pub broken : (es : List Entry) (k : ℕ) → BreaksAt es k → j es ≡ fail k
 
 unlawful : (es : List Entry) → (Session es → ⊥) → (Open es → ⊥) → Lawful es → ⊥
 unfolding Lawful

@@ -1,5 +1,4 @@
--- The rulebook as a machine that reads one entry at a time: at each state at most one entry kind is due, and its payload settles
--- the next state. A list of entries is a session exactly where the machine ends on it.
+-- A list of entries is a session exactly where the machine that reads one entry at a time ends on it.
 -- Assumes nothing.
 use mathlib.Core.Path.{_≡_, refl, sym, ap, _∙_, subst}
 use mathlib.Core.Bool.{Bool, true, false, _&&_}
@@ -16,34 +15,13 @@ use Rattle.rulebook.specs.Situation.{Situation}
 use Rattle.rulebook.specs.Phase.{Asked, Heard, Phase, opens, asks, hears, decides, commandOf, dueKind, decisionOf}
 use Rattle.rulebook.specs.Turn.{turn, allowed, after}
 use Rattle.rulebook.specs.Session.{isPayload, Plays, exchanged, heard, decided, Session}
+use Rattle.rulebook.specs.Machine.{Machine, at, owes, done, due, sayable, next, andOn, run}
 use Rattle.lists.specs.Tests.{alike}
 use Rattle.lists.proofs.Comparing.{alike-same, same-alike}
 use Rattle.rulebook.proofs.Single.{head-same, tail-same}
 
--- a phase, or a command that was sent and awaits its answer, or the end
-pub data State : Type 0 where
-  at : Phase → State
-  owes : Asked → State
-  done : State
-
--- an entry of a kind, where its payload passes a test
-unfoldable pub due : ℕ → Bool → Entry → Bool
-due kind test e = eqb (e .kind) kind && test
-
--- what may be said, in a payload that a tape can hold
-unfoldable pub sayable : Heard → List ℕ → Bool
-sayable h p = allowed h p && isPayload p
-
--- the state after an entry; none where the entry cannot be
-unfoldable pub next : State → Entry → Option State
-next (at (asks w)) e = pick (due command (alike (e .payload) (commandOf w)) e) (some (owes w)) none
-next (at (hears h)) e = pick (due (dueKind h) (sayable h (e .payload)) e) (some (at (after h (e .payload)))) none
-next (at (decides outcome reason s)) e = pick (due decision (alike (e .payload) (decisionOf outcome reason s)) e) (some done) none
-next (owes w) e = pick (due answer (isPayload (e .payload)) e) (some (at (turn w (e .payload)))) none
-next done e = none
-
 -- what is left of a session in a state
-abbrev pub Follows : State → List Entry → Type 0
+abbrev pub Follows : Machine → List Entry → Type 0
 Follows (at p) es = Plays p es
 Follows (owes w) es = Plays (asks w) (entry command (commandOf w) ∷ es)
 Follows done es = es ≡ []
@@ -61,11 +39,11 @@ pub due-test : (k : ℕ) (test : Bool) (e : Entry) → due k test e ≡ true →
 unfolding due
 due-test k test e h = and-right (eqb (e .kind) k) test h
 
-pub no-state : {A : Type 0} (σ : State) → none ≡ some σ → A
+pub no-state : {A : Type 0} (σ : Machine) → none ≡ some σ → A
 no-state σ e = absurd (let z : _≡_ {A = ℕ} 0 1 = cc in omega arith)
 
 -- what a passed test leaves of a choice
-pub chosen : (test : Bool) (o : Option State) (σ : State) → pick test o none ≡ some σ → (test ≡ true) × (o ≡ some σ)
+pub chosen : (test : Bool) (o : Option Machine) (σ : Machine) → pick test o none ≡ some σ → (test ≡ true) × (o ≡ some σ)
 chosen test o σ h = either test (λ y. (y, sym (pick-yes _ _ _ y) ∙ h)) (λ n. no-state σ (sym (pick-no _ _ _ n) ∙ h))
 
 module _ (h : Heard) (p : List ℕ) where
@@ -81,11 +59,11 @@ module _ (h : Heard) (p : List ℕ) where
   unfolding sayable
   said-payload e = and-right (allowed h p) (isPayload p) e
 
-pub follows-from : (σ τ : State) (es : List Entry) → σ ≡ τ → Follows σ es → Follows τ es
-follows-from σ τ es e h = subst (λ (x : State). Follows x es) e h
+pub follows-from : (σ τ : Machine) (es : List Entry) → σ ≡ τ → Follows σ es → Follows τ es
+follows-from σ τ es e h = subst (λ (x : Machine). Follows x es) e h
 
 -- an entry that can be, and what follows it
-pub step-on : (σ τ : State) (e : Entry) (es : List Entry) → next σ e ≡ some τ → Follows τ es → Follows σ (e ∷ es)
+pub step-on : (σ τ : Machine) (e : Entry) (es : List Entry) → next σ e ≡ some τ → Follows τ es → Follows σ (e ∷ es)
 unfolding next
 step-on (at (asks w)) τ e es h rest =
     let c = chosen (due command (alike (e .payload) (commandOf w)) e) (some (owes w)) τ h in
@@ -127,10 +105,10 @@ unfolding next
 takes-decision outcome reason s = pick-yes _ _ _ (due-yes decision _ (decisionOf outcome reason s) (same-alike (decisionOf outcome reason s)))
 
 -- what an entry leads to
-abbrev pub Led : State → Entry → List Entry → Type 0
-Led σ e es = (τ : State) × ((next σ e ≡ some τ) × Follows τ es)
+abbrev pub Led : Machine → Entry → List Entry → Type 0
+Led σ e es = (τ : Machine) × ((next σ e ≡ some τ) × Follows τ es)
 
-led : (σ τ : State) (x e : Entry) (fs es : List Entry) → next σ x ≡ some τ → Follows τ fs → x ∷ fs ≡ e ∷ es → Led σ e es
+led : (σ τ : Machine) (x e : Entry) (fs es : List Entry) → next σ x ≡ some τ → Follows τ fs → x ∷ fs ≡ e ∷ es → Led σ e es
 led σ τ x e fs es h play same =
     (τ, (ap (next σ) (sym (head-same x e fs es same)) ∙ h, subst (λ (l : List Entry). Follows τ l) (tail-same x e fs es same) play))
 
@@ -150,19 +128,10 @@ from-asked (exchanged {w} {c = d} {a} {es = fs} f ok play) c e es h =
     led (owes w) (at (turn w a)) (entry answer a) e fs es (takes-answer w a ok) play (tail-same (entry command d) c (entry answer a ∷ fs) (e ∷ es) h)
 
 -- a session's entry can be, and what follows it follows the next state
-pub step-back : (σ : State) (e : Entry) (es : List Entry) → Follows σ (e ∷ es) → Led σ e es
+pub step-back : (σ : Machine) (e : Entry) (es : List Entry) → Follows σ (e ∷ es) → Led σ e es
 step-back (at p) e es play = from-phase play e es refl
 step-back (owes w) e es play = from-asked play (entry command (commandOf w)) e es refl
 step-back done e es h = absurd (let z : _≡_ {A = ℕ} 0 1 = cc in omega arith)
-
--- the state after several entries
-unfoldable pub andOn : (State → Option State) → Option State → Option State
-andOn f none = none
-andOn f (some σ) = f σ
-
-unfoldable pub run : List Entry → State → Option State
-run [] σ = some σ
-run (e ∷ es) σ = andOn (run es) (next σ e)
 
 -- nothing is left of a session only at its end
 pub no-play : {p : Phase} {l : List Entry} → Plays p l → l ≡ [] → ⊥
@@ -175,25 +144,25 @@ not-alone (exchanged {c = d} {a} {es} f ok play) c h =
     let none-left : entry answer a ∷ es ≡ [] = tail-same (entry command d) c (entry answer a ∷ es) [] h in
     let z : _≡_ {A = ℕ} 0 1 = cc in omega arith
 
-pub at-end : (σ : State) → Follows σ [] → σ ≡ done
+pub at-end : (σ : Machine) → Follows σ [] → σ ≡ done
 at-end (at p) play = absurd (no-play play refl)
 at-end (owes w) play = absurd (not-alone play (entry command (commandOf w)) refl)
 at-end done h = refl
 
 -- the machine ends on what follows a state to the end, and on nothing else
-pub follows-ends : (es : List Entry) (σ : State) → Follows σ es → run es σ ≡ some done
+pub follows-ends : (es : List Entry) (σ : Machine) → Follows σ es → run es σ ≡ some done
 unfolding run andOn
 follows-ends [] σ play = ap some (at-end σ play)
 follows-ends (e ∷ es) σ play =
     let l = step-back σ e es play in
     ap (andOn (run es)) (l .1 .0) ∙ follows-ends es (l .0) (l .1 .1)
 
-pub taken : (f : State → Option State) (o : Option State) (τ : State) → andOn f o ≡ some τ → (σ : State) × ((o ≡ some σ) × (f σ ≡ some τ))
+pub taken : (f : Machine → Option Machine) (o : Option Machine) (τ : Machine) → andOn f o ≡ some τ → (σ : Machine) × ((o ≡ some σ) × (f σ ≡ some τ))
 unfolding andOn
 taken f none τ h = no-state τ h
 taken f (some σ) τ h = (σ, (refl, h))
 
-pub ends-follow : (es : List Entry) (σ : State) → run es σ ≡ some done → Follows σ es
+pub ends-follow : (es : List Entry) (σ : Machine) → run es σ ≡ some done → Follows σ es
 unfolding run
 ends-follow [] σ h =
     let e : σ ≡ done = cc in

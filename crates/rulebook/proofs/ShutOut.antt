@@ -15,7 +15,7 @@ use Rattle.tape.specs.Entries.{Entry, entry, start, command, answer, host, deci
 use Rattle.rulebook.specs.Session.{Session, Open, BreaksAt}
 use Rattle.rulebook.proofs.Opening.{reached}
 use Rattle.rulebook.proofs.Breaks.{begins-empty}
-use Rattle.rulebook.proofs.Roles.{given, Kernel, RightKernel, Verdict, pass, inconclusive, fail, Judge, RightJudge}
+use Rattle.rulebook.specs.Roles.{given, Kernel, RightKernel, Verdict, pass, inconclusive, fail, Judge, RightJudge}
 use Rattle.rulebook.proofs.Made.{startOf, select, selected, options, optioned, readOne, recorded, number, firstAsked, secondAsked, given as cryptogram, aac, tc, arqc, decides, exchange, opening, reads, breaks}
 use Rattle.rulebook.proofs.Sessions.{offline, approved-offline, approved-online, declined-online, other-list}
 

@@ -12,7 +12,8 @@ use Rattle.rulebook.specs.Turn.{turn}
 use Rattle.rulebook.specs.Session.{isPayload, Session, Beginning, AwaitsCard}
 use Rattle.rulebook.proofs.Ends.{Finished}
 use Rattle.lists.specs.Tests.{alike}
-use Rattle.rulebook.proofs.Running.{State, at, owes, done, due, next, Follows, Led, andOn, run, chosen, at-end, due-entry, no-play, follows-from, step-back, run-session, follows-ends}
+use Rattle.rulebook.specs.Machine.{Machine, at, owes, done, due, next, andOn, run}
+use Rattle.rulebook.proofs.Running.{Follows, Led, chosen, at-end, due-entry, no-play, follows-from, step-back, run-session, follows-ends}
 use Rattle.rulebook.proofs.Reading.{run-append}
 
 -- after its command the card owes an answer
@@ -22,7 +23,7 @@ owed w e es l =
     let c = chosen (due command (alike (e .payload) (commandOf w)) e) (some (owes w)) (l .0) (l .1 .0) in
     follows-from (l .0) (owes w) es (cc (c .1)) (l .1 .1)
 
-not-empty : {σ : State} → (σ ≡ done → ⊥) → Follows σ [] → ⊥
+not-empty : {σ : Machine} → (σ ≡ done → ⊥) → Follows σ [] → ⊥
 not-empty {σ} h play = h (at-end σ play)
 
 module _ (finish : (p : Phase) → Finished p) where
@@ -34,16 +35,16 @@ module _ (finish : (p : Phase) → Finished p) where
       split (e ∷ es) play = (es, owed w e es (step-back (at (asks w)) e es play))
 
   -- what leads from a state to the end
-  to-end : (σ : State) → (rest : List Entry) × Follows σ rest
+  to-end : (σ : Machine) → (rest : List Entry) × Follows σ rest
   to-end (at p) = finish p
   to-end (owes w) = after-command w (finish (asks w))
   to-end done = ([], refl)
 
-  joined : (es rest : List Entry) (σ : State) → run es (at opens) ≡ some σ → Follows σ rest → Session (es ++ rest)
+  joined : (es rest : List Entry) (σ : Machine) → run es (at opens) ≡ some σ → Follows σ rest → Session (es ++ rest)
   unfolding andOn
   joined es rest σ h play = run-session (es ++ rest) (run-append es rest (at opens) ∙ (ap (andOn (run rest)) h ∙ follows-ends rest σ play))
 
-  pub run-beginning : (es : List Entry) (σ : State) → run es (at opens) ≡ some σ → (σ ≡ done → ⊥) → Beginning es
+  pub run-beginning : (es : List Entry) (σ : Machine) → run es (at opens) ≡ some σ → (σ ≡ done → ⊥) → Beginning es
   unfolding Beginning
   run-beginning es σ h before = split (to-end σ .0) (to-end σ .1)
     where

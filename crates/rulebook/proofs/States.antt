@@ -10,14 +10,15 @@ use native.Mathlib.Omega.{arith}
 use Rattle.tape.specs.Entries.{Entry, entry, silence}
 use Rattle.rulebook.specs.Phase.{Asked, opens}
 use Rattle.rulebook.specs.Session.{Closed, Open, Lawful}
-use Rattle.rulebook.proofs.Running.{State, at, owes, done, next, andOn, run, no-state, session-run, run-session}
+use Rattle.rulebook.specs.Machine.{Machine, at, owes, done, next, andOn, run}
+use Rattle.rulebook.proofs.Running.{no-state, session-run, run-session}
 use Rattle.rulebook.proofs.Reading.{run-append, beginning-run, awaits-run}
 use Rattle.rulebook.proofs.Sorting.{run-beginning, run-awaits}
 use Rattle.rulebook.proofs.Trichotomy.{snoc-same}
 use Rattle.rulebook.proofs.Ends.{finishes}
 
 module _ (es : List Entry) where
-  pub state-lawful : (σ : State) → run es (at opens) ≡ some σ → Lawful es
+  pub state-lawful : (σ : Machine) → run es (at opens) ≡ some σ → Lawful es
   unfolding Lawful Open
   state-lawful done h = inl (run-session es h)
   state-lawful (at p) h = inr (inl (run-beginning finishes es (at p) h (λ e. let z : _≡_ {A = ℕ} 0 1 = cc in omega arith)))
@@ -38,11 +39,11 @@ module _ (es : List Entry) where
       o)
       l
 
-  module _ (σ : State) (e : Entry) (h : run es (at opens) ≡ some σ) where
+  module _ (σ : Machine) (e : Entry) (h : run es (at opens) ≡ some σ) where
     abbrev longer : List Entry
     longer = es ++ (e ∷ [])
 
-    pub state-next : (τ : State) → next σ e ≡ some τ → run longer (at opens) ≡ some τ
+    pub state-next : (τ : Machine) → next σ e ≡ some τ → run longer (at opens) ≡ some τ
     unfolding run andOn
     state-next τ n = run-append es (e ∷ []) (at opens) ∙ (ap (andOn (run (e ∷ []))) h ∙ ap (andOn (run [])) n)
 

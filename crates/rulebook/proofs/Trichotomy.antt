@@ -13,7 +13,8 @@ use Rattle.tape.specs.Entries.{Entry, entry, silence}
 use Rattle.rulebook.specs.Phase.{Asked, Phase, opens}
 use Rattle.rulebook.specs.Session.{Session, Beginning, Closed, Open}
 use Rattle.rulebook.proofs.Ends.{Finished}
-use Rattle.rulebook.proofs.Running.{State, at, owes, done, run, no-state, session-run, run-session}
+use Rattle.rulebook.specs.Machine.{Machine, at, owes, done, run}
+use Rattle.rulebook.proofs.Running.{no-state, session-run, run-session}
 use Rattle.rulebook.proofs.Reading.{beginning-run, awaits-run, not-both, not-closed}
 use Rattle.rulebook.proofs.Sorting.{run-beginning, run-awaits}
 
@@ -78,7 +79,7 @@ module _ (finish : (p : Phase) → Finished p) (es : List Entry) where
       broken : (Closed es → ⊥) → Sort es
       broken c = neither not-session (not-open c)
 
-      by-state : e ≡ entry silence [] → (o : Option State) → run before (at opens) ≡ o → Sort es
+      by-state : e ≡ entry silence [] → (o : Option Machine) → run before (at opens) ≡ o → Sort es
       unfolding Open Closed
       by-state s (some (owes w)) r =
           unfinished (inr (before, (run-awaits finish before w r, h ∙ ap (λ (x : Entry). before ++ (x ∷ [])) s)))
@@ -99,7 +100,7 @@ module _ (finish : (p : Phase) → Finished p) (es : List Entry) where
     by-end (no-entry e) = absurd (no-state (at opens) (sym stopped ∙ ap (λ (l : List Entry). run l (at opens)) e))
     by-end (last before e h) = by-last before e h (e .payload) refl
 
-  by-run : (o : Option State) → run es (at opens) ≡ o → Sort es
+  by-run : (o : Option Machine) → run es (at opens) ≡ o → Sort es
   unfolding Open
   by-run (some done) h = finished (run-session es h)
   by-run (some (at p)) h = unfinished (inl (run-beginning finish es (at p) h (λ e. let z : _≡_ {A = ℕ} 0 1 = cc in omega arith)))

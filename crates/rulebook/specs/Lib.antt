@@ -3,3 +3,5 @@ pub mod Situation
 pub mod Phase
 pub mod Turn
 pub mod Session
+pub mod Machine
+pub mod Roles

@@ -21,10 +21,10 @@ use Rattle.checks.specs.Results.{tvrAfterRecords, tsiAfterRecords, tsiAfterFirs
 use Rattle.decide.specs.Requests.{firstRequest, secondRequest, givenBy, firstAllowed, secondAllowed}
 use Rattle.decide.specs.Replies.{codeIn, replyOf, isReply, responseCode}
 use Rattle.decide.specs.declared.requests.Cryptogram.{Cryptogram}
-use Rattle.decide.specs.declared.reply.Reply.{Reply}
-use Rattle.decide.specs.declared.reply.Reply.the-variants.{Unable}
-use Rattle.decide.specs.declared.reply.Heard.{Heard as Reading}
-use Rattle.decide.specs.declared.reply.Heard.the-variants.{Said, Nothing}
+use Rattle.decide.specs.declared.reply.HostReply.{HostReply}
+use Rattle.decide.specs.declared.reply.HostReply.the-variants.{Unable}
+use Rattle.decide.specs.declared.reply.HostHeard.{HostHeard}
+use Rattle.decide.specs.declared.reply.HostHeard.the-variants.{Said, Nothing}
 use Rattle.rulebook.specs.Situation.{Situation, Facts, begun, cardFacts, issuerCodes, listIn}
 use Rattle.rulebook.specs.Phase.{Asked, selecting, optioning, reading, first, second, Heard, terminal, issuer, Phase, asks, hears, decided, ended, approved, declined}
 
@@ -91,7 +91,7 @@ unfoldable pub answered : Situation → Situation
 answered s = record { terminal = s .terminal; profile = s .profile; facts = s .facts; tvr = s .tvr; tsi = tsiAfterFirstAnswer (s .tsi) }
 
 -- the second request, once the issuer's reply is in; reason 9 where its list cannot be filled
-unfoldable pub replied : Situation → Reply → List ℕ → Phase
+unfoldable pub replied : Situation → HostReply → List ℕ → Phase
 replied s reply code =
     let request = secondRequest reply (s .terminal) (issuerCodes s) (s .tvr) in
     pick (fillable (listIn s 0x8D)) (asks (second s request (responseCode reply request code))) (ended 9 s)
@@ -133,12 +133,12 @@ allowed terminal p = validStart p
 allowed (issuer s) p = isReply (replyOf p)
 
 -- the reply that is made; what is none is not allowed, and counts as unable
-unfoldable pub replyMade : Reading → Reply
+unfoldable pub replyMade : HostHeard → HostReply
 replyMade (Said reply) = reply
 replyMade Nothing = Unable
 
 -- after the issuer's reply
-unfoldable pub heard : Situation → Reply → List ℕ → Phase
+unfoldable pub heard : Situation → HostReply → List ℕ → Phase
 heard s reply payload = replied s reply (codeIn payload)
 
 -- after what somebody else says

@@ -1,17 +1,17 @@
 // What the next entry of a tape must be, and what is said of a tape that ends there.
-use verdicts::Answer;
-use verdicts::Verdict;
+use verdict::Answer;
+use verdict::Verdict;
 ghost use mathlib.Core.Path.{_≡_};
-ghost use Rattle.verdicts.specs.Judged.{says};
-ghost use Rattle.verdicts.specs.declared.Verdict.{Verdict as Said};
+ghost use Rattle.verdict.specs.Saying.{says};
+ghost use Rattle.verdict.specs.declared.Verdict.{Verdict as Said};
 ghost use Rattle.stages.specs.Stages.{saidAt};
 
-// What the next entry must be, or how the reading ended: with a decision, with a closing silence, or at the entry that cannot be.
+// What the next entry must be: the word of somebody other than the card, a command, the card's answer, the decision; or how the
+// reading ended: with a decision, with a closing silence, or at the entry that cannot be.
 pub enum Stage {
-    Start,
+    Word,
     Command(usize),
     Answer,
-    Host,
     Decision,
     Done,
     Closed,
@@ -41,10 +41,9 @@ pub fn conclude(stage: Stage, entries: usize) -> Answer
     match stage {
         Stage::Done => answer(Verdict::Pass, entries, 0),
         Stage::Broken(place) => answer(Verdict::Fail, place, 0),
-        Stage::Start => answer(Verdict::Inconclusive, entries, 0),
+        Stage::Word => answer(Verdict::Inconclusive, entries, 0),
         Stage::Command(_) => answer(Verdict::Inconclusive, entries, 0),
         Stage::Answer => answer(Verdict::Inconclusive, entries, 0),
-        Stage::Host => answer(Verdict::Inconclusive, entries, 0),
         Stage::Decision => answer(Verdict::Inconclusive, entries, 0),
         Stage::Closed => answer(Verdict::Inconclusive, entries, 0),
     }

@@ -6,17 +6,19 @@ use Rattle.lists.specs.Writing.{zeros}
 use Rattle.locator.specs.Cursor.{start}
 use Rattle.locator.specs.declared.cursor.Cursor.{Cursor}
 use Rattle.form_answers.specs.Options.{profileOf, locatorOf}
+use Rattle.session_phase.specs.declared.Question.the-variants.{Select}
+use Rattle.session_phase.specs.declared.Speaker.the-variants.{Terminal}
+use Rattle.session_phase.specs.declared.Waiting.{Waiting}
+use Rattle.session_phase.specs.declared.Waiting.the-variants.{ForCard, ForWord}
 use Rattle.told.specs.Runs.{noRun, keptRun}
 use Rattle.told.specs.Telling.{fixed, toldNothing}
 use Rattle.told.specs.declared.Told.{Told}
 use Rattle.state.specs.declared.State.{State}
-use Rattle.state.specs.declared.Phase.{Phase}
-use Rattle.state.specs.declared.Phase.the-variants.{Start, Select}
 
 unfoldable pub withTold : Told → State → State
 withTold told s =
     record {
-      phase = s .phase;
+      waiting = s .waiting;
       start = s .start;
       tvr = s .tvr;
       tsi = s .tsi;
@@ -30,7 +32,7 @@ withTold told s =
 unfoldable pub withOptions : List ℕ → State → State
 withOptions a s =
     record {
-      phase = s .phase;
+      waiting = s .waiting;
       start = s .start;
       tvr = s .tvr;
       tsi = s .tsi;
@@ -40,11 +42,11 @@ withOptions a s =
       told = s .told;
     }
 
--- what is due, TVR, TSI, and the place among the records
-unfoldable pub changed : Phase → List ℕ → List ℕ → Cursor → State → State
-changed phase tvr tsi cursor s =
+-- what is waited for, TVR, TSI, and the place among the records
+unfoldable pub changed : Waiting → List ℕ → List ℕ → Cursor → State → State
+changed waiting tvr tsi cursor s =
     record {
-      phase = phase;
+      waiting = waiting;
       start = s .start;
       tvr = tvr;
       tsi = tsi;
@@ -55,10 +57,10 @@ changed phase tvr tsi cursor s =
     }
 
 -- a state in which nothing is known but START's bytes
-unfoldable pub stateAt : Phase → List ℕ → State
-stateAt phase bytes =
+unfoldable pub stateAt : Waiting → List ℕ → State
+stateAt waiting bytes =
     record {
-      phase = phase;
+      waiting = waiting;
       start = bytes;
       tvr = zeros 5;
       tsi = zeros 2;
@@ -70,8 +72,8 @@ stateAt phase bytes =
 
 -- before START
 unfoldable pub fresh : State
-fresh = stateAt Start (zeros 74)
+fresh = stateAt (ForWord Terminal) (zeros 74)
 
 -- when START was taken
 unfoldable pub begun : List ℕ → State
-begun b = stateAt Select (fixed 74 b)
+begun b = stateAt (ForCard Select) (fixed 74 b)

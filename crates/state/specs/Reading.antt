@@ -1,17 +1,18 @@
 -- How the rulebook reads a state. Every value of the state has a reading.
 -- Assumes nothing.
 use mathlib.Core.List.{List, []}
-use mathlib.Core.Option.{Option, none, some}
 use Prim.Native.Nat.{ℕ}
 use Rattle.terminal.specs.Reading.{readingOf}
 use Rattle.locator.specs.Cursor.{remaining}
 use Rattle.rulebook.specs.Situation.{Situation}
-use Rattle.rulebook.specs.Phase.{Asked, selecting, optioning, reading, first, second}
+use Rattle.rulebook.specs.Phase.{Asked, selecting, optioning, reading, first, second, Heard, terminal, issuer}
+use Rattle.session_phase.specs.declared.Question.{Question}
+use Rattle.session_phase.specs.declared.Question.the-variants.{Select, Options, Record, First, Second}
+use Rattle.session_phase.specs.declared.Speaker.{Speaker}
+use Rattle.session_phase.specs.declared.Speaker.the-variants.{Terminal, Issuer}
 use Rattle.told.specs.Runs.{inRun}
 use Rattle.told.specs.Facts.{factsIn}
 use Rattle.state.specs.declared.State.{State}
-use Rattle.state.specs.declared.Phase.{Phase}
-use Rattle.state.specs.declared.Phase.the-variants.{Start, Select, Options, Record, First, Second, Host, Decided, Closed}
 
 -- the situation beside a profile
 unfoldable pub situationWith : List ℕ → State → Situation
@@ -36,16 +37,14 @@ unfoldable pub recordsLeft : State → List (ℕ × ℕ)
 recordsLeft s = remaining (inRun (s .locator)) (s .cursor)
 
 -- what the card was asked, as far as its answer depends on it: what went into the command alone is not kept
-unfoldable pub askedBy : Phase → State → Option Asked
-askedBy Start s = none
-askedBy Select s = some (selecting (early s))
-askedBy Options s = some (optioning (early s) [])
-askedBy Record s = some (reading (late s) 0 0 (recordsLeft s))
-askedBy (First request) s = some (first (late s) request)
-askedBy (Second request) s = some (second (late s) request [])
-askedBy Host s = none
-askedBy (Decided outcome reason) s = none
-askedBy Closed s = none
+unfoldable pub askedBy : Question → State → Asked
+askedBy Select s = selecting (early s)
+askedBy Options s = optioning (early s) []
+askedBy Record s = reading (late s) 0 0 (recordsLeft s)
+askedBy (First request) s = first (late s) request
+askedBy (Second request) s = second (late s) request []
 
-unfoldable pub askedIn : State → Option Asked
-askedIn s = askedBy (s .phase) s
+-- what somebody else is to say
+unfoldable pub heardBy : Speaker → State → Heard
+heardBy Terminal s = terminal
+heardBy Issuer s = issuer (late s)

@@ -1,21 +1,23 @@
 // States made anew, and changed.
-use crate::Phase;
 use crate::State;
 use form_answers::options;
 use lists::lay;
 use locator::cursor;
 use locator::cursor::Cursor;
+use session_phase::Question;
+use session_phase::Speaker;
+use session_phase::Waiting;
 use told::Told;
 use told::records;
 use told::runs;
 ghost use mathlib.Core.Path.{_≡_};
 ghost use Rattle.state.specs.Keeping.{withTold, withOptions, changed, stateAt, fresh as freshState, begun as begunState};
 
-fn state_at(phase: Phase, start: [u8; 74]) -> State
-    ensures { λ r. ⌜ r ≡ stateAt phase start ⌝ }
+fn state_at(waiting: Waiting, start: [u8; 74]) -> State
+    ensures { λ r. ⌜ r ≡ stateAt waiting start ⌝ }
 {
     State {
-        phase,
+        waiting,
         start,
         tvr: [0; 5],
         tsi: [0; 2],
@@ -29,7 +31,7 @@ fn state_at(phase: Phase, start: [u8; 74]) -> State
 pub fn fresh() -> State
     ensures { λ r. ⌜ r ≡ freshState ⌝ }
 {
-    state_at(Phase::Start, [0; 74])
+    state_at(Waiting::ForWord(Speaker::Terminal), [0; 74])
 }
 
 pub fn begun(start: &[u8]) -> State
@@ -37,7 +39,7 @@ pub fn begun(start: &[u8]) -> State
 {
     let mut bytes = [0; 74];
     lay(&mut bytes, 0, start);
-    state_at(Phase::Select, bytes)
+    state_at(Waiting::ForCard(Question::Select), bytes)
 }
 
 pub fn with_told(mut s: State, told: Told) -> State
@@ -58,15 +60,15 @@ pub fn with_options(mut s: State, answer: &[u8]) -> State
     s
 }
 
-pub fn change(s: State, phase: Phase, tvr: [u8; 5], tsi: [u8; 2], cursor: Cursor) -> State
-    ensures { λ r. ⌜ r ≡ changed phase tvr tsi cursor s ⌝ }
+pub fn change(s: State, waiting: Waiting, tvr: [u8; 5], tsi: [u8; 2], cursor: Cursor) -> State
+    ensures { λ r. ⌜ r ≡ changed waiting tvr tsi cursor s ⌝ }
 {
     let start = s.start;
     let profile = s.profile;
     let locator = s.locator;
     let told = s.told;
     State {
-        phase,
+        waiting,
         start,
         tvr,
         tsi,

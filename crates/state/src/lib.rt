@@ -2,27 +2,13 @@
 pub mod change;
 pub mod result;
 
-use decide::requests::Cryptogram;
 use locator::cursor::Cursor;
+use session_phase::Waiting;
 use told::Run;
 use told::Told;
 
-// What is due: START, an answer to one of the commands, the issuer's reply; or the session is over, with its outcome and
-// its reason or 0, or closed by silence.
-pub enum Phase {
-    Start,
-    Select,
-    Options,
-    Record,
-    First(Cryptogram),
-    Second(Cryptogram),
-    Host,
-    Decided(u8, u8),
-    Closed,
-}
-
 pub struct State {
-    pub phase: Phase,
+    pub waiting: Waiting,
     // START's bytes
     pub start: [u8; 74],
     pub tvr: [u8; 5],

@@ -12,8 +12,9 @@ use Rattle.tape.specs.Tapes.{written}
 use Rattle.tape_writer.specs.Appending.{appendAll, fresh}
 use Rattle.rulebook.specs.Session.{Session, AwaitsCard}
 use Rattle.rulebook.proofs.Bound.{session-bound}
-use Rattle.verdicts.specs.Judged.{says, passes, Judged}
-use Rattle.verdicts.specs.declared.Verdict.the-variants.{Pass, Fail, Inconclusive}
+use Rattle.verdict.specs.Saying.{says}
+use Rattle.verdicts.specs.Judged.{passes, Judged}
+use Rattle.verdict.specs.declared.Verdict.the-variants.{Pass, Fail, Inconclusive}
 use Rattle.verdicts.proofs.Stored.{session-fits, storable-append, written-judged, appended-judged, session-judged, cut-judged, closed-judged}
 use Rattle.verdicts.proofs.Endings.{after-decision}
 use Rattle.storable.proofs.Theorem.{session-storable, awaiting-storable}

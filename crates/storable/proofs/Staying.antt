@@ -32,8 +32,8 @@ use Rattle.decide.specs.Requests.{secondRequest}
 use Rattle.decide.specs.Replies.{codeIn, responseCode}
 use Rattle.decide.specs.declared.requests.Cryptogram.{Cryptogram}
 use Rattle.decide.specs.declared.requests.Cryptogram.the-variants.{Aac, Tc, Arqc}
-use Rattle.decide.specs.declared.reply.Reply.{Reply}
-use Rattle.decide.specs.declared.reply.Reply.the-variants.{Approve, Decline, Unable}
+use Rattle.decide.specs.declared.reply.HostReply.{HostReply}
+use Rattle.decide.specs.declared.reply.HostReply.the-variants.{Approve, Decline, Unable}
 use Rattle.checks.proofs.Laws.{tvr-length, tvr-bytes, tsi-length, tsi-length-on, tsi-bytes, tsi-bytes-on}
 use Rattle.rulebook.specs.Situation.{Situation, begun, cardFacts, issuerCodes, listIn}
 use Rattle.rulebook.specs.Phase.{Asked, selecting, optioning, reading, first, second, Heard, terminal, issuer, Phase, asks, hears, decides, decided, ended, approved, declined, terminated}
@@ -153,7 +153,7 @@ module _ (s : Situation) (k : Knows s) where
 
   -- ---- the issuer
 
-  code-bytes : (reply : Reply) (request : Cryptogram) (code : List ℕ) → areBytes code ≡ true → areBytes (responseCode reply request code) ≡ true
+  code-bytes : (reply : HostReply) (request : Cryptogram) (code : List ℕ) → areBytes code ≡ true → areBytes (responseCode reply request code) ≡ true
   unfolding responseCode
   code-bytes Approve request code h = h
   code-bytes Decline request code h = h
@@ -161,7 +161,7 @@ module _ (s : Situation) (k : Knows s) where
   code-bytes Unable Aac code h = refl
   code-bytes Unable Arqc code h = refl
 
-  replied-stays : (reply : Reply) (code : List ℕ) → areBytes code ≡ true → Stays (replied s reply code)
+  replied-stays : (reply : HostReply) (code : List ℕ) → areBytes code ≡ true → Stays (replied s reply code)
   unfolding replied ended
   replied-stays reply code h =
       let request = secondRequest reply (s .terminal) (issuerCodes s) (s .tvr) in
@@ -169,7 +169,7 @@ module _ (s : Situation) (k : Knows s) where
       (λ y. (k, code-bytes reply request code h))
       (λ n. (k, (omega arith, omega arith)))
 
-  heard-stays : (reply : Reply) (p : List ℕ) → areBytes p ≡ true → Stays (replied s reply (codeIn p))
+  heard-stays : (reply : HostReply) (p : List ℕ) → areBytes p ≡ true → Stays (replied s reply (codeIn p))
   unfolding codeIn
   heard-stays reply p h =
       replied-stays reply (codeIn p) (bytes-cons (getD p 1 0) (getD p 2 0 ∷ []) (bytes-at p h 1) (bytes-cons (getD p 2 0) [] (bytes-at p h 2) refl))

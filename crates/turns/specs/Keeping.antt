@@ -24,4 +24,4 @@ keeping (second z request code) a s = s
 
 -- an allowed first answer sets a bit of the TSI
 unfoldable pub answeredState : State → State
-answeredState s = changed (s .phase) (s .tvr) (tsiAfterFirstAnswer (s .tsi)) (s .cursor) s
+answeredState s = changed (s .waiting) (s .tvr) (tsiAfterFirstAnswer (s .tsi)) (s .cursor) s

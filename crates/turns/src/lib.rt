@@ -8,7 +8,6 @@ use decide::requests::second_allowed;
 use form_answers::cryptogram;
 use form_answers::cryptogram::Allowed;
 use form_answers::options::options_reason;
-use moves::Due;
 use moves::Step;
 use moves::ends::decide;
 use moves::ends::end;
@@ -18,7 +17,9 @@ use readings::facts::seen;
 use readings::known::at_options;
 use record_answer::record_reason;
 use record_steps::read_on;
-use state::Phase;
+use session_phase::Question;
+use session_phase::Reply;
+use session_phase::Waiting;
 use state::State;
 use state::change::change;
 use state::change::with_options;
@@ -43,7 +44,11 @@ pub fn on_select(s: State, a: &[u8], buf: &mut [u8]) -> Step
         return end(s, why);
     }
     let n = write::options(select_answer::pdol(a), terminal, at_options(s), buf);
-    wait(s, Phase::Options, Due::Command(n))
+    wait(
+        s,
+        Waiting::ForCard(Question::Options),
+        Reply::Command(n),
+    )
 }
 
 pub fn on_options(s: State, a: &[u8], buf: &mut [u8]) -> Step
@@ -92,9 +97,9 @@ fn after_first(s: State) -> State
 {
     let tvr = s.tvr;
     let tsi = s.tsi;
-    let phase = s.phase;
+    let waiting = s.waiting;
     let place = s.cursor;
-    change(s, phase, tvr, tsi_after_first_answer(tsi), place)
+    change(s, waiting, tvr, tsi_after_first_answer(tsi), place)
 }
 
 pub fn on_first(s: State, request: Cryptogram, a: &[u8], buf: &mut [u8]) -> Step

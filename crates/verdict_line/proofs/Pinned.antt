@@ -4,9 +4,9 @@ use mathlib.Core.Path.{_≡_, refl, sym}
 use mathlib.Core.List.{[], _∷_}
 use native.Mathlib.Omega.{arith}
 use Rattle.lists.specs.Choice.{pick}
-use Rattle.verdicts.specs.Judged.{says}
+use Rattle.verdict.specs.Saying.{says}
 use Rattle.verdict_line.specs.Line.{wordOf, digitsOf, decimal, fieldOf, lineOf}
-use Rattle.verdicts.specs.declared.Verdict.the-variants.{Pass, Fail, Inconclusive, Unreadable}
+use Rattle.verdict.specs.declared.Verdict.the-variants.{Pass, Fail, Inconclusive, Unreadable}
 use Rattle.verdict_line.proofs.Digits.{decimal-within}
 
 -- "INCONCLUSIVE 0 0" and a line feed

@@ -12,8 +12,8 @@ use Rattle.lists.specs.Writing.{put, laid}
 use Rattle.lists.proofs.Choice.{pick-yes, pick-no}
 use Rattle.lists.proofs.Writing.{put-length, put-step, put-start, laid-fits, laid-short}
 use Rattle.verdict_line.specs.Line.{wordOf, decimal, fieldOf, lineOf, lineSize}
-use Rattle.verdicts.specs.declared.Verdict.{Verdict}
-use Rattle.verdicts.specs.declared.Answer.{Answer}
+use Rattle.verdict.specs.declared.Verdict.{Verdict}
+use Rattle.verdict.specs.declared.Answer.{Answer}
 use Rattle.verdict_line.proofs.Digits.{decimal-small, decimal-large, large-length, field-length, decimal-most}
 
 one-store : (d : List ℕ) (p x : ℕ) → p < length d → set d p x ≡ put (x ∷ []) p d

@@ -1,7 +1,7 @@
 // The line that says a verdict.
 use lists::lay;
-use verdicts::Answer;
-use verdicts::Verdict;
+use verdict::Answer;
+use verdict::Verdict;
 ghost use mathlib.Core.Path.{_≡_};
 ghost use Prim.Native.Nat.{_+_, _≤_};
 ghost use lib.ListN.{length};

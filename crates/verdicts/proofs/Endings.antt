@@ -12,9 +12,10 @@ use Rattle.tape.specs.Tapes.{entries, readTape}
 use Rattle.rulebook.specs.Session.{Session, Closed, Open, Lawful}
 use Rattle.rulebook.proofs.Breaks.{after-session, after-closed, break-here}
 use Rattle.rulebook.proofs.SeenErrors.{last-is-decision}
-use Rattle.verdicts.specs.Judged.{says, Judges, passes, undecided, fails, Judged, readable, damaged}
-use Rattle.verdicts.specs.declared.Verdict.the-variants.{Pass, Fail}
-use Rattle.verdicts.specs.declared.Answer.{Answer}
+use Rattle.verdict.specs.Saying.{says}
+use Rattle.verdicts.specs.Judged.{Judges, passes, undecided, fails, Judged, readable, damaged}
+use Rattle.verdict.specs.declared.Verdict.the-variants.{Pass, Fail}
+use Rattle.verdict.specs.declared.Answer.{Answer}
 
 -- ---- one entry too many
 

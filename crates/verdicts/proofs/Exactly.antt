@@ -9,9 +9,10 @@ use lib.ListN.{length}
 use Rattle.tape.specs.Entries.{Entry}
 use Rattle.tape.specs.Tapes.{entries, unreadable, readTape}
 use Rattle.rulebook.specs.Session.{Session, Open, BreaksAt}
-use Rattle.verdicts.specs.Judged.{says, Judges, passes, undecided, fails, Judged, readable, damaged}
-use Rattle.verdicts.specs.declared.Verdict.the-variants.{Pass, Fail, Inconclusive, Unreadable}
-use Rattle.verdicts.specs.declared.Answer.{Answer}
+use Rattle.verdict.specs.Saying.{says}
+use Rattle.verdicts.specs.Judged.{Judges, passes, undecided, fails, Judged, readable, damaged}
+use Rattle.verdict.specs.declared.Verdict.the-variants.{Pass, Fail, Inconclusive, Unreadable}
+use Rattle.verdict.specs.declared.Answer.{Answer}
 use Rattle.verdicts.proofs.Once.{judges-once, judged-once}
 
 pub record Exactly (es : List Entry) (a : Answer) : Type 0 where

@@ -17,9 +17,9 @@ use Rattle.tape.specs.Blocks.{kindIn, lengthIn, payloadAt, lengthBad, payloadIn
 use Rattle.tape.specs.Tapes.{Reading, entries, unreadable, preceded, blockAt, readFrom, sessionOf}
 use Rattle.tape.proofs.Steps.{read-end, read-bad, read-good, rest-next, tape-long, tape-ragged, tape-blocks}
 use Rattle.rulebook.specs.Session.{isPayload}
-use Rattle.verdicts.specs.Judged.{says}
-use Rattle.verdicts.specs.declared.Verdict.the-variants.{Unreadable}
-use Rattle.verdicts.specs.declared.Answer.{Answer}
+use Rattle.verdict.specs.Saying.{says}
+use Rattle.verdict.specs.declared.Verdict.the-variants.{Unreadable}
+use Rattle.verdict.specs.declared.Answer.{Answer}
 use Rattle.verdicts.specs.Progress.{Progress, begun, reads, readsAll, concluded, finally, verdictOf}
 
 -- one entry in front of the rest is one entry further

@@ -15,14 +15,16 @@ use Rattle.tape.specs.Entries.{Entry, entry, silence}
 use Rattle.tape.specs.Tapes.{Reading, entries, unreadable, readTape}
 use Rattle.rulebook.specs.Phase.{Asked, opens}
 use Rattle.rulebook.specs.Session.{Closed, Open, Lawful, BreaksAt}
-use Rattle.rulebook.proofs.Running.{State, at, owes, done, next, run, run-session}
+use Rattle.rulebook.specs.Machine.{Machine, at, owes, done, next, run}
+use Rattle.rulebook.proofs.Running.{run-session}
 use Rattle.rulebook.proofs.Sorting.{run-beginning}
 use Rattle.rulebook.proofs.Ends.{finishes}
 use Rattle.rulebook.proofs.Breaks.{after-closed, break-here, break-stays}
 use Rattle.rulebook.proofs.States.{state-lawful, silence-closes, state-next, refused-breaks}
-use Rattle.verdicts.specs.Judged.{says, Judges, passes, undecided, fails, Judged, readable, damaged}
-use Rattle.verdicts.specs.declared.Verdict.the-variants.{Pass, Inconclusive}
-use Rattle.verdicts.specs.declared.Answer.{Answer}
+use Rattle.verdict.specs.Saying.{says}
+use Rattle.verdicts.specs.Judged.{Judges, passes, undecided, fails, Judged, readable, damaged}
+use Rattle.verdict.specs.declared.Verdict.the-variants.{Pass, Inconclusive}
+use Rattle.verdict.specs.declared.Answer.{Answer}
 use Rattle.verdicts.proofs.Once.{judged-once}
 use Rattle.verdicts.specs.Progress.{Progress, reached, closed, broken, begun, empty, closes, onward, reads, readsAll, progressOf, concluded, finally, verdictOf}
 
@@ -40,7 +42,7 @@ empty-is [] h = refl
 empty-is (b ∷ p) h = absurd (let z : _≡_ {A = ℕ} 0 1 = cc in omega arith)
 
 -- an entry that closes is a silence without payload, after a command that is owed an answer
-pub closes-is : (σ : State) (e : Entry) → closes σ e ≡ true → (w : Asked) × ((σ ≡ owes w) × (e ≡ entry silence []))
+pub closes-is : (σ : Machine) (e : Entry) → closes σ e ≡ true → (w : Asked) × ((σ ≡ owes w) × (e ≡ entry silence []))
 unfolding closes
 closes-is (at p) e h = absurd (let z : _≡_ {A = ℕ} 0 1 = cc in omega arith)
 closes-is done e h = absurd (let z : _≡_ {A = ℕ} 0 1 = cc in omega arith)
@@ -60,7 +62,7 @@ module _ (es : List Entry) (e : Entry) where
   one-more : (n : ℕ) → n ≡ length es → n + 1 ≡ length longer
   one-more n h = sym (length-append es (e ∷ []) ∙ ap (λ (k : ℕ). k + 1) (sym h))
 
-  module _ (σ : State) (n : ℕ) (read : run es (at opens) ≡ some σ) (count : n ≡ length es) where
+  module _ (σ : Machine) (n : ℕ) (read : run es (at opens) ≡ some σ) (count : n ≡ length es) where
     closed-here : closes σ e ≡ true → Means (closed (n + 1)) longer
     unfolding Means
     closed-here y =
@@ -79,7 +81,7 @@ module _ (es : List Entry) (e : Entry) where
         let zero-one : _≡_ {A = ℕ} 0 1 = cc in
         omega arith)))
 
-    by-next : (o : Option State) → next σ e ≡ o → Means (onward σ n e o) longer
+    by-next : (o : Option Machine) → next σ e ≡ o → Means (onward σ n e o) longer
     unfolding onward Means
     by-next (some τ) h = (state-next es σ e read τ h, one-more n count)
     by-next none h = picked (λ m. Means m longer) (closes σ e) _ _ closed-here (broken-here h)

@@ -12,10 +12,12 @@ use Rattle.rulebook.specs.Session.{Lawful}
 use Rattle.rulebook.proofs.Trichotomy.{Sort, finished, unfinished, neither, sorted}
 use Rattle.rulebook.proofs.Ends.{finishes}
 use Rattle.rulebook.proofs.Breaks.{break-found}
-use Rattle.rulebook.proofs.Roles.{Verdict, pass, inconclusive, fail, rightJudge, right-judge}
-use Rattle.verdicts.specs.Judged.{says, Judges, passes, undecided, fails, Judged, readable, damaged}
-use Rattle.verdicts.specs.declared.Verdict.the-variants.{Pass, Fail, Inconclusive, Unreadable}
-use Rattle.verdicts.specs.declared.Answer.{Answer}
+use Rattle.rulebook.specs.Roles.{Verdict, pass, inconclusive, fail}
+use Rattle.rulebook.proofs.Roles.{rightJudge, right-judge}
+use Rattle.verdict.specs.Saying.{says}
+use Rattle.verdicts.specs.Judged.{Judges, passes, undecided, fails, Judged, readable, damaged}
+use Rattle.verdict.specs.declared.Verdict.the-variants.{Pass, Fail, Inconclusive, Unreadable}
+use Rattle.verdict.specs.declared.Answer.{Answer}
 
 -- ---- at most one
 

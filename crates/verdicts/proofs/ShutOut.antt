@@ -14,10 +14,11 @@ use Rattle.rulebook.proofs.Breaks.{begins-empty}
 use Rattle.rulebook.proofs.Made.{startOf, select, tc}
 use Rattle.rulebook.proofs.Sessions.{offline, approved-offline}
 use Rattle.rulebook.proofs.ShutOut.{breaks-at-0, breaks-at-1}
-use Rattle.verdicts.specs.Judged.{says, undecided, fails, Judged, readable, damaged}
-use Rattle.verdicts.specs.declared.Verdict.{Verdict}
-use Rattle.verdicts.specs.declared.Verdict.the-variants.{Pass, Fail, Inconclusive, Unreadable}
-use Rattle.verdicts.specs.declared.Answer.{Answer}
+use Rattle.verdict.specs.Saying.{says}
+use Rattle.verdicts.specs.Judged.{undecided, fails, Judged, readable, damaged}
+use Rattle.verdict.specs.declared.Verdict.{Verdict}
+use Rattle.verdict.specs.declared.Verdict.the-variants.{Pass, Fail, Inconclusive, Unreadable}
+use Rattle.verdict.specs.declared.Answer.{Answer}
 use Rattle.verdicts.proofs.Once.{judged-once}
 use Rattle.verdicts.specs.Progress.{verdictOf}
 use Rattle.verdicts.proofs.Meaning.{verdict-judged}

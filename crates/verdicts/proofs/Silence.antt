@@ -13,14 +13,16 @@ use Rattle.tape.specs.Entries.{Entry, entry, start, command, answer, silence, h
 use Rattle.rulebook.specs.Phase.{Asked, terminal, opens, asks, hears, decides, dueKind}
 use Rattle.rulebook.specs.Session.{Session, Beginning, AwaitsCard, Closed, Open, Lawful}
 use Rattle.rulebook.proofs.Said.{other-kinds}
-use Rattle.rulebook.proofs.Running.{State, at, owes, done, due, sayable, next, run, chosen, taken, no-state, session-run}
+use Rattle.rulebook.specs.Machine.{Machine, at, owes, done, due, sayable, next, run}
+use Rattle.rulebook.proofs.Running.{chosen, taken, no-state, session-run}
 use Rattle.rulebook.proofs.Reading.{other-kind, run-append, beginning-run, awaits-run}
 use Rattle.rulebook.proofs.Sorting.{run-awaits}
 use Rattle.rulebook.proofs.Ends.{finishes}
 use Rattle.rulebook.proofs.Breaks.{begins-empty, after-session, after-closed}
 use Rattle.rulebook.proofs.States.{refused-breaks}
-use Rattle.verdicts.specs.Judged.{says, Judges, undecided}
-use Rattle.verdicts.specs.declared.Verdict.the-variants.{Fail, Inconclusive}
+use Rattle.verdict.specs.Saying.{says}
+use Rattle.verdicts.specs.Judged.{Judges, undecided}
+use Rattle.verdict.specs.declared.Verdict.the-variants.{Fail, Inconclusive}
 use Rattle.verdicts.proofs.Taking.{not-due}
 use Rattle.verdicts.proofs.Endings.{one-too-many}
 
@@ -31,7 +33,7 @@ closing-silence es a = undecided (inr (es, (a, refl))) (ap (λ (n : ℕ). says I
 
 -- ---- any other silence
 
-silence-refused : (σ : State) (p : List ℕ) → next σ (entry silence p) ≡ none
+silence-refused : (σ : Machine) (p : List ℕ) → next σ (entry silence p) ≡ none
 unfolding next
 silence-refused (at (asks w)) p = pick-no _ _ _ (not-due command silence _ p (λ e. omega arith))
 silence-refused (at (hears h)) p = pick-no _ _ _ (other-kind (dueKind h) silence _ p (other-kinds h .no-silence))
@@ -93,7 +95,7 @@ host-not-awaited es h rest s a =
     let t = taken (run (entry host h ∷ rest)) (run es (at opens)) done (sym (run-append es (entry host h ∷ rest) (at opens)) ∙ session-run _ s) in
     let n = taken (run rest) (next (t .0) (entry host h)) done (t .1 .1) in
     let here : t .0 ≡ owes (w .0) = cc (t .1 .0, w .1) in
-    no-state (n .0) (sym (host-refused (w .0) h) ∙ (ap (λ (σ : State). next σ (entry host h)) (sym here) ∙ n .1 .0))
+    no-state (n .0) (sym (host-refused (w .0) h) ∙ (ap (λ (σ : Machine). next σ (entry host h)) (sym here) ∙ n .1 .0))
 
 pub silence-for-host : (es : List Entry) (h : List ℕ) (rest : List Entry) (p : List ℕ) (more : List Entry) → Session (es ++ (entry host h ∷ rest))
     → Judges (es ++ (entry silence p ∷ more)) (says Fail (length es) 0)

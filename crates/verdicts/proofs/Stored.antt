@@ -18,9 +18,10 @@ use Rattle.tape_writer.proofs.Growing.{appends-read}
 use Rattle.rulebook.specs.Session.{Session, AwaitsCard, Open}
 use Rattle.rulebook.proofs.Bound.{session-bound}
 use Rattle.rulebook.proofs.Breaks.{session-part}
-use Rattle.verdicts.specs.Judged.{says, Judges, passes, undecided, Judged, readable}
-use Rattle.verdicts.specs.declared.Verdict.the-variants.{Pass, Inconclusive}
-use Rattle.verdicts.specs.declared.Answer.{Answer}
+use Rattle.verdict.specs.Saying.{says}
+use Rattle.verdicts.specs.Judged.{Judges, passes, undecided, Judged, readable}
+use Rattle.verdict.specs.declared.Verdict.the-variants.{Pass, Inconclusive}
+use Rattle.verdict.specs.declared.Answer.{Answer}
 use Rattle.verdicts.proofs.Silence.{closing-silence}
 
 -- a session fits a tape

@@ -11,11 +11,8 @@ use lib.Dec.{eqb}
 use borrow.Author.Tests.{ne-eqb}
 use Rattle.lists.specs.Choice.{pick}
 use Rattle.lists.proofs.Choice.{pick-yes, pick-no, either, and-both}
-use Rattle.terminal.specs.Reading.{readingOf}
 use Rattle.start.specs.Start.{validStart}
 use Rattle.decide.specs.Replies.{replyOf, isReply}
-use Rattle.decide.specs.declared.reply.Reply.{Reply}
-use Rattle.decide.specs.declared.reply.Heard.the-variants.{Said, Nothing}
 use Rattle.tape.specs.Entries.{Entry, entry, start, command, answer, silence, host, decision}
 use Rattle.rulebook.specs.Situation.{Situation}
 use Rattle.rulebook.specs.Phase.{Asked, Heard, terminal, issuer, opens, asks, hears, decides, commandOf, dueKind, decisionOf}
@@ -23,15 +20,16 @@ use Rattle.rulebook.specs.Turn.{opened, turn, allowed, heard, after}
 use Rattle.rulebook.specs.Session.{isPayload}
 use Rattle.lists.specs.Tests.{alike}
 use Rattle.lists.proofs.Comparing.{alike-same}
-use Rattle.rulebook.proofs.Running.{State, at, owes, done, due, sayable, next, takes-command, takes-answer, takes-heard, takes-decision}
+use Rattle.rulebook.specs.Machine.{Machine, at, owes, done, due, sayable, next}
+use Rattle.rulebook.proofs.Running.{takes-command, takes-answer, takes-heard, takes-decision}
 use Rattle.rulebook.proofs.Named.{takes-reply}
 use Rattle.rulebook.proofs.Reading.{other-kind}
 use Rattle.verdicts.specs.Progress.{reached, closed, broken, empty, closes, onward, reads}
 
 -- ---- by what the machine does
 
-module _ (σ : State) (n : ℕ) (e : Entry) where
-  pub reads-taken : (τ : State) → next σ e ≡ some τ → reads (reached σ n) e ≡ reached τ (n + 1)
+module _ (σ : Machine) (n : ℕ) (e : Entry) where
+  pub reads-taken : (τ : Machine) → next σ e ≡ some τ → reads (reached σ n) e ≡ reached τ (n + 1)
   unfolding reads onward
   reads-taken τ h = ap (onward σ n e) h
 
@@ -64,33 +62,6 @@ module _ (n : ℕ) where
     pub heard-missing : (k : ℕ) → (k ≡ dueKind h → ⊥) → reads (reached (at (hears h)) n) (entry k p) ≡ broken n
     unfolding next closes
     heard-missing k other = reads-refused (at (hears h)) n (entry k p) (pick-no _ _ _ (not-due (dueKind h) k _ p other)) refl
-
-  -- START and HOST
-  module _ (p : List ℕ) where
-    pub reads-start : isPayload p ≡ true → validStart p ≡ true → reads (reached (at opens) n) (entry start p) ≡ reached (at (opened (readingOf p))) (n + 1)
-    unfolding allowed after dueKind
-    reads-start ok valid = reads-heard terminal p valid ok
-
-    pub start-invalid : validStart p ≡ false → reads (reached (at opens) n) (entry start p) ≡ broken n
-    unfolding allowed dueKind
-    start-invalid f = heard-invalid terminal p f
-
-    pub start-missing : (k : ℕ) → (k ≡ start → ⊥) → reads (reached (at opens) n) (entry k p) ≡ broken n
-    unfolding dueKind
-    start-missing k other = heard-missing terminal p k other
-
-  module _ (s : Situation) (p : List ℕ) where
-    pub reads-host : (r : Reply) → isPayload p ≡ true → replyOf p ≡ Said r
-        → reads (reached (at (hears (issuer s))) n) (entry host p) ≡ reached (at (heard s r p)) (n + 1)
-    reads-host r ok said = reads-taken (at (hears (issuer s))) n (entry host p) (at (heard s r p)) (takes-reply s p r said ok)
-
-    pub host-invalid : replyOf p ≡ Nothing → reads (reached (at (hears (issuer s))) n) (entry host p) ≡ broken n
-    unfolding allowed dueKind isReply
-    host-invalid none-said = heard-invalid (issuer s) p (ap isReply none-said)
-
-    pub host-missing : (k : ℕ) → (k ≡ host → ⊥) → reads (reached (at (hears (issuer s))) n) (entry k p) ≡ broken n
-    unfolding dueKind
-    host-missing k other = heard-missing (issuer s) p k other
 
   -- a command
   module _ (w : Asked) (p : List ℕ) where

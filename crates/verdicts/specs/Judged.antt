@@ -8,12 +8,9 @@ use lib.ListN.{length}
 use Rattle.tape.specs.Entries.{Entry}
 use Rattle.tape.specs.Tapes.{entries, unreadable, readTape}
 use Rattle.rulebook.specs.Session.{Session, Open, BreaksAt}
-use Rattle.verdicts.specs.declared.Verdict.{Verdict}
-use Rattle.verdicts.specs.declared.Verdict.the-variants.{Pass, Fail, Inconclusive, Unreadable}
-use Rattle.verdicts.specs.declared.Answer.{Answer}
-
-abbrev pub says : Verdict → ℕ → ℕ → Answer
-says verdict place code = record { verdict = verdict; place = place; code = code }
+use Rattle.verdict.specs.Saying.{says}
+use Rattle.verdict.specs.declared.Verdict.the-variants.{Pass, Fail, Inconclusive, Unreadable}
+use Rattle.verdict.specs.declared.Answer.{Answer}
 
 -- the answer for a tape that reads as these entries
 pub data Judges (es : List Entry) (a : Answer) : Type 0 where

@@ -10,14 +10,14 @@ use Rattle.lists.specs.Choice.{pick}
 use Rattle.tape.specs.Entries.{Entry, silence}
 use Rattle.tape.specs.Tapes.{Reading, entries, unreadable, readTape}
 use Rattle.rulebook.specs.Phase.{opens}
-use Rattle.rulebook.proofs.Running.{State, at, owes, done, next}
-use Rattle.verdicts.specs.Judged.{says}
-use Rattle.verdicts.specs.declared.Verdict.the-variants.{Pass, Fail, Inconclusive, Unreadable}
-use Rattle.verdicts.specs.declared.Answer.{Answer}
+use Rattle.rulebook.specs.Machine.{Machine, at, owes, done, next}
+use Rattle.verdict.specs.Saying.{says}
+use Rattle.verdict.specs.declared.Verdict.the-variants.{Pass, Fail, Inconclusive, Unreadable}
+use Rattle.verdict.specs.declared.Answer.{Answer}
 
 pub data Progress : Type 0 where
   -- no rule is broken: where the machine stands, and how many entries were read
-  reached : State → ℕ → Progress
+  reached : Machine → ℕ → Progress
   -- the last of so many entries was a closing silence
   closed : ℕ → Progress
   -- the entry at which the rules were first broken
@@ -32,13 +32,13 @@ empty [] = true
 empty (b ∷ bs) = false
 
 -- a silence with no payload, where the card owes an answer
-unfoldable pub closes : State → Entry → Bool
+unfoldable pub closes : Machine → Entry → Bool
 closes (at p) e = false
 closes (owes w) e = eqb (e .kind) silence && empty (e .payload)
 closes done e = false
 
 -- after an entry that the machine takes, or refuses
-unfoldable pub onward : State → ℕ → Entry → Option State → Progress
+unfoldable pub onward : Machine → ℕ → Entry → Option Machine → Progress
 onward σ n e (some τ) = reached τ (n + 1)
 onward σ n e none = pick (closes σ e) (closed (n + 1)) (broken n)
 

@@ -1,13 +1,1 @@
-// What is said of a tape: a verdict, a place and a code.
-pub enum Verdict {
-    Pass,
-    Fail,
-    Inconclusive,
-    Unreadable,
-}
-
-pub struct Answer {
-    pub verdict: Verdict,
-    pub place: usize,
-    pub code: usize,
-}
+// Verdicts of tapes: what they mean, and laws over them. There is no code here.

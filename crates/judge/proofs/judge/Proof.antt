@@ -13,11 +13,12 @@ use Rattle.crc.proofs.Bytes.{bytes-each}
 use Rattle.tape.specs.Entries.{Entry, entry}
 use Rattle.tape.specs.Blocks.{codeOf, kindIn, payloadIn, sessionIn, entryIn}
 use Rattle.tape.specs.Tapes.{blockAt, sessionOf}
-use Rattle.rulebook.proofs.Running.{at}
+use Rattle.rulebook.specs.Machine.{at}
 use Rattle.rulebook.specs.Phase.{opens}
 use Rattle.rulebook.specs.Session.{isPayload}
-use Rattle.verdicts.specs.Judged.{Judged, says}
-use Rattle.verdicts.specs.declared.Verdict.the-variants.{Unreadable}
+use Rattle.verdict.specs.Saying.{says}
+use Rattle.verdicts.specs.Judged.{Judged}
+use Rattle.verdict.specs.declared.Verdict.the-variants.{Unreadable}
 use Rattle.verdicts.specs.Progress.{Progress, reached, reads, verdictOf}
 use Rattle.verdicts.proofs.Meaning.{verdict-right}
 use Rattle.verdicts.proofs.Loop.{verdictFrom, verdict-long, verdict-ragged, verdict-blocks, loop-good, loop-bad, loop-end, block-payload, block-bytes, block-entry}

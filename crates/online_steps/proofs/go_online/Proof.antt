@@ -10,13 +10,13 @@ use Rattle.lists.specs.Choice.{pick}
 use Rattle.terminal.specs.Reading.{readingOf}
 use Rattle.wanted.specs.Wanted.{fillable}
 use Rattle.decide.specs.Requests.{secondRequest}
-use Rattle.decide.specs.declared.reply.Reply.the-variants.{Unable}
+use Rattle.decide.specs.declared.reply.HostReply.the-variants.{Unable}
 use Rattle.rulebook.specs.Situation.{issuerCodes, listIn}
-use Rattle.rulebook.specs.Phase.{second, Phase, asks, ended}
+use Rattle.rulebook.specs.Phase.{issuer, second, Phase, asks, dueKind, tvrOf, tsiOf, ended}
 use Rattle.rulebook.specs.Turn.{replied, online}
 use Rattle.state.specs.Reading.{situationWith, late}
-use Rattle.moves.specs.Moves.{moved}
-use Rattle.moves.proofs.Moving.{late-hears}
+use Rattle.moves.specs.Moves.{speakerOf, moved}
+use Rattle.moves.proofs.Moving.{hearing}
 use Rattle.decide.proofs.Replying.{unable-code}
 use Rattle.online_steps.proofs.go_online.Statement.{statement}
 use Rattle.online_steps.proofs.go_online.Tie as tie
@@ -38,12 +38,12 @@ returns c =
     (sym (c .before .before .before .before .before .kind .ensures) ∙ c .before .before .before .before .if1 .taken))))
 
 returns-2 : tie.Need-returns-2
-unfolding online late situationWith
+unfolding online late situationWith speakerOf dueKind tvrOf tsiOf
 returns-2 c =
     let args = c .before .before .before .before .before .before .args in
     let s = args .s in
     let buf = args .buf .now in
-    late-hears s buf (c .wait .ensures)
+    hearing s buf (issuer (late s)) (c .wait .ensures) refl refl
     ∙ sym
     (ap (λ (p : Phase). moved p s buf)
     (pick-no _ _ _ (ne-eqb (readingOf (s .start) .kind) 0 (λ e. c .before .if1 .left (c .before .before .kind .ensures ∙ e)))))

@@ -21,13 +21,13 @@ use Rattle.rulebook.specs.Turn.{replied}
 use Rattle.state.specs.Reading.{situationWith, late}
 use Rattle.told.specs.Facts.{toldLines, factsIn}
 use Rattle.told.specs.Runs.{runHeld, inRun}
-use Rattle.moves.specs.Moves.{awaiting, cursorAsking, moved}
+use Rattle.moves.specs.Moves.{questionOf, cursorAsking, moved}
 use Rattle.moves.proofs.Moving.{late-decided, asking-on}
 use Rattle.online_steps.proofs.request_second.Statement.{statement}
 use Rattle.online_steps.proofs.request_second.Tie as tie
 
 returns : tie.Need-returns
-unfolding replied late situationWith commandOf situationOf awaiting cursorAsking listIn factsIn toldLines beside pick inRun
+unfolding replied late situationWith commandOf situationOf questionOf cursorAsking listIn factsIn toldLines beside pick inRun
 returns c =
     let args = c .before .before .before .before .before .before .before .before .before .before .before .before .before .args in
     let s = args .s in

@@ -19,7 +19,7 @@ returns c =
     (λ (x : Facts). tvrAfterRecords (readingOf (s .start)) (factsOf x) (s .tvr)) (c .before .before .before .before .facts .ensures) in
     let tsi = c .before .tsi-after-records .ensures ∙ ap (λ (x : Facts). tsiAfterRecords (factsOf x) (s .tsi))
     (c .before .before .before .before .facts .ensures) in
-    c .change .ensures ∙ (λ i. changed (s .phase) (tvr i) (tsi i) (s .cursor) s)
+    c .change .ensures ∙ (λ i. changed (s .waiting) (tvr i) (tsi i) (s .cursor) s)
 
 pub managed-spec : {M : Type 1} → statement M
 managed-spec =

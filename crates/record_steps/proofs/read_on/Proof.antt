@@ -10,13 +10,13 @@ use Rattle.rulebook.specs.Phase.{reading, situationOf, commandOf}
 use Rattle.rulebook.specs.Turn.{readOn}
 use Rattle.state.specs.Reading.{situationWith, late, recordsLeft}
 use Rattle.told.specs.Runs.{inRun}
-use Rattle.moves.specs.Moves.{awaiting, cursorAsking, moved}
+use Rattle.moves.specs.Moves.{questionOf, cursorAsking, moved}
 use Rattle.moves.proofs.Moving.{asking}
 use Rattle.record_steps.proofs.read_on.Statement.{statement}
 use Rattle.record_steps.proofs.read_on.Tie as tie
 
 returns : tie.Need-returns
-unfolding recordsLeft readOn commandOf situationOf awaiting cursorAsking late situationWith
+unfolding recordsLeft readOn commandOf situationOf questionOf cursorAsking late situationWith
 returns c =
     let args = c .before .before .before .before .before .before .before .before .before .before .before .args in
     let s = args .s in

@@ -21,7 +21,7 @@ use Rattle.readings.proofs.Agreeing.{codes-told}
 use Rattle.state.specs.Reading.{situationWith, late}
 use Rattle.told.specs.Facts.{toldLines, factsIn}
 use Rattle.told.specs.Runs.{runHeld, inRun}
-use Rattle.moves.specs.Moves.{awaiting, cursorAsking, moved}
+use Rattle.moves.specs.Moves.{questionOf, cursorAsking, moved}
 use Rattle.moves.proofs.Moving.{late-refused, asking-on, reason-next}
 use Rattle.record_steps.proofs.request_first.Statement.{statement}
 use Rattle.record_steps.proofs.request_first.Tie as tie
@@ -37,7 +37,7 @@ returns c =
     (c .before .before .before .pre) (c .before .if1 .taken) (c .end .ensures)
 
 returns-2 : tie.Need-returns-2
-unfolding requested late situationWith commandOf situationOf awaiting cursorAsking listIn factsIn toldLines beside pick inRun
+unfolding requested late situationWith commandOf situationOf questionOf cursorAsking listIn factsIn toldLines beside pick inRun
 returns-2 c =
     let args = c .before .before .before .before .before .before .before .before .before .before .before .before .before .before .before
     .args in

@@ -49,18 +49,10 @@ returns-7 c =
     let n = c .before .before .before .args .entries in
     c .answer7 .ensures ∙ sym (ap (λ (x : Stage). saidAt x n) (c .before .enum-told6 .given .1))
 
-returns-8 : tie.Need-returns-8
-unfolding saidAt
-returns-8 c =
-    let n = c .before .before .before .args .entries in
-    c .answer8 .ensures ∙ sym (ap (λ (x : Stage). saidAt x n) (c .before .enum-told7 .given .1))
-
 pub conclude-spec : {M : Type 1} → statement M
 conclude-spec =
     tie.close
     (tie.spec
-    (λ c. search needs)
-    (λ c κs. search needs)
     (λ c. search needs)
     (λ c κs. search needs)
     (λ c. search needs)
@@ -81,5 +73,4 @@ conclude-spec =
     returns-4
     returns-5
     returns-6
-    returns-7
-    returns-8)
+    returns-7)

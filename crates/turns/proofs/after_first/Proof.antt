@@ -13,7 +13,7 @@ returns : tie.Need-returns
 unfolding answeredState
 returns c =
     let s = c .before .before .before .before .before .args .s in
-    c .change .ensures ∙ ap (λ (x : List ℕ). changed (s .phase) (s .tvr) x (s .cursor) s) (c .before .tsi-after-first-answer .ensures)
+    c .change .ensures ∙ ap (λ (x : List ℕ). changed (s .waiting) (s .tvr) x (s .cursor) s) (c .before .tsi-after-first-answer .ensures)
 
 pub after-first-spec : {M : Type 1} → statement M
 after-first-spec = tie.close (tie.spec (λ c κs. search needs) (λ c κs. search needs) returns)

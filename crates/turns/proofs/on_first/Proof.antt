@@ -51,7 +51,7 @@ returns-2 c =
     ∙ (ap (λ (x : State). moved (byFirst (c .before .before .before .before .cryptogram .result) (late x)) x buf)
     (c .before .before .before .before .before .before .before .before .after-first .ensures)
     ∙ (ap (λ (k : ℕ). moved (byFirst k (late t)) t buf) (c .before .before .before .before .cryptogram .ensures)
-    ∙ (bits-moved (byFirst n (late t)) (s .phase) (s .tvr) (tsiAfterFirstAnswer (s .tsi)) s buf
+    ∙ (bits-moved (byFirst n (late t)) (s .waiting) (s .tvr) (tsiAfterFirstAnswer (s .tsi)) s buf
     ∙ (ap (λ (z : Situation). moved (byFirst n z) s buf) (late-answered s)
     ∙ sym
     (reason-next why (cryptogramReason (firstAllows q) a) (late s) (byFirst n (answered (late s))) s buf

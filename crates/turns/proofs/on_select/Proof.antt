@@ -14,7 +14,7 @@ use Rattle.select_answer.specs.Select.{selectReason, pdolOf}
 use Rattle.rulebook.specs.Phase.{selecting, optioning, asks, situationOf, commandOf}
 use Rattle.rulebook.specs.Turn.{selected, turn}
 use Rattle.state.specs.Reading.{situationWith, early}
-use Rattle.moves.specs.Moves.{awaiting, cursorAsking}
+use Rattle.moves.specs.Moves.{questionOf, cursorAsking}
 use Rattle.turns.specs.Keeping.{keeping}
 use Rattle.moves.proofs.Moving.{early-refused, asking-on, reason-next}
 use Rattle.answers.proofs.Reasons.{select-small}
@@ -33,7 +33,7 @@ returns c =
     (c .before .before .select-reason .ensures) (select-small (readingOf (s .start)) a) (c .before .if1 .taken) (c .end .ensures)
 
 returns-2 : tie.Need-returns-2
-unfolding turn selected keeping early situationWith commandOf situationOf awaiting cursorAsking
+unfolding turn selected keeping early situationWith commandOf situationOf questionOf cursorAsking
 returns-2 c =
     let args = c .before .before .before .before .before .before .before .before .before .before .before .before .before .args in
     let s = args .s in

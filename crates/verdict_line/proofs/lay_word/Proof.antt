@@ -4,7 +4,7 @@ use mathlib.Core.Path.{refl}
 use native.Mathlib.Omega.{arith}
 use borrow.Author.Needs.{needs}
 use Rattle.verdict_line.specs.Line.{wordOf}
-use Rattle.verdicts.specs.declared.Verdict.the-variants.{Pass, Fail, Inconclusive, Unreadable}
+use Rattle.verdict.specs.declared.Verdict.the-variants.{Pass, Fail, Inconclusive, Unreadable}
 use Rattle.verdict_line.proofs.Printing.{word-laid}
 use Rattle.verdict_line.proofs.lay_word.Statement.{statement}
 use Rattle.verdict_line.proofs.lay_word.Tie as tie

@@ -5,7 +5,7 @@ use mathlib.Core.List.{List}
 use Prim.Native.Nat.{ℕ}
 use borrow.Author.Needs.{needs}
 use Rattle.terminal.specs.Reading.{readingOf}
-use Rattle.decide.specs.declared.reply.Reply.{Reply}
+use Rattle.decide.specs.declared.reply.HostReply.{HostReply}
 use Rattle.decide.specs.declared.requests.Codes.{Codes}
 use Rattle.decide.specs.Codes.{codesOf}
 use Rattle.decide.specs.Requests.{whenUnable, secondRequest}
@@ -13,8 +13,8 @@ use Rattle.decide.proofs.requests.second_request.Statement.{statement}
 use Rattle.decide.proofs.requests.second_request.Tie as tie
 
 -- the definition at the reply that was told
-at : (s : List ℕ) (issuer : Codes) (tvr : List ℕ) {r told : Reply} → r ≡ told → secondRequest told (readingOf s) (codesOf issuer) tvr ≡ secondRequest r (readingOf s) (codesOf issuer) tvr
-at s issuer tvr e = sym (ap (λ (r : Reply). secondRequest r (readingOf s) (codesOf issuer) tvr) e)
+at : (s : List ℕ) (issuer : Codes) (tvr : List ℕ) {r told : HostReply} → r ≡ told → secondRequest told (readingOf s) (codesOf issuer) tvr ≡ secondRequest r (readingOf s) (codesOf issuer) tvr
+at s issuer tvr e = sym (ap (λ (r : HostReply). secondRequest r (readingOf s) (codesOf issuer) tvr) e)
 
 returns : tie.Need-returns
 unfolding secondRequest

@@ -1,4 +1,4 @@
--- `follow::stage_of` meets its contract: each arm is the definition's at what is due.
+-- `follow::stage_of` meets its contract: each arm is the definition's at that reply.
 -- Assumes nothing.
 use mathlib.Core.Path.{_≡_, refl, sym, ap, _∙_}
 use borrow.Author.Needs.{needs}
@@ -8,7 +8,7 @@ use Rattle.following.proofs.follow.stage_of.Tie as tie
 
 returns : tie.Need-returns
 unfolding stageOf
-returns c = sym (ap stageOf (c .before .due .given .1))
+returns c = sym (ap stageOf (c .before .reply .given .1))
 
 returns-2 : tie.Need-returns-2
 unfolding stageOf
@@ -22,6 +22,10 @@ returns-4 : tie.Need-returns-4
 unfolding stageOf
 returns-4 c = sym (ap stageOf (c .enum-told3 .given .1))
 
+returns-5 : tie.Need-returns-5
+unfolding stageOf
+returns-5 c = sym (ap stageOf (c .enum-told4 .given .1))
+
 pub stage-of-spec : {M : Type 1} → statement M
 stage-of-spec =
     tie.close
@@ -30,7 +34,9 @@ stage-of-spec =
     (λ c. search needs)
     (λ c. search needs)
     (λ c. search needs)
+    (λ c. search needs)
     returns
     returns-2
     returns-3
-    returns-4)
+    returns-4
+    returns-5)

@@ -4,13 +4,14 @@ use mathlib.Core.Path.{_≡_, refl, sym, ap, _∙_}
 use borrow.Author.Needs.{needs}
 use Rattle.lists.specs.Writing.{zeros}
 use Rattle.state.specs.Keeping.{stateAt, begun}
-use Rattle.state.specs.declared.Phase.the-variants.{Select}
+use Rattle.session_phase.specs.declared.Question.the-variants.{Select}
+use Rattle.session_phase.specs.declared.Waiting.the-variants.{ForCard}
 use Rattle.state.proofs.change.begun.Statement.{statement}
 use Rattle.state.proofs.change.begun.Tie as tie
 
 returns : tie.Need-returns
 unfolding begun zeros
-returns c = c .state-at .ensures ∙ ap (stateAt Select) (c .before .before .lay .ensures)
+returns c = c .state-at .ensures ∙ ap (stateAt (ForCard Select)) (c .before .before .lay .ensures)
 
 pub begun-spec : {M : Type 1} → statement M
 begun-spec = tie.close (tie.spec (λ c. search needs) (λ c κs. search needs) (λ c κs. search needs) returns)

@@ -5,7 +5,8 @@ use mathlib.Core.List.{List, [], _∷_}
 use Prim.Native.Nat.{ℕ}
 use lib.ListN.{length, getD}
 use borrow.Author.Needs.{needs}
-use Rattle.state.specs.Results.{outcomeOf, reasonOf, decisionIn}
+use Rattle.session_phase.specs.Waiting.{outcomeOf, reasonOf}
+use Rattle.state.specs.Results.{decisionIn}
 use Rattle.state.proofs.Nine.{nine-bytes}
 use Rattle.state.proofs.result.decision.Statement.{statement}
 use Rattle.state.proofs.result.decision.Tie as tie
@@ -27,7 +28,7 @@ returns c =
     ∷ getD (u .ensures .0 i) 0 0
     ∷ getD (u .ensures .0 i) 1 0
     ∷ [])
-    ∙ ap (λ (l : List ℕ). outcomeOf (s .phase) ∷ reasonOf (s .phase) ∷ l) (nine-bytes (s .tvr) (s .tsi) (t .ensures .1) (u .ensures .1))
+    ∙ ap (λ (l : List ℕ). outcomeOf (s .waiting) ∷ reasonOf (s .waiting) ∷ l) (nine-bytes (s .tvr) (s .tsi) (t .ensures .1) (u .ensures .1))
 
 pub decision-spec : {M : Type 1} → statement M
 decision-spec =

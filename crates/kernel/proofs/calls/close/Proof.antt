@@ -1,0 +1,14 @@
+-- `calls::close` meets its contract: only what is waited for is another.
+-- Assumes nothing.
+use mathlib.Core.Path.{_≡_, refl}
+use borrow.Author.Needs.{needs}
+use Rattle.kernel.specs.Calls.{closedState}
+use Rattle.kernel.proofs.calls.close.Statement.{statement}
+use Rattle.kernel.proofs.calls.close.Tie as tie
+
+returns : tie.Need-returns
+unfolding closedState
+returns c = (c .change .ensures, refl)
+
+pub close-spec : {M : Type 1} → statement M
+close-spec = tie.close (tie.spec (λ c κs. search needs) returns)

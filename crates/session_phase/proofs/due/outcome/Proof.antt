@@ -1,0 +1,26 @@
+-- `outcome` meets its contract: each arm is the definition's there.
+-- Assumes nothing.
+use mathlib.Core.Path.{_≡_, sym, ap}
+use borrow.Author.Needs.{needs}
+use Rattle.session_phase.specs.Waiting.{outcomeOf}
+use Rattle.session_phase.proofs.due.outcome.Statement.{statement}
+use Rattle.session_phase.proofs.due.outcome.Tie as tie
+
+returns : tie.Need-returns
+unfolding outcomeOf
+returns c = sym (ap outcomeOf (c .enum-told .given .1))
+
+returns-2 : tie.Need-returns-2
+unfolding outcomeOf
+returns-2 c = sym (ap outcomeOf (c .enum-told2 .given .1))
+
+returns-3 : tie.Need-returns-3
+unfolding outcomeOf
+returns-3 c = sym (ap outcomeOf (c .before .waiting .given .1))
+
+returns-4 : tie.Need-returns-4
+unfolding outcomeOf
+returns-4 c = sym (ap outcomeOf (c .enum-told3 .given .1))
+
+pub outcome-spec : {M : Type 1} → statement M
+outcome-spec = tie.close (tie.spec (λ c. search needs) (λ c. search needs) (λ c. search needs) (λ c. search needs) returns returns-2 returns-3 returns-4)

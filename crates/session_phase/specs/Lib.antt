@@ -1,0 +1,2 @@
+-- What a session waits for.
+pub mod Waiting

@@ -1,0 +1,53 @@
+-- What a session waits for: the kind of the entry that is due. Refusals, results and logs ask nothing else of it.
+-- 01, "What the kernel plays and who decides" and "The tape".
+-- Assumes nothing.
+use mathlib.Core.Bool.{Bool, true, false}
+use Prim.Native.Nat.{ℕ}
+use lib.Dec.{eqb}
+use Rattle.tape.specs.Entries.{start, answer, host}
+use Rattle.session_phase.specs.declared.Speaker.{Speaker}
+use Rattle.session_phase.specs.declared.Speaker.the-variants.{Terminal, Issuer}
+use Rattle.session_phase.specs.declared.Waiting.{Waiting}
+use Rattle.session_phase.specs.declared.Waiting.the-variants.{ForCard, ForWord, Decided, Closed}
+
+-- the kind of the entry that has somebody's word
+unfoldable pub kindOf : Speaker → ℕ
+kindOf Terminal = start
+kindOf Issuer = host
+
+-- the kind of the entry that is due; 0, the kind of no entry, after a decision or a closing silence
+unfoldable pub awaited : Waiting → ℕ
+awaited (ForCard question) = answer
+awaited (ForWord speaker) = kindOf speaker
+awaited (Decided outcome reason) = 0
+awaited Closed = 0
+
+-- nothing is due any more
+unfoldable pub isOver : Waiting → Bool
+isOver waiting = eqb (awaited waiting) 0
+
+unfoldable pub isDecided : Waiting → Bool
+isDecided (ForCard question) = false
+isDecided (ForWord speaker) = false
+isDecided (Decided outcome reason) = true
+isDecided Closed = false
+
+unfoldable pub isClosed : Waiting → Bool
+isClosed (ForCard question) = false
+isClosed (ForWord speaker) = false
+isClosed (Decided outcome reason) = false
+isClosed Closed = true
+
+-- 1 approved, 2 declined, 3 terminated; 0 while there is no decision
+unfoldable pub outcomeOf : Waiting → ℕ
+outcomeOf (ForCard question) = 0
+outcomeOf (ForWord speaker) = 0
+outcomeOf (Decided outcome reason) = outcome
+outcomeOf Closed = 0
+
+-- why the session was terminated; 0 where it was not
+unfoldable pub reasonOf : Waiting → ℕ
+reasonOf (ForCard question) = 0
+reasonOf (ForWord speaker) = 0
+reasonOf (Decided outcome reason) = reason
+reasonOf Closed = 0

@@ -1,0 +1,54 @@
+// What a session waits for.
+use crate::Speaker;
+use crate::Waiting;
+use tape::ANSWER;
+use tape::HOST;
+use tape::START;
+ghost use mathlib.Core.Path.{_≡_};
+ghost use Rattle.session_phase.specs.Waiting.{kindOf, awaited, outcomeOf, reasonOf};
+
+// The kind of the entry that has somebody's word.
+pub fn kind_of(speaker: Speaker) -> u8
+    ensures { λ r. ⌜ r ≡ kindOf speaker ⌝ }
+{
+    match speaker {
+        Speaker::Terminal => START,
+        Speaker::Issuer => HOST,
+    }
+}
+
+// The kind of the entry that a session waits for; 0 where it is over.
+pub fn awaits(waiting: Waiting) -> u8
+    ensures { λ r. ⌜ r ≡ awaited waiting ⌝ }
+{
+    match waiting {
+        Waiting::ForCard(_) => ANSWER,
+        Waiting::ForWord(speaker) => kind_of(speaker),
+        Waiting::Decided(_, _) => 0,
+        Waiting::Closed => 0,
+    }
+}
+
+// 1 approved, 2 declined, 3 terminated; 0 while there is no decision.
+pub fn outcome(waiting: Waiting) -> u8
+    ensures { λ r. ⌜ r ≡ outcomeOf waiting ⌝ }
+{
+    match waiting {
+        Waiting::ForCard(_) => 0,
+        Waiting::ForWord(_) => 0,
+        Waiting::Decided(outcome, _) => outcome,
+        Waiting::Closed => 0,
+    }
+}
+
+// Why the session was terminated; 0 where it was not.
+pub fn reason(waiting: Waiting) -> u8
+    ensures { λ r. ⌜ r ≡ reasonOf waiting ⌝ }
+{
+    match waiting {
+        Waiting::ForCard(_) => 0,
+        Waiting::ForWord(_) => 0,
+        Waiting::Decided(_, reason) => reason,
+        Waiting::Closed => 0,
+    }
+}

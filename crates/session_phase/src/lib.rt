@@ -1,0 +1,43 @@
+// What a session waits for, and what a call is answered with.
+mod due;
+
+pub use due::awaits;
+pub use due::kind_of;
+pub use due::outcome;
+pub use due::reason;
+
+use decide::requests::Cryptogram;
+
+// What the card was asked.
+pub enum Question {
+    Select,
+    Options,
+    Record,
+    First(Cryptogram),
+    Second(Cryptogram),
+}
+
+// Who else can have the next word: the terminal with START, the issuer with its reply.
+pub enum Speaker {
+    Terminal,
+    Issuer,
+}
+
+// An answer of the card's, or somebody else's word; or the session is over, with its outcome and its reason or 0, or closed by
+// silence.
+pub enum Waiting {
+    ForCard(Question),
+    ForWord(Speaker),
+    Decided(u8, u8),
+    Closed,
+}
+
+// A command of so many bytes stands in the buffer and its answer is due; an entry of this kind is due; the session is decided; it
+// was closed by silence; or the call was turned away with a number of 01's table.
+pub enum Reply {
+    Command(usize),
+    Due(u8),
+    Decided,
+    Closed,
+    Refused(usize),
+}
