@@ -9,7 +9,7 @@ use Rattle.kernel.specs.declared.Session.{Session}
 use Rattle.tape_writer.specs.declared.Writer.{Writer}
 use Rattle.tape.specs.Entries.{Entry, entry, command, decision}
 use Rattle.recorder.specs.Recording.{recorded, kept, keptAll}
-use Rattle.recorder.proofs.Keeping.{only}
+use Rattle.recorder.proofs.Keeping.{only, nothing-kept}
 use Rattle.recorder.proofs.record.Statement.{statement}
 use Rattle.recorder.proofs.record.Tie as tie
 
@@ -51,10 +51,11 @@ returns-4 c =
     ∙ by (a .writer) _ (a .command .now) (a .session) (a .tape .now) (a .reply) _ (c .before .before .before .before .enum-told3 .given .1)
 
 returns-5 : tie.Need-returns-5
-unfolding recorded keptAll
+unfolding recorded
 returns-5 c =
     let a = c .before .before .before .before .before .args in
-    by (a .writer) (entry (a .kind) (a .payload .now)) (a .command .now) (a .session) (a .tape .now) (a .reply) _ (c .enum-told4 .given .1)
+    nothing-kept (a .writer) (a .tape .now)
+    ∙ by (a .writer) (entry (a .kind) (a .payload .now)) (a .command .now) (a .session) (a .tape .now) (a .reply) _ (c .enum-told4 .given .1)
 
 pub record-spec : {M : Type 1} → statement M
 record-spec =
