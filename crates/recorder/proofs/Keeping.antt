@@ -33,7 +33,8 @@ module _ (w : Writer) (es : List Entry) (t : List ℕ) where
   all-kept h = pick-yes _ _ _ (eq-eqb _ _ h)
 
   -- a call that is turned away changes nothing
-  pub none-kept : (callRefusal (w .used) es t ≡ 0 → ⊥) → keptAll w es t ≡ kept (record { writer = w; refusal = callRefusal (w .used) es t }) t
+  pub none-kept : (callRefusal (w .used) es t ≡ 0 → ⊥)
+      → keptAll w es t ≡ kept (record { writer = w; refusal = callRefusal (w .used) es t }) t
   unfolding keptAll
   none-kept h = pick-no _ _ _ (ne-eqb _ _ h)
 
@@ -81,7 +82,8 @@ module _ (w : Writer) (e : Entry) (t : List ℕ) (ok : refusalOf (w .used) e t �
 -- ---- as the writer's own appends do it
 
 module _ (w : Writer) (e : Entry) (t : List ℕ) where
-  pub only : (r : Appended) (t′ : List ℕ) → r ≡ appendedOf w (refusalOf (w .used) e t) → t′ ≡ tapeAfter w e t → kept r t′ ≡ keptAll w (e ∷ []) t
+  pub only : (r : Appended) (t′ : List ℕ) → r ≡ appendedOf w (refusalOf (w .used) e t) → t′ ≡ tapeAfter w e t
+      → kept r t′ ≡ keptAll w (e ∷ []) t
   only r t′ answered left =
       let same = one-refusal (w .used) e t in
       ap₂ kept answered left
@@ -111,7 +113,8 @@ as-appended [] w t f = nothing-kept w t
 as-appended (e ∷ es) w t f =
     let ok = fits-one (w .used) e t es f in
     let rest = rest-fits w e t es f in
-    ap (λ (v : Writer). kept (record { writer = appendAll v es (tapeAfter w e t) .writer; refusal = 0 }) (appendAll v es (tapeAfter w e t) .tape))
+    let t′ = tapeAfter w e t in
+    ap (λ (v : Writer). kept (record { writer = appendAll v es t′ .writer; refusal = 0 }) (appendAll v es t′ .tape))
     (writer-after w e t ok)
     ∙ (as-appended es (further w 1) (tapeAfter w e t) rest
     ∙ (all-kept (further w 1) es (tapeAfter w e t) (fits-call (w .used + 1) es (tapeAfter w e t) rest)
@@ -120,7 +123,8 @@ as-appended (e ∷ es) w t f =
 -- ---- two entries, by what the writer answered and left for each
 
 module _ (w : Writer) (e f : Entry) (t : List ℕ) where
-  pub both-refused : (n : ℕ) → n ≡ callRefusal (w .used) (e ∷ f ∷ []) t → (n ≡ 0 → ⊥) → kept (record { writer = w; refusal = n }) t ≡ keptAll w (e ∷ f ∷ []) t
+  pub both-refused : (n : ℕ) → n ≡ callRefusal (w .used) (e ∷ f ∷ []) t → (n ≡ 0 → ⊥)
+      → kept (record { writer = w; refusal = n }) t ≡ keptAll w (e ∷ f ∷ []) t
   both-refused n told bad =
       ap (λ (k : ℕ). kept (record { writer = w; refusal = k }) t) told ∙ sym (none-kept w (e ∷ f ∷ []) t (λ z. bad (told ∙ z)))
 

@@ -96,5 +96,9 @@ fn why_refused(
 fn is_wrong(kind: u8, payload: &[u8]) -> bool
     ensures { λ r. ⌜ r ≡ wrong (entry kind (now (payload .entry))) ⌝ }
 {
-    if no_kind(kind) { true } else { PAYLOAD < payload.len() }
+    if no_kind(kind) {
+        true
+    } else {
+        PAYLOAD < payload.len()
+    }
 }

@@ -14,14 +14,14 @@ returns c =
 
 returns-2 : tie.Need-returns-2
 returns-2 c =
-    let a = c .before .before .before .before .before .before .before .before .before .before .before .before .before .before .before .args in
-    let first = c .before .before .before .before .before .before .before .append in
     let second = c .before .before .append2 in
-    let asked = c .before .before .before .before .before .before .before .before .before .before .why-refused in
-    let not-refused = c .before .before .before .before .before .before .before .before .before .if1 .left in
+    let first = c .before .before .before .before .before .before .before in
+    let asked = first .before .before .before .why-refused in
+    let a = first .before .before .before .before .before .before .before .before .args in
     both-taken (a .writer) (entry (a .kind) (a .payload .now)) (entry (a .next-kind) (a .next-payload .now)) (a .tape .now)
-    (asked .result) (asked .ensures) not-refused
-    (first .result) (second .result) _ _ (first .ensures .0) (first .ensures .1) (second .ensures .0) (second .ensures .1)
+    (asked .result) (asked .ensures) (first .before .before .if1 .left)
+    (first .append .result) (second .result) _ _
+    (first .append .ensures .0) (first .append .ensures .1) (second .ensures .0) (second .ensures .1)
 
 pub both-spec : {M : Type 1} → statement M
 both-spec =
