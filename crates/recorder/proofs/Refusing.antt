@@ -16,7 +16,10 @@ use Rattle.tape.proofs.Extra.{first-hit, first-skip, first-end, first-none}
 use Rattle.tape.proofs.Roundtrip.{first-storable, rest-storable}
 use Rattle.tape_writer.specs.Appending.{refusalOf}
 use Rattle.tape_writer.proofs.Refusals.{refused-kind, refused-payload, refused-blocks, refused-room, not-refused}
-use Rattle.recorder.specs.Recording.{wrong, anyWrong, hasRoom, callRefusal}
+use Rattle.kernel.specs.declared.Session.{Session}
+use Rattle.kernel.specs.declared.Reply.{Reply}
+use Rattle.kernel.specs.declared.Reply.the-variants.{Command, Host, Decided, Closed, Refused}
+use Rattle.recorder.specs.Recording.{recorded, wrong, anyWrong, hasRoom, blocksOfCall, callRefusal}
 
 -- ---- room
 
@@ -109,16 +112,42 @@ module _ (used : ℕ) (e : Entry) (es : List Entry) (t : List ℕ) where
       record { right = first .0; blocks = room-blocks _ used t room; bytes = room-bytes _ used t room }
 
   -- where there is room for all, the refusal is not 8
-  pub never-full : hasRoom (length (e ∷ es)) used t ≡ true → callRefusal used (e ∷ es) t ≡ 8 → ⊥
+  never-full : hasRoom (length (e ∷ es)) used t ≡ true → callRefusal used (e ∷ es) t ≡ 8 → ⊥
   never-full room h =
       either (anyWrong (e ∷ es))
       (λ yes. let z : _≡_ {A = ℕ} 7 8 = sym (call-wrong yes) ∙ h in omega arith)
       (λ no. let z : _≡_ {A = ℕ} 0 8 = sym (call-taken no room) ∙ h in omega arith)
 
+any-room : (used : ℕ) (es : List Entry) (t : List ℕ) → hasRoom (length es) used t ≡ true → callRefusal used es t ≡ 8 → ⊥
+unfolding callRefusal
+any-room used [] t room h = omega arith
+any-room used (e ∷ es) t room h = never-full used e es t room h
+
 pub fits-call : (used : ℕ) (es : List Entry) (t : List ℕ) → Fitting used es t → callRefusal used es t ≡ 0
 unfolding callRefusal
 fits-call used [] t f = refl
 fits-call used (e ∷ es) t f = call-taken used e es t (f .right) (room-there _ used t (f .blocks) (f .bytes))
+
+-- ---- what a call can lead to
+
+module _ (event : Entry) (buf : List ℕ) (s : Session) where
+  -- no reply leads to more blocks than a caller asks room for,
+  pub few-entries : (reply : Reply) → length (recorded event reply buf s) ≤ blocksOfCall
+  unfolding recorded
+  few-entries (Command n) = omega arith
+  few-entries Host = omega arith
+  few-entries Decided = omega arith
+  few-entries Closed = omega arith
+  few-entries (Refused n) = omega arith
+
+  -- so where there is room for as many, no call is turned away with 8
+  pub call-room : (used : ℕ) (t : List ℕ) (reply : Reply) → hasRoom blocksOfCall used t ≡ true
+      → callRefusal used (recorded event reply buf s) t ≡ 8 → ⊥
+  call-room used t reply room h =
+      let blocks = room-blocks blocksOfCall used t room in
+      let bytes = room-bytes blocksOfCall used t room in
+      let few = few-entries reply in
+      any-room used (recorded event reply buf s) t (room-there _ used t (omega arith) (omega arith)) h
 
 -- ---- one entry
 
