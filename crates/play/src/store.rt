@@ -9,7 +9,8 @@ pub const NONE: i32 = -1;
 // Stores the blocks that a call has added to those before it, and answers whether all that was due is stored.
 pub fn store(file: i32, tape: &[u8], before: usize, kept: Appended) -> bool {
     if kept.refusal != 0 {
-        return full();
+        io::write_all(STDERR_FILENO, b"tape: the blocks of a call were refused\n");
+        return false;
     }
     if file < 0 {
         return true;
