@@ -29,17 +29,14 @@ unfoldable pub allDigits : List ℕ → Bool
 allDigits [] = true
 allDigits (b ∷ s) = pick (ltb (digit b) 16) (allDigits s) false
 
--- an empty payload: none is owed by SILENCE, and an answer may be empty
-unfoldable pub faultOfNone : ℕ → ℕ
-faultOfNone kind = pick (eqb kind start) 3 (pick (eqb kind host) 3 0)
-
--- what is wrong: 1 unknown word, 2 text after SILENCE, 3 missing payload, 4 not hexadecimal, 5 odd number of digits; 0 nothing
+-- what is wrong: 1 unknown word, 2 text after SILENCE, 3 not hexadecimal, 4 odd number of digits; 0 nothing. No digits are an empty
+-- payload, of which the kernel says what is due
 unfoldable pub faultOf : ℕ → List ℕ → ℕ
 faultOf kind rest =
     pick (eqb kind 0) 1
-    (pick (eqb (length rest) 0) (faultOfNone kind)
+    (pick (eqb (length rest) 0) 0
     (pick (eqb kind silence) 2
-    (pick (allDigits rest) (pick (eqb (length rest % 2) 0) 0 5) 4)))
+    (pick (allDigits rest) (pick (eqb (length rest % 2) 0) 0 4) 3)))
 
 -- what is no session number, since those have four bytes
 abbrev pub noNumber : ℕ

@@ -1,11 +1,12 @@
 // One line: a call of the kernel, its entries on the tape, and its reply printed.
-use crate::line::MISSING;
 use crate::line::NO_DIGITS;
 use crate::line::ODD;
 use crate::line::TEXT_AFTER;
 use crate::line::UNKNOWN;
 use crate::line::fault_of;
 use crate::line::kind_of;
+use crate::say;
+use crate::store::full;
 use crate::store::store;
 use hexadecimal::unhex;
 use input::Line;
@@ -15,15 +16,17 @@ use kernel::Session;
 use kernel::Step;
 use kernel::result::decision;
 use lists::part;
+use recorder::has_room;
 use recorder::record;
+use refusals::due::is_over;
 use tape::ANSWER;
 use tape::HOST;
 use tape::START;
 use tape_writer::Writer;
 use text::after_word;
 
-// The session and the writer after a line, and whether there is a next one: not at the end of the input, and not where the
-// tape's file did not take what was due.
+// The session and the writer after a line, and whether there is a next one: not at the end of the input, and not where a line or
+// a block was not written.
 pub struct Turn {
     pub session: Session,
     pub writer: Writer,
@@ -34,10 +37,7 @@ pub struct Turn {
 pub fn next(s: Session, writer: Writer, file: i32, line: &mut [u8], tape: &mut [u8]) -> Turn {
     match read_line(line) {
         Line::Whole(n) => answer(s, writer, file, part(line, 0, n), tape),
-        Line::Long => {
-            printing::text(b"ERROR line too long\n");
-            unchanged(s, writer, true)
-        }
+        Line::Long => unchanged(s, writer, say::text(b"ERROR line too long\n")),
         Line::End => unchanged(s, writer, false),
     }
 }
@@ -57,25 +57,36 @@ fn answer(s: Session, writer: Writer, file: i32, line: &[u8], tape: &mut [u8]) -
     if fault == 0 {
         return call(s, writer, file, kind, rest, tape);
     }
-    print_fault(fault);
-    unchanged(s, writer, true)
+    unchanged(s, writer, print_fault(fault))
 }
 
-fn print_fault(fault: u8) {
+fn print_fault(fault: u8) -> bool {
     match fault {
-        UNKNOWN => printing::text(b"ERROR unknown word\n"),
-        TEXT_AFTER => printing::text(b"ERROR text after SILENCE\n"),
-        MISSING => printing::text(b"ERROR missing payload\n"),
-        NO_DIGITS => printing::text(b"ERROR not hexadecimal\n"),
-        ODD => printing::text(b"ERROR odd number of digits\n"),
-        _ => printing::text(b"ERROR\n"),
+        UNKNOWN => say::text(b"ERROR unknown word\n"),
+        TEXT_AFTER => say::text(b"ERROR text after SILENCE\n"),
+        NO_DIGITS => say::text(b"ERROR not hexadecimal\n"),
+        ODD => say::text(b"ERROR odd number of digits\n"),
+        _ => say::text(b"ERROR\n"),
     }
 }
 
 fn call(s: Session, writer: Writer, file: i32, kind: u8, digits: &[u8], tape: &mut [u8]) -> Turn {
     let mut payload = [0u8; 4096];
     let n = unhex(digits, &mut payload);
-    play(s, writer, file, kind, &payload[0..n], tape)
+    if is_room(s, writer, tape) {
+        return play(s, writer, file, kind, &payload[0..n], tape);
+    }
+    unchanged(s, writer, full())
+}
+
+// Room for all that a call can lead to, so that no session gets ahead of its tape. One that is over leads to no block.
+fn is_room(s: Session, writer: Writer, tape: &[u8]) -> bool {
+    if has_room(writer, tape) {
+        return true;
+    }
+    let state = s.state;
+    let phase = state.phase;
+    is_over(phase)
 }
 
 // The reply is printed once its entries are stored.
@@ -86,15 +97,15 @@ fn play(s: Session, writer: Writer, file: i32, kind: u8, payload: &[u8], tape: &
     let reply = step.reply;
     let kept = record(writer, kind, payload, reply, &command, session, tape);
     let next = kept.writer;
-    let stored = store(file, tape, writer.used, kept);
-    if stored {
-        print_reply(session, reply, &command);
+    if store(file, tape, writer.used, kept) {
+        let goes_on = print_reply(session, reply, &command);
+        return Turn {
+            session,
+            writer: next,
+            goes_on,
+        };
     }
-    Turn {
-        session,
-        writer: next,
-        goes_on: stored,
-    }
+    unchanged(session, next, false)
 }
 
 fn stepped(s: Session, kind: u8, payload: &[u8], command: &mut [u8]) -> Step {
@@ -106,22 +117,12 @@ fn stepped(s: Session, kind: u8, payload: &[u8], command: &mut [u8]) -> Step {
     }
 }
 
-fn print_reply(s: Session, reply: Reply, command: &[u8]) {
+fn print_reply(s: Session, reply: Reply, command: &[u8]) -> bool {
     match reply {
-        Reply::Command(n) => {
-            printing::text(b"COMMAND ");
-            printing::bytes(part(command, 0, n));
-        }
-        Reply::Host => printing::text(b"HOST"),
-        Reply::Decided => {
-            printing::text(b"DECISION ");
-            printing::bytes(&decision(s));
-        }
-        Reply::Closed => printing::text(b"CLOSED"),
-        Reply::Refused(n) => {
-            printing::text(b"REFUSED ");
-            printing::number(n);
-        }
+        Reply::Command(n) => say::with_bytes(b"COMMAND ", part(command, 0, n)),
+        Reply::Host => say::text(b"HOST\n"),
+        Reply::Decided => say::with_bytes(b"DECISION ", &decision(s)),
+        Reply::Closed => say::text(b"CLOSED\n"),
+        Reply::Refused(n) => say::with_number(b"REFUSED ", n),
     }
-    printing::text(b"\n");
 }

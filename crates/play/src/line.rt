@@ -7,18 +7,16 @@ use tape::SILENCE;
 use tape::START;
 ghost use mathlib.Core.Path.{_≡_};
 ghost use Prim.Native.Nat.{_≤_};
-ghost use Rattle.play.specs.Lines.{named, kindOf, allDigits, faultOf, faultOfNone, sessionNumber};
+ghost use Rattle.play.specs.Lines.{named, kindOf, allDigits, faultOf, sessionNumber};
 
 // What can be wrong.
 pub const UNKNOWN: u8 = 1;
 
 pub const TEXT_AFTER: u8 = 2;
 
-pub const MISSING: u8 = 3;
+pub const NO_DIGITS: u8 = 3;
 
-pub const NO_DIGITS: u8 = 4;
-
-pub const ODD: u8 = 5;
+pub const ODD: u8 = 4;
 
 const SPACE: usize = 0x20;
 
@@ -70,7 +68,7 @@ pub fn fault_of(kind: u8, rest: &[u8]) -> u8
         return UNKNOWN;
     }
     if rest.len() == 0 {
-        return fault_of_none(kind);
+        return 0;
     }
     if kind == SILENCE {
         return TEXT_AFTER;
@@ -79,15 +77,6 @@ pub fn fault_of(kind: u8, rest: &[u8]) -> u8
         return if rest.len() % 2 == 0 { 0 } else { ODD };
     }
     NO_DIGITS
-}
-
-fn fault_of_none(kind: u8) -> u8
-    ensures { λ r. ⌜ r ≡ faultOfNone kind ⌝ }
-{
-    if kind == START {
-        return MISSING;
-    }
-    if kind == HOST { MISSING } else { 0 }
 }
 
 fn all_digits(s: &[u8]) -> bool

@@ -1,9 +1,11 @@
 // The kernel over standard input and output, a line each way. In, with bytes in hexadecimal of either case:
 //
 //     START bytes      terminal data
-//     ANSWER bytes     the card's answer, status bytes included; it may be empty
+//     ANSWER bytes     the card's answer, status bytes included
 //     SILENCE          the card says nothing
 //     HOST bytes       the issuer's reply
+//
+// No bytes are an empty payload.
 //
 // Out, at once for each line:
 //
@@ -17,7 +19,9 @@
 // The first argument names a file for the tape, the second is the session number (0 where there is none).
 mod call;
 mod line;
+mod say;
 mod store;
+mod streams;
 
 use call::next;
 use kernel::Session;
@@ -31,6 +35,9 @@ ghost use Prim.Native.Nat.{_≤_};
 const LONGEST: usize = 8199;
 
 fn main() {
+    if !streams::are_open() {
+        return;
+    }
     if os::arg_count() < 2 {
         play(store::NONE, 0);
         return;

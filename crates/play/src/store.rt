@@ -6,27 +6,28 @@ use tape_writer::Appended;
 // No file.
 pub const NONE: i32 = -1;
 
-// Stores the blocks that an append has added to those before it, and answers whether all that was due is stored.
+// Stores the blocks that a call has added to those before it, and answers whether all that was due is stored.
 pub fn store(file: i32, tape: &[u8], before: usize, kept: Appended) -> bool {
+    if kept.refusal != 0 {
+        io::write_all(STDERR_FILENO, b"tape: the blocks of a call were refused\n");
+        return false;
+    }
     if file < 0 {
         return true;
     }
     let writer = kept.writer;
     if store_blocks(file, tape, before, writer.used) {
-        is_all_kept(kept.refusal)
+        true
     } else {
         os::fail(b"tape");
         false
     }
 }
 
-fn is_all_kept(refusal: u8) -> bool {
-    if refusal == 0 {
-        true
-    } else {
-        io::write_all(STDERR_FILENO, b"tape: full\n");
-        false
-    }
+// Says that the tape has no room.
+pub fn full() -> bool {
+    io::write_all(STDERR_FILENO, b"tape: full\n");
+    false
 }
 
 // The blocks from one number up to another, in order, as far as the file takes them.

@@ -1,1 +1,2 @@
+pub mod Taping
 pub mod Theorem

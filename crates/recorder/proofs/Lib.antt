@@ -1,2 +1,2 @@
+pub mod Refusing
 pub mod Keeping
-pub mod Stored

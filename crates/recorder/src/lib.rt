@@ -3,17 +3,24 @@ use kernel::Reply;
 use kernel::Session;
 use kernel::result::decision;
 use lists::part;
+use tape::BLOCK;
 use tape::COMMAND;
 use tape::DECISION;
+use tape::PAYLOAD;
+use tape::no_kind;
 use tape_writer::Appended;
+use tape_writer::BLOCKS;
 use tape_writer::Writer;
 ghost use mathlib.Core.Path.{_≡_};
 ghost use mathlib.Core.List.{[], _∷_};
 ghost use Rattle.tape.specs.Entries.{entry};
-ghost use Rattle.recorder.specs.Recording.{kept, keptAll, recorded};
+ghost use Rattle.recorder.specs.Recording.{kept, keptAll, recorded, wrong, hasRoom, blocksOfCall, callRefusal};
 
-// What the call with this event, answered with this reply, adds to the tape. The command stands at the start of its buffer, the
-// decision in the session after the call. The answer is the writer afterwards, and 0 or the first refusal.
+// The most blocks that one call can lead to: its event, and the command or the decision after it.
+pub const BLOCKS_OF_CALL: usize = 2;
+
+// What the call with this event, answered with this reply, adds to the tape: all its blocks, or none. The command stands at the
+// start of its buffer, the decision in the session after the call. The answer is the writer afterwards, and 0 or the refusal.
 pub fn record(
     writer: Writer,
     kind: u8,
@@ -34,7 +41,18 @@ pub fn record(
     }
 }
 
-// Two entries, the second only where the first was taken.
+// Whether a tape has room for all that one call can lead to.
+pub fn has_room(writer: Writer, tape: &[u8]) -> bool
+    ensures { λ r. ⌜ r ≡ hasRoom blocksOfCall (writer .used) (now (tape .entry)) ⌝ }
+{
+    let used = writer.used;
+    if BLOCKS - BLOCKS_OF_CALL < used {
+        return false;
+    }
+    (used + BLOCKS_OF_CALL) * BLOCK <= tape.len()
+}
+
+// Two entries, or neither.
 fn both(
     writer: Writer,
     kind: u8,
@@ -45,11 +63,42 @@ fn both(
 ) -> Appended
     ensures { λ r. ⌜ kept r (now (tape .exit)) ≡ keptAll writer (entry kind (now (payload .entry)) ∷ entry «next_kind» (now («next_payload» .entry)) ∷ []) (now (tape .entry)) ⌝ }
 {
-    let first = writer.append(kind, payload, tape);
-    let refusal = first.refusal;
+    let refusal = why_refused(writer, kind, payload, next_kind, next_payload, tape);
     if refusal != 0 {
-        return first;
+        return Appended { writer, refusal };
     }
+    let first = writer.append(kind, payload, tape);
     let next = first.writer;
     next.append(next_kind, next_payload, tape)
+}
+
+// 0, or the number of the first refusal that applies to two entries.
+fn why_refused(
+    writer: Writer,
+    kind: u8,
+    payload: &[u8],
+    next_kind: u8,
+    next_payload: &[u8],
+    tape: &[u8],
+) -> u8
+    ensures { λ r. ⌜ r ≡ callRefusal (writer .used) (entry kind (now (payload .entry)) ∷ entry «next_kind» (now («next_payload» .entry)) ∷ []) (now (tape .entry)) ⌝ }
+{
+    if is_wrong(kind, payload) {
+        return 7;
+    }
+    if is_wrong(next_kind, next_payload) {
+        return 7;
+    }
+    if has_room(writer, tape) { 0 } else { 8 }
+}
+
+// No kind, or a payload that is too long.
+fn is_wrong(kind: u8, payload: &[u8]) -> bool
+    ensures { λ r. ⌜ r ≡ wrong (entry kind (now (payload .entry))) ⌝ }
+{
+    if no_kind(kind) {
+        true
+    } else {
+        PAYLOAD < payload.len()
+    }
 }

@@ -1,25 +1,27 @@
--- `both` meets its contract: the second entry is asked of the writer that the first left.
+-- `both` meets its contract: where neither entry is turned away, the second is asked of the writer that the first left.
 -- Assumes nothing.
-use mathlib.Core.Path.{_≡_, refl, sym, ap, _∙_}
-use mathlib.Core.List.{[]}
 use borrow.Author.Needs.{needs}
-use Rattle.recorder.proofs.Keeping.{refused-first, taken-first, only}
+use Rattle.tape.specs.Entries.{entry}
+use Rattle.recorder.proofs.Keeping.{both-refused, both-taken}
 use Rattle.recorder.proofs.both.Statement.{statement}
 use Rattle.recorder.proofs.both.Tie as tie
 
 returns : tie.Need-returns
 returns c =
-    let a = c .before .before .before .before .before .before .before .before .args in
-    let first = c .before .before .before .append in
-    refused-first (a .writer) _ (a .tape .now) (first .result) _ (first .ensures .0) (first .ensures .1) _ (c .if1 .taken)
+    let a = c .before .before .before .before .before .before .args in
+    both-refused (a .writer) (entry (a .kind) (a .payload .now)) (entry (a .next-kind) (a .next-payload .now)) (a .tape .now)
+    (c .before .why-refused .result) (c .before .why-refused .ensures) (c .if1 .taken)
 
 returns-2 : tie.Need-returns-2
 returns-2 c =
-    let a = c .before .before .before .before .before .before .before .before .before .before .before .before .before .args in
-    let first = c .before .before .before .before .before .before .before .before .append in
     let second = c .before .before .append2 in
-    only (first .result .writer) _ _ (second .result) _ (second .ensures .0) (second .ensures .1)
-    ∙ taken-first (a .writer) _ (a .tape .now) (first .result) _ (first .ensures .0) (first .ensures .1) _ (c .before .before .before .before .before .if1 .left)
+    let first = c .before .before .before .before .before .before .before in
+    let asked = first .before .before .before .why-refused in
+    let a = first .before .before .before .before .before .before .before .before .args in
+    both-taken (a .writer) (entry (a .kind) (a .payload .now)) (entry (a .next-kind) (a .next-payload .now)) (a .tape .now)
+    (asked .result) (asked .ensures) (first .before .before .if1 .left)
+    (first .append .result) (second .result) _ _
+    (first .append .ensures .0) (first .append .ensures .1) (second .ensures .0) (second .ensures .1)
 
 pub both-spec : {M : Type 1} → statement M
 both-spec =
@@ -28,6 +30,7 @@ both-spec =
     (λ c κs. search needs)
     (λ c. search needs)
     returns
+    (λ c κs. search needs)
     (λ c κs. search needs)
     (λ c. search needs)
     returns-2)

@@ -9,7 +9,7 @@ use Rattle.kernel.specs.declared.Session.{Session}
 use Rattle.tape_writer.specs.declared.Writer.{Writer}
 use Rattle.tape.specs.Entries.{Entry, entry, command, decision}
 use Rattle.recorder.specs.Recording.{recorded, kept, keptAll}
-use Rattle.recorder.proofs.Keeping.{only}
+use Rattle.recorder.proofs.Keeping.{only, nothing-kept}
 use Rattle.recorder.proofs.record.Statement.{statement}
 use Rattle.recorder.proofs.record.Tie as tie
 
@@ -18,21 +18,29 @@ by : (w : Writer) (e : Entry) (buf : List ℕ) (s : Session) (t : List ℕ) (rep
     → keptAll w (recorded e told buf s) t ≡ keptAll w (recorded e reply buf s) t
 by w e buf s t reply told h = ap (λ (q : Reply). keptAll w (recorded e q buf s) t) (sym h)
 
+-- two entries, the second of them with the payload that another function handed over
+second-is : (w : Writer) (e : Entry) (kind : ℕ) (p q t : List ℕ) → p ≡ q
+    → keptAll w (e ∷ entry kind p ∷ []) t ≡ keptAll w (e ∷ entry kind q ∷ []) t
+second-is w e kind p q t h = ap (λ (x : List ℕ). keptAll w (e ∷ entry kind x ∷ []) t) h
+
 returns : tie.Need-returns
 unfolding recorded
 returns c =
-    let a = c .before .before .before .before .before .before .before .before .before .before .before .args in
+    let part = c .before .before .before .before in
+    let told = part .before .before .reply .given .1 in
+    let a = part .before .before .before .before .before .before .before .args in
     c .before .before .both .ensures
-    ∙ (ap (λ (p : List ℕ). keptAll (a .writer) (entry (a .kind) (a .payload .now) ∷ entry command p ∷ []) (a .tape .now)) (c .before .before .before .before .part .ensures)
-    ∙ by (a .writer) _ (a .command .now) (a .session) (a .tape .now) (a .reply) _ (c .before .before .before .before .before .before .reply .given .1))
+    ∙ (second-is (a .writer) _ command _ _ (a .tape .now) (part .part .ensures)
+    ∙ by (a .writer) _ (a .command .now) (a .session) (a .tape .now) (a .reply) _ told)
 
 returns-2 : tie.Need-returns-2
 unfolding recorded
 returns-2 c =
-    let a = c .before .before .before .before .before .before .before .before .before .before .before .args in
+    let made = c .before .before .before .before .before in
+    let a = made .before .before .before .before .before .before .args in
     c .before .before .both2 .ensures
-    ∙ (ap (λ (p : List ℕ). keptAll (a .writer) (entry (a .kind) (a .payload .now) ∷ entry decision p ∷ []) (a .tape .now)) (c .before .before .before .before .before .decision .ensures)
-    ∙ by (a .writer) _ (a .command .now) (a .session) (a .tape .now) (a .reply) _ (c .before .before .before .before .before .before .enum-told .given .1))
+    ∙ (second-is (a .writer) _ decision _ _ (a .tape .now) (made .decision .ensures)
+    ∙ by (a .writer) _ (a .command .now) (a .session) (a .tape .now) (a .reply) _ (made .before .enum-told .given .1))
 
 returns-3 : tie.Need-returns-3
 unfolding recorded
@@ -51,10 +59,12 @@ returns-4 c =
     ∙ by (a .writer) _ (a .command .now) (a .session) (a .tape .now) (a .reply) _ (c .before .before .before .before .enum-told3 .given .1)
 
 returns-5 : tie.Need-returns-5
-unfolding recorded keptAll
+unfolding recorded
 returns-5 c =
     let a = c .before .before .before .before .before .args in
-    by (a .writer) (entry (a .kind) (a .payload .now)) (a .command .now) (a .session) (a .tape .now) (a .reply) _ (c .enum-told4 .given .1)
+    let e = entry (a .kind) (a .payload .now) in
+    nothing-kept (a .writer) (a .tape .now)
+    ∙ by (a .writer) e (a .command .now) (a .session) (a .tape .now) (a .reply) _ (c .enum-told4 .given .1)
 
 pub record-spec : {M : Type 1} → statement M
 record-spec =

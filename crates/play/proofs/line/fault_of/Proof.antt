@@ -14,11 +14,13 @@ returns c = sym (pick-yes _ _ _ (eq-eqb _ _ (c .if1 .taken)))
 
 returns-2 : tie.Need-returns-2
 unfolding faultOf
-returns-2 c = c .fault-of-none .ensures ∙ sym (pick-no _ _ _ (ne-eqb _ _ (c .before .before .if1 .left)) ∙ pick-yes _ _ _ (eq-eqb _ _ (c .before .if2 .taken)))
+returns-2 c = sym (pick-no _ _ _ (ne-eqb _ _ (c .before .if1 .left)) ∙ pick-yes _ _ _ (eq-eqb _ _ (c .if2 .taken)))
 
 returns-3 : tie.Need-returns-3
 unfolding faultOf
-returns-3 c = sym (pick-no _ _ _ (ne-eqb _ _ (c .before .before .if1 .left)) ∙ (pick-no _ _ _ (ne-eqb _ _ (c .before .if2 .left)) ∙ pick-yes _ _ _ (eq-eqb _ _ (c .if3 .taken))))
+returns-3 c =
+    sym (pick-no _ _ _ (ne-eqb _ _ (c .before .before .if1 .left))
+    ∙ (pick-no _ _ _ (ne-eqb _ _ (c .before .if2 .left)) ∙ pick-yes _ _ _ (eq-eqb _ _ (c .if3 .taken))))
 
 returns-4 : tie.Need-returns-4
 unfolding faultOf
@@ -49,7 +51,6 @@ fault-of-spec =
     tie.close
     (tie.spec
     returns
-    (λ c κs. search needs)
     returns-2
     returns-3
     (λ c κs. search needs)

@@ -1,0 +1,2 @@
+-- A kernel session together with its tape.
+pub mod Taping
