@@ -1,10 +1,10 @@
 // One call, and its reply printed.
 use hexadecimal::unhex;
-use kernel::Reply;
 use kernel::Session;
 use kernel::Step;
-use kernel::result::decision;
 use lists::part;
+use session_phase::Reply;
+use state::result::decision;
 ghost use Prim.Native.Nat.{_≤_};
 
 // The longest payload, and the most bytes that are lent.
@@ -54,13 +54,14 @@ fn print_reply(s: Session, reply: Reply, buf: &[u8]) -> usize {
             printing::bytes(part(buf, 0, n));
             n
         }
-        Reply::Host => {
+        Reply::Due(_) => {
             printing::text(b"HOST");
             0
         }
         Reply::Decided => {
             printing::text(b"DECISION ");
-            printing::bytes(&decision(s));
+            let state = s.state;
+            printing::bytes(&decision(state));
             0
         }
         Reply::Closed => {

@@ -11,14 +11,14 @@ use crate::store::store;
 use hexadecimal::unhex;
 use input::Line;
 use input::read_line;
-use kernel::Reply;
 use kernel::Session;
 use kernel::Step;
-use kernel::result::decision;
 use lists::part;
 use recorder::has_room;
 use recorder::record;
-use refusals::due::is_over;
+use session_phase::Reply;
+use session_phase::awaits;
+use state::result::decision;
 use tape::ANSWER;
 use tape::HOST;
 use tape::START;
@@ -85,8 +85,8 @@ fn is_room(s: Session, writer: Writer, tape: &[u8]) -> bool {
         return true;
     }
     let state = s.state;
-    let phase = state.phase;
-    is_over(phase)
+    let waiting = state.waiting;
+    awaits(waiting) == 0
 }
 
 // The reply is printed once its entries are stored.
@@ -117,11 +117,16 @@ fn stepped(s: Session, kind: u8, payload: &[u8], command: &mut [u8]) -> Step {
     }
 }
 
+fn decision_in(s: Session) -> [u8; 9] {
+    let state = s.state;
+    decision(state)
+}
+
 fn print_reply(s: Session, reply: Reply, command: &[u8]) -> bool {
     match reply {
         Reply::Command(n) => say::with_bytes(b"COMMAND ", part(command, 0, n)),
-        Reply::Host => say::text(b"HOST\n"),
-        Reply::Decided => say::with_bytes(b"DECISION ", &decision(s)),
+        Reply::Due(_) => say::text(b"HOST\n"),
+        Reply::Decided => say::with_bytes(b"DECISION ", &decision_in(s)),
         Reply::Closed => say::text(b"CLOSED\n"),
         Reply::Refused(n) => say::with_number(b"REFUSED ", n),
     }

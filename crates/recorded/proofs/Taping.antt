@@ -18,11 +18,11 @@ use Rattle.tape.proofs.Roundtrip.{first-storable, rest-storable, written-length
 use Rattle.tape_writer.specs.Appending.{fresh}
 use Rattle.tape_writer.specs.declared.Writer.{Writer}
 use Rattle.kernel.specs.declared.Session.{Session}
-use Rattle.kernel.specs.declared.Reply.{Reply}
-use Rattle.kernel.specs.declared.Reply.the-variants.{Command, Host, Decided, Closed, Refused}
+use Rattle.session_phase.specs.declared.Reply.{Reply}
+use Rattle.session_phase.specs.declared.Reply.the-variants.{Command, Due, Decided, Closed, Refused}
 use Rattle.kernel.specs.Calls.{Called, freshSession}
-use Rattle.logs.specs.Log.{Event, Call, call, entryOf, logged, loggedBy, Played, after, playsFrom, plays}
-use Rattle.recorder.specs.Recording.{Kept, kept, grown, keptAll, recorded, callRefusal}
+use Rattle.logs.specs.Log.{Call, made, logged, loggedBy, Played, after, playsFrom, plays}
+use Rattle.recorder.specs.Recording.{Kept, kept, grown, keptAll, recorded, tapeRefusal}
 use Rattle.recorder.proofs.Refusing.{Fitting, none-wrong, fits-call}
 use Rattle.recorder.proofs.Keeping.{further, all-kept}
 use Rattle.recorded.specs.Taping.{Taped, tapedBy, taped, tapedFrom, recordedAll, tapeOf}
@@ -31,20 +31,20 @@ use Rattle.recorded.specs.Taping.{Taped, tapedBy, taped, tapedFrom, reco
 
 pub logFrom : Session → List Call → List Entry
 logFrom s [] = []
-logFrom s (c ∷ cs) = loggedBy (call s c) (c .event) ++ logFrom (call s c .session) cs
+logFrom s (c ∷ cs) = loggedBy (made s c) (c .event) ++ logFrom (made s c .session) cs
 
 log-from : (cs : List Call) (p : Played) → playsFrom p cs .log ≡ p .log ++ logFrom (p .session) cs
 unfolding playsFrom after logFrom
 log-from [] p = sym (append-nil (p .log))
 log-from (c ∷ cs) p =
     log-from cs (after p c)
-    ∙ append-assoc (p .log) (loggedBy (call (p .session) c) (c .event)) (logFrom (call (p .session) c .session) cs)
+    ∙ append-assoc (p .log) (loggedBy (made (p .session) c) (c .event)) (logFrom (made (p .session) c .session) cs)
 
 -- what is recorded of a call is what is logged of it
-recorded-logged : (q : Reply) (r : Called) (e : Event) → recorded (entryOf e) q (r .buffer) (r .session) ≡ logged q r e
+recorded-logged : (q : Reply) (r : Called) (e : Entry) → recorded e q (r .buffer) (r .session) ≡ logged q r e
 unfolding recorded logged
 recorded-logged (Command n) r e = refl
-recorded-logged Host r e = refl
+recorded-logged (Due kind) r e = refl
 recorded-logged Decided r e = refl
 recorded-logged Closed r e = refl
 recorded-logged (Refused n) r e = refl
@@ -52,7 +52,7 @@ recorded-logged (Refused n) r e = refl
 same-session : (cs : List Call) (q : Taped) (p : Played) → q .session ≡ p .session → tapedFrom q cs .session ≡ playsFrom p cs .session
 unfolding tapedFrom taped tapedBy playsFrom after
 same-session [] q p h = h
-same-session (c ∷ cs) q p h = same-session cs (taped q c) (after p c) (ap (λ (s : Session). call s c .session) h)
+same-session (c ∷ cs) q p h = same-session cs (taped q c) (after p c) (ap (λ (s : Session). made s c .session) h)
 
 -- ---- some entries, and then others
 
@@ -110,12 +110,12 @@ grown-none w t =
     ap₂ (λ (n : ℕ) (u : List ℕ). kept (record { writer = record { used = n; session = w .session }; refusal = 0 }) u)
     (sym (add-zero (w .used))) (sym (put-nothing (w .used * blockSize) t))
 
-one-taped : (s : Session) (w : Writer) (t : List ℕ) (c : Call) → Fitting (w .used) (loggedBy (call s c) (c .event)) t
-    → taped (standing s w t) c .kept ≡ grown w (loggedBy (call s c) (c .event)) t
+one-taped : (s : Session) (w : Writer) (t : List ℕ) (c : Call) → Fitting (w .used) (loggedBy (made s c) (c .event)) t
+    → taped (standing s w t) c .kept ≡ grown w (loggedBy (made s c) (c .event)) t
 unfolding taped tapedBy loggedBy kept
 one-taped s w t c fits =
-    let new = loggedBy (call s c) (c .event) in
-    ap (λ (es : List Entry). keptAll w es t) (recorded-logged (call s c .reply) (call s c) (c .event))
+    let new = loggedBy (made s c) (c .event) in
+    ap (λ (es : List Entry). keptAll w es t) (recorded-logged (made s c .reply) (made s c) (c .event))
     ∙ all-kept w new t (fits-call (w .used) new t fits)
 
 pub calls-taped : (cs : List Call) (s : Session) (w : Writer) (t : List ℕ) → allStorable (logFrom s cs) ≡ true
@@ -124,8 +124,8 @@ pub calls-taped : (cs : List Call) (s : Session) (w : Writer) (t : List ℕ) →
 unfolding tapedFrom taped tapedBy logFrom grown
 calls-taped [] s w t good few room = grown-none w t
 calls-taped (c ∷ cs) s w t good few room =
-    let new = loggedBy (call s c) (c .event) in
-    let s′ = call s c .session in
+    let new = loggedBy (made s c) (c .event) in
+    let s′ = made s c .session in
     let more = logFrom s′ cs in
     let size = length-append new more in
     let fit = front-storable new more good in

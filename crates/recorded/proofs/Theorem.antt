@@ -25,7 +25,8 @@ use Rattle.verdict.specs.declared.Verdict.the-variants.{Pass, Fail, Inconclusiv
 use Rattle.verdicts.proofs.Stored.{session-fits, written-judged}
 use Rattle.storable.proofs.Theorem.{lawful-storable}
 use Rattle.storable.proofs.Recorded.{session-exceeded}
-use Rattle.logs.specs.Log.{Call, plays, allBytes, isDecided}
+use Rattle.logs.specs.Log.{Call, plays, allBytes}
+use Rattle.session_phase.specs.Waiting.{isDecided}
 use Rattle.logs.specs.Saying.{Lawfully}
 use Rattle.logs.proofs.Lawful.{any-calls}
 use Rattle.kernel.specs.declared.Session.{Session as KernelSession}
@@ -73,19 +74,19 @@ module _ (cs : List Call) (bytes : allBytes cs ≡ true) where
 
   lawful : Lawful (plays cs .log)
   unfolding Lawful
-  lawful = either (isDecided (plays cs .session .state .phase)) (λ d. inl (said .finished d)) (λ n. inr (said .unfinished n))
+  lawful = either (isDecided (plays cs .session .state .waiting)) (λ d. inl (said .finished d)) (λ n. inr (said .unfinished n))
 
   module _ (number : ℕ) (known : number < 2 ^ 32) where
     stored : (a : Answer) → Judges (plays cs .log) a → Judged (written 0 number (plays cs .log)) a
     stored a j = written-judged number known (plays cs .log) (lawful-storable _ lawful) (lawful-fits _ lawful) a j
 
     -- decided: PASS, with all entries
-    pub decided-passes : isDecided (plays cs .session .state .phase) ≡ true
+    pub decided-passes : isDecided (plays cs .session .state .waiting) ≡ true
         → Judged (written 0 number (plays cs .log)) (says Pass (length (plays cs .log)) 0)
     decided-passes d = stored _ (passes (said .finished d) refl)
 
     -- not decided, whether it waits or was closed by silence: INCONCLUSIVE, with all entries
-    pub undecided-inconclusive : isDecided (plays cs .session .state .phase) ≡ false
+    pub undecided-inconclusive : isDecided (plays cs .session .state .waiting) ≡ false
         → Judged (written 0 number (plays cs .log)) (says Inconclusive (length (plays cs .log)) 0)
     undecided-inconclusive d = stored _ (undecided (said .unfinished d) refl)
 
@@ -95,7 +96,7 @@ module _ (cs : List Call) (bytes : allBytes cs ≡ true) where
     cut-inconclusive = lawful-cut number known (plays cs .log) lawful
 
     -- one entry more after the decision: FAIL at that entry
-    pub exceeded-fails : isDecided (plays cs .session .state .phase) ≡ true → (e : Entry) → storable e ≡ true
+    pub exceeded-fails : isDecided (plays cs .session .state .waiting) ≡ true → (e : Entry) → storable e ≡ true
         → Judged (written 0 number (plays cs .log ++ (e ∷ []))) (says Fail (length (plays cs .log)) 0)
     exceeded-fails d = session-exceeded number known (plays cs .log) (said .finished d)
 
@@ -112,9 +113,9 @@ pub record EndToEnd (cs : List Call) (number : ℕ) (t : List ℕ) : Type 0 wher
   pub buffer : recordedAll number t cs .kept .tape ≡ written 0 number (plays cs .log) ++ drop (length (plays cs .log) * blockSize) t
   pub tape : tapeOf (recordedAll number t cs .kept) ≡ written 0 number (plays cs .log)
   -- its verdict, where the session is decided, where it is not, and cut after any block before the last
-  pub decided : isDecided (recordedAll number t cs .session .state .phase) ≡ true
+  pub decided : isDecided (recordedAll number t cs .session .state .waiting) ≡ true
       → Judged (tapeOf (recordedAll number t cs .kept)) (says Pass (length (plays cs .log)) 0)
-  pub waiting : isDecided (recordedAll number t cs .session .state .phase) ≡ false
+  pub waiting : isDecided (recordedAll number t cs .session .state .waiting) ≡ false
       → Judged (tapeOf (recordedAll number t cs .kept)) (says Inconclusive (length (plays cs .log)) 0)
   pub cut : (k : ℕ) → k < length (plays cs .log)
       → Judged (take (k * blockSize) (tapeOf (recordedAll number t cs .kept))) (says Inconclusive k 0)
@@ -130,7 +131,7 @@ end-to-end cs bytes number known t room =
     let session = recorded-session cs number t in
     let all = recorded-kept cs number t good (lawful-fits log (lawful cs bytes)) room in
     let tape : tapeOf (recordedAll number t cs .kept) ≡ written 0 number log = ap tapeOf all ∙ grown-bytes number log t good in
-    let phase = ap (λ (s : KernelSession). isDecided (s .state .phase)) session in
+    let phase = ap (λ (s : KernelSession). isDecided (s .state .waiting)) session in
     record {
       session = session;
       answer = ap (λ (k : Kept). k .answer) all ∙ grown-answer number log t good;

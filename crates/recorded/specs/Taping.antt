@@ -8,7 +8,7 @@ use Rattle.tape.specs.Entries.{blockSize}
 use Rattle.tape_writer.specs.Appending.{fresh}
 use Rattle.kernel.specs.declared.Session.{Session}
 use Rattle.kernel.specs.Calls.{Called, freshSession}
-use Rattle.logs.specs.Log.{Call, call, entryOf}
+use Rattle.logs.specs.Log.{Call, made}
 use Rattle.recorder.specs.Recording.{Kept, kept, keptAll, recorded}
 
 -- the session, and what its calls have left: the writer, the last call's refusal by the tape, and the tape
@@ -20,11 +20,11 @@ pub record Taped : Type 0 where
 unfoldable pub tapedBy : Taped → Call → Called → Taped
 tapedBy p c r = record {
   session = r .session;
-  kept = keptAll (p .kept .answer .writer) (recorded (entryOf (c .event)) (r .reply) (r .buffer) (r .session)) (p .kept .tape);
+  kept = keptAll (p .kept .answer .writer) (recorded (c .event) (r .reply) (r .buffer) (r .session)) (p .kept .tape);
 }
 
 unfoldable pub taped : Taped → Call → Taped
-taped p c = tapedBy p c (call (p .session) c)
+taped p c = tapedBy p c (made (p .session) c)
 
 unfoldable pub tapedFrom : Taped → List Call → Taped
 tapedFrom p [] = p

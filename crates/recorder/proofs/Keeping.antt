@@ -20,7 +20,7 @@ use Rattle.tape_writer.specs.declared.Writer.{Writer}
 use Rattle.tape_writer.specs.declared.Appended.{Appended}
 use Rattle.tape_writer.proofs.Refusals.{taken}
 use Rattle.tape_writer.proofs.Growing.{refused-answer, taken-answer, refused-tape, taken-tape}
-use Rattle.recorder.specs.Recording.{Kept, kept, grown, keptAll, callRefusal}
+use Rattle.recorder.specs.Recording.{Kept, kept, grown, keptAll, tapeRefusal}
 use Rattle.recorder.proofs.Refusing.{Fitting, none-rest, call-fits, fits-call, fits-one, one-refusal}
 
 -- so many blocks further
@@ -28,19 +28,19 @@ abbrev pub further : Writer → ℕ → Writer
 further w n = record { used = w .used + n; session = w .session }
 
 module _ (w : Writer) (es : List Entry) (t : List ℕ) where
-  pub all-kept : callRefusal (w .used) es t ≡ 0 → keptAll w es t ≡ grown w es t
+  pub all-kept : tapeRefusal (w .used) es t ≡ 0 → keptAll w es t ≡ grown w es t
   unfolding keptAll
   all-kept h = pick-yes _ _ _ (eq-eqb _ _ h)
 
   -- a call that is turned away changes nothing
-  pub none-kept : (callRefusal (w .used) es t ≡ 0 → ⊥)
-      → keptAll w es t ≡ kept (record { writer = w; refusal = callRefusal (w .used) es t }) t
+  pub none-kept : (tapeRefusal (w .used) es t ≡ 0 → ⊥)
+      → keptAll w es t ≡ kept (record { writer = w; refusal = tapeRefusal (w .used) es t }) t
   unfolding keptAll
   none-kept h = pick-no _ _ _ (ne-eqb _ _ h)
 
 -- no entries, no change
 pub nothing-kept : (w : Writer) (t : List ℕ) → kept (record { writer = w; refusal = 0 }) t ≡ keptAll w [] t
-unfolding grown written callRefusal
+unfolding grown written tapeRefusal
 nothing-kept w t =
     let none : w .used ≡ w .used + 0 = omega arith in
     ap₂ (λ (n : ℕ) (u : List ℕ). kept (record { writer = record { used = n; session = w .session }; refusal = 0 }) u)
@@ -123,12 +123,12 @@ as-appended (e ∷ es) w t f =
 -- ---- two entries, by what the writer answered and left for each
 
 module _ (w : Writer) (e f : Entry) (t : List ℕ) where
-  pub both-refused : (n : ℕ) → n ≡ callRefusal (w .used) (e ∷ f ∷ []) t → (n ≡ 0 → ⊥)
+  pub both-refused : (n : ℕ) → n ≡ tapeRefusal (w .used) (e ∷ f ∷ []) t → (n ≡ 0 → ⊥)
       → kept (record { writer = w; refusal = n }) t ≡ keptAll w (e ∷ f ∷ []) t
   both-refused n told bad =
       ap (λ (k : ℕ). kept (record { writer = w; refusal = k }) t) told ∙ sym (none-kept w (e ∷ f ∷ []) t (λ z. bad (told ∙ z)))
 
-  pub both-taken : (n : ℕ) → n ≡ callRefusal (w .used) (e ∷ f ∷ []) t → n ≡ 0 → (first second : Appended) (t₁ t₂ : List ℕ)
+  pub both-taken : (n : ℕ) → n ≡ tapeRefusal (w .used) (e ∷ f ∷ []) t → n ≡ 0 → (first second : Appended) (t₁ t₂ : List ℕ)
       → first ≡ appendedOf w (refusalOf (w .used) e t) → t₁ ≡ tapeAfter w e t
       → second ≡ appendedOf (first .writer) (refusalOf (first .writer .used) f t₁) → t₂ ≡ tapeAfter (first .writer) f t₁
       → kept second t₂ ≡ keptAll w (e ∷ f ∷ []) t

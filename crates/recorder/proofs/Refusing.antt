@@ -17,9 +17,9 @@ use Rattle.tape.proofs.Roundtrip.{first-storable, rest-storable}
 use Rattle.tape_writer.specs.Appending.{refusalOf}
 use Rattle.tape_writer.proofs.Refusals.{refused-kind, refused-payload, refused-blocks, refused-room, not-refused}
 use Rattle.kernel.specs.declared.Session.{Session}
-use Rattle.kernel.specs.declared.Reply.{Reply}
-use Rattle.kernel.specs.declared.Reply.the-variants.{Command, Host, Decided, Closed, Refused}
-use Rattle.recorder.specs.Recording.{recorded, wrong, anyWrong, hasRoom, blocksOfCall, callRefusal}
+use Rattle.session_phase.specs.declared.Reply.{Reply}
+use Rattle.session_phase.specs.declared.Reply.the-variants.{Command, Due, Decided, Closed, Refused}
+use Rattle.recorder.specs.Recording.{recorded, wrong, anyWrong, hasRoom, blocksOfCall, tapeRefusal}
 
 -- ---- room
 
@@ -92,39 +92,39 @@ pub record Fitting (used : ℕ) (es : List Entry) (t : List ℕ) : Type 0 where
   pub bytes : (used + length es) * blockSize ≤ length t
 
 module _ (used : ℕ) (e : Entry) (es : List Entry) (t : List ℕ) where
-  pub call-wrong : anyWrong (e ∷ es) ≡ true → callRefusal used (e ∷ es) t ≡ 7
-  unfolding callRefusal
+  pub call-wrong : anyWrong (e ∷ es) ≡ true → tapeRefusal used (e ∷ es) t ≡ 7
+  unfolding tapeRefusal
   call-wrong h = first-hit _ _ _ h
 
-  pub call-full : anyWrong (e ∷ es) ≡ false → hasRoom (length (e ∷ es)) used t ≡ false → callRefusal used (e ∷ es) t ≡ 8
-  unfolding callRefusal
+  pub call-full : anyWrong (e ∷ es) ≡ false → hasRoom (length (e ∷ es)) used t ≡ false → tapeRefusal used (e ∷ es) t ≡ 8
+  unfolding tapeRefusal
   call-full h k = first-skip _ _ _ h ∙ first-hit _ _ _ (ap not k)
 
-  pub call-taken : anyWrong (e ∷ es) ≡ false → hasRoom (length (e ∷ es)) used t ≡ true → callRefusal used (e ∷ es) t ≡ 0
-  unfolding callRefusal
+  pub call-taken : anyWrong (e ∷ es) ≡ false → hasRoom (length (e ∷ es)) used t ≡ true → tapeRefusal used (e ∷ es) t ≡ 0
+  unfolding tapeRefusal
   call-taken h k = first-skip _ _ _ h ∙ (first-skip _ _ _ (ap not k) ∙ first-end)
 
-  pub call-fits : callRefusal used (e ∷ es) t ≡ 0 → Fitting used (e ∷ es) t
-  unfolding callRefusal
+  pub call-fits : tapeRefusal used (e ∷ es) t ≡ 0 → Fitting used (e ∷ es) t
+  unfolding tapeRefusal
   call-fits h =
       let first = first-none _ 6 _ h in
       let room = not-false _ (first-none _ 7 _ (first .1) .0) in
       record { right = first .0; blocks = room-blocks _ used t room; bytes = room-bytes _ used t room }
 
   -- where there is room for all, the refusal is not 8
-  never-full : hasRoom (length (e ∷ es)) used t ≡ true → callRefusal used (e ∷ es) t ≡ 8 → ⊥
+  never-full : hasRoom (length (e ∷ es)) used t ≡ true → tapeRefusal used (e ∷ es) t ≡ 8 → ⊥
   never-full room h =
       either (anyWrong (e ∷ es))
       (λ yes. let z : _≡_ {A = ℕ} 7 8 = sym (call-wrong yes) ∙ h in omega arith)
       (λ no. let z : _≡_ {A = ℕ} 0 8 = sym (call-taken no room) ∙ h in omega arith)
 
-any-room : (used : ℕ) (es : List Entry) (t : List ℕ) → hasRoom (length es) used t ≡ true → callRefusal used es t ≡ 8 → ⊥
-unfolding callRefusal
+any-room : (used : ℕ) (es : List Entry) (t : List ℕ) → hasRoom (length es) used t ≡ true → tapeRefusal used es t ≡ 8 → ⊥
+unfolding tapeRefusal
 any-room used [] t room h = omega arith
 any-room used (e ∷ es) t room h = never-full used e es t room h
 
-pub fits-call : (used : ℕ) (es : List Entry) (t : List ℕ) → Fitting used es t → callRefusal used es t ≡ 0
-unfolding callRefusal
+pub fits-call : (used : ℕ) (es : List Entry) (t : List ℕ) → Fitting used es t → tapeRefusal used es t ≡ 0
+unfolding tapeRefusal
 fits-call used [] t f = refl
 fits-call used (e ∷ es) t f = call-taken used e es t (f .right) (room-there _ used t (f .blocks) (f .bytes))
 
@@ -135,14 +135,14 @@ module _ (event : Entry) (buf : List ℕ) (s : Session) where
   pub few-entries : (reply : Reply) → length (recorded event reply buf s) ≤ blocksOfCall
   unfolding recorded
   few-entries (Command n) = omega arith
-  few-entries Host = omega arith
+  few-entries (Due kind) = omega arith
   few-entries Decided = omega arith
   few-entries Closed = omega arith
   few-entries (Refused n) = omega arith
 
   -- so where there is room for as many, no call is turned away with 8
   pub call-room : (used : ℕ) (t : List ℕ) (reply : Reply) → hasRoom blocksOfCall used t ≡ true
-      → callRefusal used (recorded event reply buf s) t ≡ 8 → ⊥
+      → tapeRefusal used (recorded event reply buf s) t ≡ 8 → ⊥
   call-room used t reply room h =
       let blocks = room-blocks blocksOfCall used t room in
       let bytes = room-bytes blocksOfCall used t room in
@@ -157,7 +157,7 @@ module _ (used : ℕ) (e : Entry) (t : List ℕ) where
       let right = none-first e es (f .right) in
       not-refused used e t (right-kind e right) (right-length e right) (let k = f .blocks in omega arith) (let k = f .bytes in omega arith)
 
-  one-right : wrong e ≡ false → callRefusal used (e ∷ []) t ≡ refusalOf used e t
+  one-right : wrong e ≡ false → tapeRefusal used (e ∷ []) t ≡ refusalOf used e t
   unfolding anyWrong
   one-right right =
       let none = any-rest e [] right in
@@ -178,7 +178,7 @@ module _ (used : ℕ) (e : Entry) (t : List ℕ) where
       call-full used e [] t none (room-none 1 used t blocks) ∙ sym (refused-blocks used e t kind fits (omega arith)))
 
   -- a call with a single entry is turned away as the writer turns that entry away
-  pub one-refusal : callRefusal used (e ∷ []) t ≡ refusalOf used e t
+  pub one-refusal : tapeRefusal used (e ∷ []) t ≡ refusalOf used e t
   one-refusal =
       either (isKind (e .kind))
       (λ kind.

@@ -14,13 +14,13 @@ use Rattle.tape_writer.specs.declared.Writer.{Writer}
 use Rattle.tape_writer.specs.declared.Appended.{Appended}
 use Rattle.state.specs.Results.{decisionIn}
 use Rattle.kernel.specs.declared.Session.{Session}
-use Rattle.kernel.specs.declared.Reply.{Reply}
-use Rattle.kernel.specs.declared.Reply.the-variants.{Command, Host, Decided, Closed, Refused}
+use Rattle.session_phase.specs.declared.Reply.{Reply}
+use Rattle.session_phase.specs.declared.Reply.the-variants.{Command, Due, Decided, Closed, Refused}
 
 -- the entries of a call: its event, the reply, the command buffer and the session after it. A call that is turned away has none
 unfoldable pub recorded : Entry → Reply → List ℕ → Session → List Entry
 recorded event (Command n) buf s = event ∷ entry command (take n buf) ∷ []
-recorded event Host buf s = event ∷ []
+recorded event (Due kind) buf s = event ∷ []
 recorded event Decided buf s = event ∷ entry decision (decisionIn (s .state)) ∷ []
 recorded event Closed buf s = event ∷ []
 recorded event (Refused n) buf s = []
@@ -42,9 +42,9 @@ abbrev pub blocksOfCall : ℕ
 blocksOfCall = 2
 
 -- why the entries of a call are turned away, the first that applies to the call; 0: they are not
-unfoldable pub callRefusal : ℕ → List Entry → List ℕ → ℕ
-callRefusal used [] t = 0
-callRefusal used (e ∷ es) t = firstOf ((anyWrong (e ∷ es), 7) ∷ (not (hasRoom (length (e ∷ es)) used t), 8) ∷ [])
+unfoldable pub tapeRefusal : ℕ → List Entry → List ℕ → ℕ
+tapeRefusal used [] t = 0
+tapeRefusal used (e ∷ es) t = firstOf ((anyWrong (e ∷ es), 7) ∷ (not (hasRoom (length (e ∷ es)) used t), 8) ∷ [])
 
 -- what is left at the end: the writer, the refusal if any, and the tape
 pub record Kept : Type 0 where
@@ -64,4 +64,4 @@ grown w es t =
 -- the entries of a call: all of them, or no change beside the refusal's number
 unfoldable pub keptAll : Writer → List Entry → List ℕ → Kept
 keptAll w es t =
-    pick (eqb (callRefusal (w .used) es t) 0) (grown w es t) (kept (record { writer = w; refusal = callRefusal (w .used) es t }) t)
+    pick (eqb (tapeRefusal (w .used) es t) 0) (grown w es t) (kept (record { writer = w; refusal = tapeRefusal (w .used) es t }) t)

@@ -1,8 +1,8 @@
 // A kernel session recorded onto a tape: each accepted call's event, and after it the command or the decision that it led to.
-use kernel::Reply;
 use kernel::Session;
-use kernel::result::decision;
 use lists::part;
+use session_phase::Reply;
+use state::result::decision;
 use tape::BLOCK;
 use tape::COMMAND;
 use tape::DECISION;
@@ -14,7 +14,8 @@ use tape_writer::Writer;
 ghost use mathlib.Core.Path.{_≡_};
 ghost use mathlib.Core.List.{[], _∷_};
 ghost use Rattle.tape.specs.Entries.{entry};
-ghost use Rattle.recorder.specs.Recording.{kept, keptAll, recorded, wrong, hasRoom, blocksOfCall, callRefusal};
+ghost use Rattle.state.specs.Results.{decisionIn};
+ghost use Rattle.recorder.specs.Recording.{kept, keptAll, recorded, wrong, hasRoom, blocksOfCall, tapeRefusal};
 
 // The most blocks that one call can lead to: its event, and the command or the decision after it.
 pub const BLOCKS_OF_CALL: usize = 2;
@@ -34,11 +35,18 @@ pub fn record(
 {
     match reply {
         Reply::Command(n) => both(writer, kind, payload, COMMAND, part(command, 0, n), tape),
-        Reply::Decided => both(writer, kind, payload, DECISION, &decision(session), tape),
-        Reply::Host => writer.append(kind, payload, tape),
+        Reply::Decided => both(writer, kind, payload, DECISION, &decision_in(session), tape),
+        Reply::Due(_) => writer.append(kind, payload, tape),
         Reply::Closed => writer.append(kind, payload, tape),
         Reply::Refused(_) => Appended { writer, refusal: 0 },
     }
+}
+
+fn decision_in(session: Session) -> [u8; 9]
+    ensures { λ r. ⌜ r ≡ decisionIn (session .state) ⌝ }
+{
+    let state = session.state;
+    decision(state)
 }
 
 // Whether a tape has room for all that one call can lead to.
@@ -81,7 +89,7 @@ fn why_refused(
     next_payload: &[u8],
     tape: &[u8],
 ) -> u8
-    ensures { λ r. ⌜ r ≡ callRefusal (writer .used) (entry kind (now (payload .entry)) ∷ entry «next_kind» (now («next_payload» .entry)) ∷ []) (now (tape .entry)) ⌝ }
+    ensures { λ r. ⌜ r ≡ tapeRefusal (writer .used) (entry kind (now (payload .entry)) ∷ entry «next_kind» (now («next_payload» .entry)) ∷ []) (now (tape .entry)) ⌝ }
 {
     if is_wrong(kind, payload) {
         return 7;

@@ -4,7 +4,7 @@ use mathlib.Core.Path.{_≡_, refl, sym, ap, ap₂, _∙_}
 use mathlib.Core.List.{List, [], _∷_}
 use Prim.Native.Nat.{ℕ}
 use borrow.Author.Needs.{needs}
-use Rattle.kernel.specs.declared.Reply.{Reply}
+use Rattle.session_phase.specs.declared.Reply.{Reply}
 use Rattle.kernel.specs.declared.Session.{Session}
 use Rattle.tape_writer.specs.declared.Writer.{Writer}
 use Rattle.tape.specs.Entries.{Entry, entry, command, decision}
@@ -39,7 +39,7 @@ returns-2 c =
     let made = c .before .before .before .before .before in
     let a = made .before .before .before .before .before .before .args in
     c .before .before .both2 .ensures
-    ∙ (second-is (a .writer) _ decision _ _ (a .tape .now) (made .decision .ensures)
+    ∙ (second-is (a .writer) _ decision _ _ (a .tape .now) (made .decision-in .ensures)
     ∙ by (a .writer) _ (a .command .now) (a .session) (a .tape .now) (a .reply) _ (made .before .enum-told .given .1))
 
 returns-3 : tie.Need-returns-3
