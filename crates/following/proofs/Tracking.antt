@@ -98,7 +98,7 @@ module _ (k : ℕ) (j : Judgement) (kind : ℕ) (p : List ℕ) (ok : isPayload p
   unfolding Tracking staged
   breaks = record { room = room; tracking = refl }
 
-  -- another kind than the one that is due
+  -- an entry of the kind that is due is read as one of that kind
   no-kind : (due : ℕ) → kind ≡ due → (m : Progress) → reads m (entry kind p) ≡ reads m (entry due p)
   no-kind due e m = ap (λ (q : ℕ). reads m (entry q p)) e
 
