@@ -77,8 +77,8 @@ class Crate:
             return found.group(2) in self.files.get(found.group(1), set())
         if file:
             return token in self.files.get(file, set())
-        return (token in self.files or token in self.types or token in self.functions or any(token in names for names in self.files.values())
-                or any(token in names for names in self.functions.values()))
+        named_by = [self.files, self.types, self.functions, *self.files.values(), *self.functions.values()]
+        return any(token in names for names in named_by)
 
 
 LISTED = [line.split(":")[0] for line in (ROOT / "crates.txt").read_text().splitlines() if re.match(r"\w+:", line)]
@@ -173,7 +173,8 @@ def claims():
             else:
                 right = has(token, place, file)
             if not right:
-                yield f"docs/CLAIMS.md {number}: {token} is not in {file or ''}{' of ' if file else ''}{', '.join(place) or 'any crate named'}", token
+                within = (f"{file} of " if file else "") + (", ".join(dict.fromkeys(place)) or "any crate named")
+                yield f"docs/CLAIMS.md {number}: {token} is not in {within}", token
 
 
 def rulebook():
@@ -183,7 +184,9 @@ def rulebook():
         for sentence in re.split(r"(?<=[.;]) ", unit):
             for token in re.findall(r"`([^`]+)`", sentence):
                 words = token.split()
-                if token in CRATES or token in variables or is_no_name(words[0]) or not all(re.fullmatch(r"[a-z]\w*'?", word) for word in words[1:]):
+                if token in CRATES or token in variables or is_no_name(words[0]):
+                    continue
+                if not all(re.fullmatch(r"[a-z]\w*'?", word) for word in words[1:]):
                     continue
                 if not has(words[0], ["rulebook"] + named(sentence)):
                     yield f"docs/RULEBOOK.md {number}: {words[0]} is not in {', '.join(['rulebook'] + named(sentence))}", words[0]
