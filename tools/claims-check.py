@@ -1,7 +1,7 @@
 #!/usr/bin/env python3
 """Says which names in the pages are not defined where the pages say; ends with 1 where there are any.
 
-    tools/claims-check.py              docs/CLAIMS.md, docs/RULEBOOK.md, the comments at the top of proofs, and paths in every page
+    tools/claims-check.py              docs/CLAIMS.md, docs/RULEBOOK.md, the other pages, and the comments at the top of proofs
     tools/claims-check.py --selftest   tries what counts as a definition on made-up files
 
 A `File.name` must be defined in that file of specs/ or proofs/: by a signature, as a constructor or as a field; a mention is not
@@ -9,7 +9,8 @@ enough. A `module::function` must be an `fn` of that module, or a method of that
 edit must stand in must-fail/ or in more-edits/. The crate is the one that stands before a name ("`crate`: ..") or after it ("of
 `crate`", "(`crate`)"); where there is none, one that the row, the column or the heading of the section names. A bare name that
 follows a `File.name` in a row of names stands in the same file, unless "of" names a crate for it. In RULEBOOK a name stands in
-`rulebook`, or in a crate that its sentence names.
+`rulebook`, or in a crate that its sentence names. In the other pages it stands in some crate, in the one that "of" names if any. A
+path must be there.
 """
 import pathlib
 import re
@@ -19,7 +20,7 @@ ROOT = pathlib.Path(__file__).resolve().parent.parent
 SIGNED = re.compile(r"(?:(?:unfoldable|abbrev|pub|private|opaque)\s+)*(?:(?:record|data)\s+)?([^\s:(){}.]+)\s*(?:[({].*)?:(?:\s|$)")
 HOLDS = re.compile(r"(?:pub\s+)?(?:record|data|module)\b")
 # Words in the pages that name no definition.
-WORDS = {"requires", "ensures", "code", "FUNCTIONS.md", "EXCEPTIONS.md", "crates.txt"}
+WORDS = {"requires", "ensures", "match", "code", "crates.txt"}
 
 
 def defined(text):
@@ -135,6 +136,8 @@ def tokens(cell):
 
 
 def is_no_name(token):
+    if re.fullmatch(r"[A-Z]+\.md", token):
+        return (ROOT / "docs" / token).exists()
     return bool(re.search(r"[\s/&\[='<>]", token)) or token.startswith(("--", "..")) or token.upper() == token or token in WORDS
 
 
@@ -192,6 +195,14 @@ def rulebook():
                     yield f"docs/RULEBOOK.md {number}: {words[0]} is not in {', '.join(['rulebook'] + named(sentence))}", words[0]
 
 
+def other_pages():
+    for name in ("DECISIONS", "EXCEPTIONS", "GATE", "SPEED"):
+        for number, unit, _ in units((ROOT / "docs" / f"{name}.md").read_text()):
+            for token, crates, _ in tokens(unit):
+                if not is_no_name(token) and not has(re.sub(r"\.antt$", "", token), crates or LISTED):
+                    yield f"docs/{name}.md {number}: {token} is not in {', '.join(crates or ['any crate'])}", token
+
+
 def proofs():
     for crate in CRATES:
         for path in sorted((ROOT / "crates" / crate / "proofs").glob("**/*.antt")):
@@ -229,7 +240,7 @@ def selftest():
 def main():
     if "--selftest" in sys.argv[1:]:
         return selftest()
-    wrong = [*claims(), *rulebook(), *proofs(), *paths()]
+    wrong = [*claims(), *rulebook(), *other_pages(), *proofs(), *paths()]
     for line, token in wrong:
         where = [name for name, crate in CRATES.items() if token in crate.edits or crate.has(token.split(".")[-1].split("::")[-1])]
         print(f"{line} (the name is in {', '.join(where[:6]) or 'no crate'})")
