@@ -1,19 +1,21 @@
--- 01, "Sessions on the bench", cases A to L: what each asks of the definitions.
+-- 01, "Sessions on the bench", cases A to L, each of the definition that a function promises: what list_refusal and the reader by
+-- place, fill, the commands, options_reason, selected and first_request answer.
 -- Assumes nothing.
 use mathlib.Core.Path.{_≡_}
 use mathlib.Core.Bool.{Bool, true, false}
 use mathlib.Core.List.{List, [], _∷_}
-use mathlib.Core.Option.{Option, none, some}
+use mathlib.Core.Option.{Option, some}
 use Prim.Native.Nat.{ℕ}
-use Rattle.objects.specs.Objects.{Object, objects}
-use Rattle.values.specs.Shape.{shaped, formatOf}
+use Rattle.objects.specs.Objects.{Object, objects, readRefusal}
+use Rattle.values.specs.declared.Known.{Known}
+use Rattle.object_lists.specs.Filled.{filling}
 use Rattle.lists.specs.Writing.{zeros}
 use Rattle.terminal.specs.Reading.{Terminal}
 use Rattle.terminal.specs.Bare.{bare}
 use Rattle.commands.specs.Commands.{recordCommand}
 use Rattle.locator.specs.Entries.{toRead, recordCount}
 use Rattle.form_answers.specs.Options.{optionsReason}
-use Rattle.checks.specs.Selection.{chosen}
+use Rattle.checks.specs.Selection.{selected}
 use Rattle.decide.specs.Codes.{IssuerCodes}
 use Rattle.decide.specs.Requests.{firstRequest}
 use Rattle.decide.specs.declared.requests.Cryptogram.{Cryptogram}
@@ -26,19 +28,50 @@ plain kind = bare kind (zeros 5) (zeros 5) (zeros 5)
 unfoldable pub noCodes : IssuerCodes
 noCodes = record { denial = some (zeros 5); online = some (zeros 5); default = some (zeros 5) }
 
+-- a terminal with the numbers of E, F and J, and a random number and an amount
+unfoldable pub trial : ℕ → List ℕ → Terminal
+trial random amount =
+    record {
+      kind = 2;
+      amount = amount;
+      otherAmount = zeros 6;
+      country = zeros 2;
+      currency = zeros 2;
+      date = zeros 3;
+      transactionType = zeros 1;
+      unpredictable = 0x11 ∷ 0x22 ∷ 0x33 ∷ 0x44 ∷ [];
+      floorLimit = 0x00 ∷ 0x00 ∷ 0x00 ∷ 0x01 ∷ 0x00 ∷ 0x00 ∷ [];
+      random = random;
+      target = 10;
+      threshold = 0x00 ∷ 0x00 ∷ 0x00 ∷ 0x00 ∷ 0x50 ∷ 0x00 ∷ [];
+      maximum = 70;
+      version = zeros 2;
+      denial = zeros 5;
+      online = zeros 5;
+      default = zeros 5;
+      aid = [];
+    }
+
+unfoldable pub amount7500 : List ℕ
+amount7500 = 0x00 ∷ 0x00 ∷ 0x00 ∷ 0x00 ∷ 0x75 ∷ 0x00 ∷ []
+
+unfoldable pub amount7499 : List ℕ
+amount7499 = 0x00 ∷ 0x00 ∷ 0x00 ∷ 0x00 ∷ 0x74 ∷ 0x99 ∷ []
+
 pub record Cases : Type 0 where
   -- a longer length form than needed
+  pub a-read : readRefusal (0x5A ∷ 0x81 ∷ 0x02 ∷ 0x12 ∷ 0x34 ∷ []) ≡ 0
   pub a : objects (0x5A ∷ 0x81 ∷ 0x02 ∷ 0x12 ∷ 0x34 ∷ []) ≡ some (record { tag = 0x5A; value = 0x12 ∷ 0x34 ∷ [] } ∷ [])
   -- a value that is not there whole
-  pub b : objects (0x5A ∷ 0x02 ∷ 0x12 ∷ []) ≡ none
+  pub b : readRefusal (0x5A ∷ 0x02 ∷ 0x12 ∷ []) ≡ 9
   -- a first length byte that is refused
-  pub c : objects (0x5A ∷ 0x80 ∷ []) ≡ none
+  pub c : readRefusal (0x5A ∷ 0x80 ∷ []) ≡ 9
   -- an empty list
+  pub d-read : readRefusal (0x00 ∷ 0x00 ∷ []) ≡ 0
   pub d : objects (0x00 ∷ 0x00 ∷ []) ≡ some []
-  -- amount 7500 in four bytes
-  pub e : shaped (formatOf 0x9F02) 4 (0x00 ∷ 0x00 ∷ 0x00 ∷ 0x00 ∷ 0x75 ∷ 0x00 ∷ []) ≡ 0x00 ∷ 0x00 ∷ 0x75 ∷ 0x00 ∷ []
-  -- an unpredictable number in two bytes
-  pub f : shaped (formatOf 0x9F37) 2 (0x11 ∷ 0x22 ∷ 0x33 ∷ 0x44 ∷ []) ≡ 0x11 ∷ 0x22 ∷ []
+  -- the object lists 9F02 04 and 9F37 02, whatever else is known: the amount in four bytes, the unpredictable number in two
+  pub e : (k : Known) → filling (trial 40 amount7500) k (0x9F ∷ 0x02 ∷ 0x04 ∷ []) ≡ 0x00 ∷ 0x00 ∷ 0x75 ∷ 0x00 ∷ []
+  pub f : (k : Known) → filling (trial 40 amount7500) k (0x9F ∷ 0x37 ∷ 0x02 ∷ []) ≡ 0x11 ∷ 0x22 ∷ []
   -- three records, and the first command
   pub g : toRead (0x08 ∷ 0x01 ∷ 0x03 ∷ 0x01 ∷ []) ≡ (1, 1) ∷ (2, 1) ∷ (3, 1) ∷ []
   pub g-command : recordCommand 1 1 ≡ 0x00 ∷ 0xB2 ∷ 0x01 ∷ 0x0C ∷ 0x00 ∷ []
@@ -46,11 +79,11 @@ pub record Cases : Type 0 where
   pub h : recordCount (0x08 ∷ 0x01 ∷ 0x3A ∷ 0x00 ∷ []) ≡ 58
   pub h-read : optionsReason (0x77 ∷ 0x0A ∷ 0x82 ∷ 0x02 ∷ 0x00 ∷ 0x00 ∷ 0x94 ∷ 0x04 ∷ 0x08 ∷ 0x01 ∷ 0x3A ∷ 0x00 ∷ 0x90 ∷ 0x00 ∷ []) ≡ 0
   pub i : optionsReason (0x77 ∷ 0x0A ∷ 0x82 ∷ 0x02 ∷ 0x00 ∷ 0x00 ∷ 0x94 ∷ 0x04 ∷ 0x08 ∷ 0x01 ∷ 0x3B ∷ 0x00 ∷ 0x90 ∷ 0x00 ∷ []) ≡ 7
-  -- random, target, maximum, amount, floor limit, threshold
-  pub j-selected : chosen 40 10 70 7500 10000 5000 ≡ true
-  pub j-not : chosen 41 10 70 7500 10000 5000 ≡ false
+  -- target 10, maximum 70, threshold 5000, floor limit 10000
+  pub j-selected : selected (trial 40 amount7500) ≡ true
+  pub j-not : selected (trial 41 amount7500) ≡ false
   -- nothing is rounded
-  pub k : chosen 40 10 70 7499 10000 5000 ≡ false
+  pub k : selected (trial 40 amount7499) ≡ false
   -- TVR 8000000000, all codes zero, by the terminal's type
   pub l-offline : firstRequest (plain 0) noCodes (0x80 ∷ 0 ∷ 0 ∷ 0 ∷ 0 ∷ []) ≡ Tc
   pub l-online : firstRequest (plain 1) noCodes (0x80 ∷ 0 ∷ 0 ∷ 0 ∷ 0 ∷ []) ≡ Arqc

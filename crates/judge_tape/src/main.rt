@@ -1,5 +1,6 @@
 // The verdict of the tape on standard input, in one line: verdict, place, code. Where the input cannot be read there is no verdict:
-// nothing goes to standard output, and standard error says why.
+// nothing goes to standard output, and standard error says why. Where the line cannot be written, standard error says so: a program
+// has no exit status here, and a verdict that is lost must not look like one that nobody asked for.
 use judge::judge;
 use libc::STDIN_FILENO;
 use libc::STDOUT_FILENO;
@@ -40,5 +41,7 @@ fn read_all(buf: &mut [u8]) -> Input {
 fn tell(tape: &[u8]) {
     let mut out = [0u8; 64];
     let n = line(judge(tape), &mut out);
-    io::write_all(STDOUT_FILENO, part(&out, 0, n));
+    if !io::write_all(STDOUT_FILENO, part(&out, 0, n)) {
+        os::fail(b"judge_tape: the line could not be written");
+    }
 }

@@ -8,7 +8,7 @@ ghost use lib.ListN.{length};
 ghost use Rattle.lists.specs.Writing.{put, laid};
 ghost use Rattle.verdict_line.specs.Line.{wordOf, decimal, fieldOf, lineOf, lineSize};
 
-// The longest line is INCONCLUSIVE with two numbers of 20 digits: 56 bytes.
+// The longest line is INCONCLUSIVE with two numbers of 20 digits: 55 bytes.
 const LONGEST: usize = 64;
 
 // The line is written at the start of the buffer, and its length is the answer; where it has no room nothing is written.

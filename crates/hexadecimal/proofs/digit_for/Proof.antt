@@ -1,4 +1,4 @@
--- `digits::digit_for` meets its contract: it makes the definition's choice.
+-- `hexadecimal::digit_for` meets its contract: it makes the definition's choice.
 -- Assumes nothing.
 use mathlib.Core.Path.{sym}
 use borrow.Author.Needs.{needs}

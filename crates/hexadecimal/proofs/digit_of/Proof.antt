@@ -1,4 +1,4 @@
--- `digits::digit_of` meets its contract: each arm lies in one range of the definition, or between two.
+-- `hexadecimal::digit_of` meets its contract: each arm lies in one range of the definition, or between two.
 -- Assumes nothing.
 use mathlib.Core.Path.{sym}
 use native.Mathlib.Omega.{arith}

@@ -1,4 +1,4 @@
--- `digits::hex` meets its contract. The loop's invariant: the text of the first i bytes stands at the start of the
+-- `hexadecimal::hex` meets its contract. The loop's invariant: the text of the first i bytes stands at the start of the
 -- buffer, and the rest of it is as it was. Assumes nothing.
 use mathlib.Core.Path.{_≡_, refl, sym, ap, ap₂, _∙_}
 use mathlib.Core.List.{List}

@@ -1,4 +1,4 @@
--- `digits::pair_of` meets its contract: a byte that is no digit has the value 16.
+-- `hexadecimal::pair_of` meets its contract: a byte that is no digit has the value 16.
 -- Assumes nothing.
 use mathlib.Core.Path.{sym}
 use native.Mathlib.Omega.{arith}

@@ -1,4 +1,4 @@
--- `digits::unhex` meets its contract. The loop's invariant: the first n bytes that the text stands for are in their
+-- `hexadecimal::unhex` meets its contract. The loop's invariant: the first n bytes that the text stands for are in their
 -- place, and the text from character 2 n on stands for the others. Assumes nothing.
 use mathlib.Core.Path.{_≡_, refl, sym, ap, ap₂, _∙_}
 use mathlib.Core.List.{List, _∷_}

@@ -1,4 +1,4 @@
--- `online::by_first` meets its contract: a TC approves, an AAC declines, an ARQC goes online.
+-- `online_steps::by_first` meets its contract: a TC approves, an AAC declines, an ARQC goes online.
 -- Assumes nothing.
 use mathlib.Core.Path.{_≡_, refl, sym, ap, _∙_}
 use mathlib.Core.List.{List, [], _∷_}

@@ -1,4 +1,4 @@
--- `online::can_fill` meets its contract: the list is the run that is handed over.
+-- `online_steps::can_fill` meets its contract: the list is the run that is handed over.
 -- Assumes nothing.
 use mathlib.Core.Path.{_≡_, refl, sym, ap, _∙_}
 use borrow.Author.Needs.{needs}

@@ -1,4 +1,4 @@
--- `online::go_online` meets its contract: a terminal of type 0 goes on as unable, whatever code stands beside that.
+-- `online_steps::go_online` meets its contract: a terminal of type 0 goes on as unable, whatever code stands beside that.
 -- Assumes nothing.
 use mathlib.Core.Path.{_≡_, refl, sym, ap, _∙_}
 use mathlib.Core.List.{List, [], _∷_}

@@ -1,4 +1,4 @@
--- `online::request_second` meets its contract: the second GENERATE AC is filled from 8D, where that can be filled.
+-- `online_steps::request_second` meets its contract: the second GENERATE AC is filled from 8D, where that can be filled.
 -- Assumes nothing.
 use mathlib.Core.Path.{_≡_, refl, sym, ap, ap₂, _∙_}
 use mathlib.Core.List.{List, [], _∷_}

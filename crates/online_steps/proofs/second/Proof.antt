@@ -1,4 +1,4 @@
--- `online::second` meets its contract: the codes are those that the records told.
+-- `online_steps::second` meets its contract: the codes are those that the records told.
 -- Assumes nothing.
 use mathlib.Core.Path.{_≡_, refl, sym, ap, _∙_}
 use borrow.Author.Needs.{needs}

@@ -1,4 +1,4 @@
--- `reading::all_read` meets its contract: 8 comes before the bits are set, and what follows after.
+-- `record_steps::all_read` meets its contract: 8 comes before the bits are set, and what follows after.
 -- Assumes nothing.
 use mathlib.Core.Path.{_≡_, refl, sym, ap, _∙_}
 use native.Mathlib.Omega.{arith}

@@ -1,4 +1,4 @@
--- `reading::is_left` meets its contract: the AFL is the run that is kept.
+-- `record_steps::is_left` meets its contract: the AFL is the run that is kept.
 -- Assumes nothing.
 use mathlib.Core.Path.{_≡_, refl, sym, ap, _∙_}
 use mathlib.Core.List.{List, [], _∷_}

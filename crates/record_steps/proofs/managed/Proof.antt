@@ -1,4 +1,4 @@
--- `reading::managed` meets its contract: the bits are joined to those that are set.
+-- `record_steps::managed` meets its contract: the bits are joined to those that are set.
 -- Assumes nothing.
 use mathlib.Core.Path.{_≡_, refl, sym, ap, _∙_}
 use borrow.Author.Needs.{needs}

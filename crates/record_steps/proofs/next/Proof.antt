@@ -1,4 +1,4 @@
--- `reading::next` meets its contract: the AFL is the run that is kept.
+-- `record_steps::next` meets its contract: the AFL is the run that is kept.
 -- Assumes nothing.
 use mathlib.Core.Path.{_≡_, refl, sym, ap, _∙_}
 use mathlib.Core.List.{List, [], _∷_}

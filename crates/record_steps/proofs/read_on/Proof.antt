@@ -1,4 +1,4 @@
--- `reading::read_on` meets its contract: the record at the cursor is asked for, and after the last one the session goes on.
+-- `record_steps::read_on` meets its contract: the record at the cursor is asked for, and after the last one the session goes on.
 -- Assumes nothing.
 use mathlib.Core.Path.{_≡_, refl, sym, ap, _∙_}
 use mathlib.Core.List.{List, [], _∷_}

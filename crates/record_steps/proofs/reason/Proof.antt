@@ -1,4 +1,4 @@
--- `reading::reason` meets its contract: the names that were told, and the first object list.
+-- `record_steps::reason` meets its contract: the names that were told, and the first object list.
 -- Assumes nothing.
 use mathlib.Core.Path.{_≡_, refl, sym, ap, _∙_}
 use mathlib.Core.List.{List, [], _∷_}

@@ -1,4 +1,4 @@
--- `reading::request_first` meets its contract: a reason ends the session, and otherwise the first GENERATE AC is filled from 8C.
+-- `record_steps::request_first` meets its contract: a reason ends the session, and otherwise the first GENERATE AC is filled from 8C.
 -- Assumes nothing.
 use mathlib.Core.Path.{_≡_, refl, sym, ap, ap₂, _∙_}
 use mathlib.Core.List.{List, [], _∷_}

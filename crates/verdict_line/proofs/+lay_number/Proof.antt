@@ -1,4 +1,4 @@
--- `line::lay_number` meets its contract: it calls itself for the tenth part, which is smaller, and lays the last digit after that.
+-- `verdict_line::lay_number` meets its contract: it calls itself for the tenth part, which is smaller, and lays the last digit after that.
 -- Assumes nothing.
 use Prim.Native.Nat.{ℕ, _<_}
 use native.Mathlib.Omega.{arith}

@@ -1,4 +1,4 @@
--- `line::lay_field` meets its contract: a space, and the number after it.
+-- `verdict_line::lay_field` meets its contract: a space, and the number after it.
 -- Assumes nothing.
 use native.Mathlib.Omega.{arith}
 use lib.ListN.{length-set}

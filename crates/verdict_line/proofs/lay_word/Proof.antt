@@ -1,4 +1,4 @@
--- `line::lay_word` meets its contract: each verdict has its word.
+-- `verdict_line::lay_word` meets its contract: each verdict has its word.
 -- Assumes nothing.
 use mathlib.Core.Path.{refl}
 use native.Mathlib.Omega.{arith}

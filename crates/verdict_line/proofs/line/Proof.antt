@@ -1,5 +1,5 @@
--- `line::line` meets its contract: the word, the two fields and the line feed stand one after the other at the start of the text, which
--- is then laid into the buffer whole or not at all.
+-- `verdict_line::line` meets its contract: the word, the two fields and the line feed stand one after the other at the start of the
+-- text, which is then laid into the buffer whole or not at all.
 -- Assumes nothing.
 use mathlib.Core.Path.{_≡_, ap, _∙_}
 use mathlib.Core.List.{List}
