@@ -15,7 +15,7 @@ use Rattle.lists.specs.Shorter.{Asks}
 use Rattle.lists.proofs.Choice.{pick-yes, pick-no, pick-cong, picked, either, and-left, and-right}
 use Rattle.lists.proofs.Shorter.{equation}
 use Rattle.heads.specs.Head.{tagOf, tagRight, tagSize}
-use Rattle.objects.specs.Objects.{isSome}
+use Rattle.lists.specs.Tests.{isSome}
 use Rattle.wanted.specs.Wanted.{Wanted, andThen, sizeAt, firstWanted, asks, wantedStep, entriesOf, total, totalBy, totalOf, most, fits, fillable, tally}
 
 pub entry-fits : (s : List ℕ) → asks s ≡ true → tagSize s + 1 ≤ length s
