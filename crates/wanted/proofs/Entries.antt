@@ -20,7 +20,7 @@ use Rattle.wanted.specs.Wanted.{Wanted, andThen, sizeAt, firstWanted, as
 
 pub entry-fits : (s : List ℕ) → asks s ≡ true → tagSize s + 1 ≤ length s
 unfolding asks
-entry-fits s e = leb-true _ _ (and-right (tagRight s) _ (and-right (not (eqb (getD s 0 0) 0)) _ e))
+entry-fits s e = leb-true _ _ (and-right (tagRight s) _ e)
 
 step-asks : Asks wantedStep
 unfolding wantedStep
