@@ -2,19 +2,18 @@
 -- which gives it exactly where the list check does and else says what stands among the members.
 -- Assumes nothing.
 use mathlib.Core.Path.{_≡_, refl, sym, ap, _∙_}
-use mathlib.Core.Bool.{Bool, true, false, not}
+use mathlib.Core.Bool.{true, false, not}
 use mathlib.Core.List.{List}
-use mathlib.Core.Option.{Option, some}
+use mathlib.Core.Option.{some}
 use Prim.Native.Nat.{ℕ, _≤_, _<_}
 use lib.Dec.{ltb, eqb}
 use lib.ListN.{length}
-use borrow.Author.Tests.{lt-ltb, le-ltb, ltb-false, not-false}
+use borrow.Author.Tests.{lt-ltb, le-ltb}
 use Rattle.lists.specs.Choice.{pick, firstOf}
 use Rattle.lists.proofs.Choice.{pick-yes, pick-no, pick-same, picked, either}
 use Rattle.objects.specs.Objects.{Object, isSome, objects, isList, readRefusal}
 use Rattle.objects.specs.Lookup.{lookup, findInChecked, foundValue, seek, lookupRefusal}
 use Rattle.objects.specs.declared.Found.{Found}
-use Rattle.objects.specs.declared.Sought.{Sought}
 use Rattle.objects.specs.declared.Sought.the-variants.{Refused, InList}
 use Rattle.objects.proofs.Walking.{find-lookup}
 

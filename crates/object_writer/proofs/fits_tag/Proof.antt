@@ -1,4 +1,4 @@
--- `writer::fits_tag` meets its contract: the list check, asked only of a constructed object's value.
+-- `object_writer::fits_tag` meets its contract: the list check, asked only of a constructed object's value.
 -- Assumes nothing.
 use mathlib.Core.Path.{sym, ap, _∙_}
 use Prim.Native.Nat.{ℕ}

@@ -1,4 +1,4 @@
--- `writer::is_tag` meets its contract: the definition's tests, one after the other.
+-- `object_writer::is_tag` meets its contract: the definition's tests, one after the other.
 -- Assumes nothing.
 use mathlib.Core.Path.{_≡_, refl, sym, ap, ap₂, _∙_}
 use mathlib.Core.Bool.{Bool, true, false, not, _&&_}

@@ -1,4 +1,4 @@
--- `writer::lay_length` meets its contract: the bytes laid are those that the definition names.
+-- `object_writer::lay_length` meets its contract: the bytes laid are those that the definition names.
 -- Assumes nothing.
 use mathlib.Core.Path.{sym, ap, _∙_}
 use mathlib.Core.List.{List}

@@ -1,4 +1,4 @@
--- `writer::lay_object` meets its contract: three writes in a row, each where the last ended.
+-- `object_writer::lay_object` meets its contract: three writes in a row, each where the last ended.
 -- Assumes nothing.
 use mathlib.Core.Path.{_≡_, sym, ap, _∙_}
 use mathlib.Core.List.{List}

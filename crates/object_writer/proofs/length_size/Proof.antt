@@ -1,4 +1,4 @@
--- `writer::length_size` meets its contract: by the tests that the definition makes.
+-- `object_writer::length_size` meets its contract: by the tests that the definition makes.
 -- Assumes nothing.
 use mathlib.Core.Path.{sym, ap, _∙_}
 use mathlib.Core.List.{List}

@@ -1,4 +1,4 @@
--- `writer::refusal` meets its contract: each answer is a line of the list, and the size is that of the object written.
+-- `object_writer::refusal` meets its contract: each answer is a line of the list, and the size is that of the object written.
 -- Assumes nothing.
 use mathlib.Core.Path.{_≡_, sym, ap, _∙_}
 use mathlib.Core.List.{List}

@@ -1,4 +1,4 @@
--- `writer::tag_size` meets its contract: by the test that the definition makes.
+-- `object_writer::tag_size` meets its contract: by the test that the definition makes.
 -- Assumes nothing.
 use mathlib.Core.Path.{sym, ap}
 use mathlib.Core.List.{List}

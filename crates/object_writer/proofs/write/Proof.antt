@@ -1,4 +1,4 @@
--- `writer::write` meets its contract: refused, it returns before anything is written; accepted, the object fits.
+-- `object_writer::write` meets its contract: refused, it returns before anything is written; accepted, the object fits.
 -- Assumes nothing.
 use mathlib.Core.Path.{_≡_, sym, _∙_}
 use Prim.Native.Nat.{ℕ, _<_}

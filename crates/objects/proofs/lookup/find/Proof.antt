@@ -1,6 +1,6 @@
 -- `lookup::find` meets its contract: the list check's refusal, and then the look-up in checked bytes.
 -- Assumes nothing.
-use mathlib.Core.Path.{_≡_, sym, ap, _∙_}
+use mathlib.Core.Path.{sym, ap, _∙_}
 use borrow.Author.Tests.{eq-eqb, ne-eqb}
 use borrow.Author.Needs.{needs}
 use Rattle.lists.proofs.Choice.{pick-yes, pick-no}
