@@ -90,16 +90,22 @@ def text(data):
     return data.hex().upper() or "-"
 
 
+def is_read(data):
+    return len(data) <= MOST and is_list(data)
+
+
 def ask_list(data):
     answer = "refused 9"
-    if len(data) <= MOST and is_list(data):
+    if is_read(data):
         answer = " ".join(member(*found) for found in walk(data)[0]) or "-"
     return f"LIST {text(data)}", answer
 
 
 def ask_find(tag, data):
-    values = [value for t, value in walk(data)[0] if t == tag]
-    answer = "absent" if not values else "once " + text(values[0]) if len(values) == 1 else "twice"
+    answer = "refused 9"
+    if is_read(data):
+        values = [value for t, value in walk(data)[0] if t == tag]
+        answer = "absent" if not values else "once " + text(values[0]) if len(values) == 1 else "twice"
     return f"FIND {tag:X} {text(data)}", answer
 
 
@@ -187,10 +193,32 @@ def depths():
     for levels in (1, 2, 150):
         for inner in ("", "5A0112", "00", "5A01", "5A80", "9F8000"):
             yield ask_list(nested(levels, hexed(inner)))
-    for inner in ("5A0112", "5A01"):
-        yield ask_list(nested(1000, hexed(inner)))
     for level in range(1, 6):
         yield ask_list(nested(5 - level, nested(level, b"") + hexed("5A02FF")))
+
+
+def deepest(inner, form):
+    """Constructed objects one in the other, as many as fit, each with the length field that `form` gives; '00' bytes fill up the rest."""
+    while True:
+        outer = b"\xE1" + form(len(inner)) + inner
+        if len(outer) > MOST:
+            return inner + bytes(MOST - len(inner))
+        inner = outer
+
+
+def deepest_nesting():
+    """With the shortest length form (1,066 levels), with '81' where it can hold the length, and with '82' throughout (1,024 levels);
+    with a fault at the bottom; one byte more, and one level more."""
+    forms = (lambda n: next(length_forms(n)), lambda n: next(f for f in length_forms(n) if len(f) > 1), lambda n: list(length_forms(n))[-1])
+    for form in forms:
+        yield ask_list(deepest(b"", form))
+    full = deepest(b"", forms[0])
+    yield ask_list(deepest(hexed("5A01"), forms[0]))
+    yield ask_list(full + b"\x00")
+    yield ask_list(encoded(0xE1, full))
+    yield ask_find(0xE1, full + b"\x00")
+    yield from rooms(0xE1, full[4:])
+    yield ask_write(0xE1, full, 5000)
 
 
 def sizes():
@@ -267,7 +295,7 @@ def rooms(tag, value):
 
 
 def writes():
-    for n in (0, 1, 127, 128, 255, 256, 4091, 4092, 4093, 4094, 4095, 4096):
+    for n in (0, 1, 127, 128, 255, 256, 4091, 4092, 4093, 4096):
         yield from rooms(0x5A, counting(n))
     for n in (0, 127, 128, 256, 4091, 4092):
         yield from rooms(0x9F02, counting(n))
@@ -295,7 +323,7 @@ def finds():
     for s in ("70065A01125A0134", "5A011270035A0134", "70035A011270035A0134", "77085A01125A0134820077005A00"):
         yield ask_find(0x5A, hexed(s))
         yield ask_find(0x70, hexed(s))
-    # what is read up to the break counts
+    # bytes that are no list are refused, also where the tag stands once or twice before the break
     for s in ("", "00", "5A", "5A02", "5A0112FF", "5A01125A", "5A01125A02", "5A01129F80005A0134", "5A01125A805A0134", "5A01129F02835A0134",
               "9F80005A0112", "00005A0112005A02", "70025A015A0112", "70065A015A0112", "5A00"):
         yield ask_find(0x5A, hexed(s))
@@ -330,7 +358,7 @@ def held_reader():
     yield ask_nth(10 ** 9, hexed("5A0112820219805A0134"))
 
 
-PARTS = (worked_cases, first_length_bytes, depths, sizes, tags, fillers, truncated_heads, random_lists, writes, finds, data_fields, spellings,
+PARTS = (worked_cases, first_length_bytes, depths, deepest_nesting, sizes, tags, fillers, truncated_heads, random_lists, writes, finds, data_fields, spellings,
          held_reader)
 
 

@@ -16,7 +16,7 @@ use Rattle.lists.proofs.Shorter.{by-length}
 use Rattle.heads.specs.Head.{constructed}
 use Rattle.objects.specs.Objects.{Object, between, isSome, before, rightInside, objects, isList}
 use Rattle.objects.specs.Place.{nextAt, dataField}
-use Rattle.objects.specs.Lookup.{Lookup, absent, once, twice, met, lookup, findIn, foundValue}
+use Rattle.objects.specs.Lookup.{Lookup, absent, once, twice, met, lookup, findInChecked, foundValue}
 use Rattle.objects.specs.declared.Found.{Found}
 use Rattle.heads.specs.declared.Next.{Next}
 use Rattle.heads.specs.declared.Next.the-variants.{Member, End, Broken}
@@ -169,7 +169,7 @@ pub inner-size : (tag name inner : ℕ) (a : List ℕ) → length (valueOf (amon
 inner-size tag name inner a = let outside = direct-size tag a name in omega (arith, among-size (valueOf (direct tag a name)) inner)
 
 -- what the search found tells what stands there
-pub by-place : (s : List ℕ) (name : ℕ) {r f : Found} → r ≡ findIn s name → r ≡ f → standing s name ≡ foundValue s f
+pub by-place : (s : List ℕ) (name : ℕ) {r f : Found} → r ≡ findInChecked s name → r ≡ f → standing s name ≡ foundValue s f
 unfolding standing
 by-place s name p q = ap (foundValue s) (sym p ∙ q)
 

@@ -8,7 +8,7 @@ use Prim.Native.Nat.{ℕ}
 use lib.Dec.{eqb}
 use Rattle.lists.specs.Choice.{pick}
 use Rattle.objects.specs.Objects.{Object, objects}
-use Rattle.objects.specs.Lookup.{Lookup, absent, once, twice, lookup, findIn, foundValue}
+use Rattle.objects.specs.Lookup.{Lookup, absent, once, twice, lookup, findInChecked, foundValue}
 use Rattle.lists.specs.Tables.{anyOf}
 use Rattle.card_data.specs.Answer.{inside}
 use Rattle.card_data.specs.Content.{rightValue}
@@ -33,9 +33,9 @@ among s name = lookup name (membersIn s)
 unfoldable pub direct : ℕ → List ℕ → ℕ → Lookup
 direct tag a = among (inside tag a)
 
--- the same by place, for bytes of any kind: in a list it finds what stands among the members
+-- the same by place, for bytes that were checked: in a list it finds what stands among the members
 unfoldable pub standing : List ℕ → ℕ → Lookup
-standing s name = foundValue s (findIn s name)
+standing s name = foundValue s (findInChecked s name)
 
 -- how often a name was found: 2 stands for twice and more
 unfoldable pub times : Lookup → ℕ

@@ -5,9 +5,9 @@ use crate::forms::lacks;
 use card_data::answer::frame_reason;
 use card_data::answer::inside;
 use card_data::answer::is_one;
-use card_data::named::any_times;
-use card_data::named::any_wrong;
-use card_data::named::value_of;
+use card_data::named::any_times_in_checked;
+use card_data::named::any_wrong_in_checked;
+use card_data::named::value_in_checked;
 use lists::byte;
 ghost use mathlib.Core.Path.{_≡_};
 ghost use Rattle.lists.specs.Choice.{firstOf};
@@ -42,7 +42,7 @@ fn information(answer: &[u8]) -> &[u8]
     if is_one(answer, JOINED) {
         inside(answer, JOINED)
     } else {
-        value_of(inside(answer, TEMPLATE), 0x9F27)
+        value_in_checked(inside(answer, TEMPLATE), 0x9F27)
     }
 }
 
@@ -57,7 +57,7 @@ fn is_wrong(answer: &[u8]) -> bool
     ensures { λ r. ⌜ r ≡ cryptogramWrong (now (answer .entry)) ⌝ }
 {
     let names = NAMES;
-    if any_wrong(inside(answer, TEMPLATE), &names) {
+    if any_wrong_in_checked(inside(answer, TEMPLATE), &names) {
         return true;
     }
     if is_one(answer, JOINED) {
@@ -74,7 +74,7 @@ fn content_reason(allowed: Allowed, answer: &[u8]) -> usize
 {
     let names = NAMES;
     let mandatory = MANDATORY;
-    if any_times(inside(answer, TEMPLATE), 2, &names) {
+    if any_times_in_checked(inside(answer, TEMPLATE), 2, &names) {
         return 4;
     }
     if is_wrong(answer) {

@@ -1,7 +1,7 @@
 // Answers that come as a template 77 of objects, or as 80 with their values joined.
 use card_data::answer::inside;
 use card_data::answer::is_one;
-use card_data::named::any_times;
+use card_data::named::any_times_in_checked;
 ghost use mathlib.Core.Path.{_≡_};
 ghost use Rattle.form_answers.specs.Forms.{lacks as lacksOf};
 
@@ -14,7 +14,7 @@ pub fn lacks(answer: &[u8], names: &[usize]) -> bool
     ensures { λ r. ⌜ r ≡ lacksOf (now (names .entry)) (now (answer .entry)) ⌝ }
 {
     if is_one(answer, TEMPLATE) {
-        any_times(inside(answer, TEMPLATE), 0, names)
+        any_times_in_checked(inside(answer, TEMPLATE), 0, names)
     } else {
         false
     }

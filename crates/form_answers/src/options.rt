@@ -5,9 +5,9 @@ use crate::forms::lacks;
 use card_data::answer::frame_reason;
 use card_data::answer::inside;
 use card_data::answer::is_one;
-use card_data::named::any_times;
-use card_data::named::any_wrong;
-use card_data::named::value_of;
+use card_data::named::any_times_in_checked;
+use card_data::named::any_wrong_in_checked;
+use card_data::named::value_in_checked;
 use lists::part;
 use locator::entries::are_right;
 use locator::entries::are_too_many;
@@ -25,7 +25,7 @@ pub fn profile(answer: &[u8]) -> &[u8]
     if is_one(answer, JOINED) {
         part(inside(answer, JOINED), 0, 2)
     } else {
-        value_of(inside(answer, TEMPLATE), 0x82)
+        value_in_checked(inside(answer, TEMPLATE), 0x82)
     }
 }
 
@@ -37,7 +37,7 @@ pub fn locator(answer: &[u8]) -> &[u8]
         let both = inside(answer, JOINED);
         part(both, 2, both.len())
     } else {
-        value_of(inside(answer, TEMPLATE), 0x94)
+        value_in_checked(inside(answer, TEMPLATE), 0x94)
     }
 }
 
@@ -45,7 +45,7 @@ fn is_wrong(answer: &[u8]) -> bool
     ensures { λ r. ⌜ r ≡ optionsWrong (now (answer .entry)) ⌝ }
 {
     let names = NAMES;
-    if any_wrong(inside(answer, TEMPLATE), &names) {
+    if any_wrong_in_checked(inside(answer, TEMPLATE), &names) {
         return true;
     }
     is_one(answer, JOINED) && !are_whole(locator(answer))
@@ -56,7 +56,7 @@ fn content_reason(answer: &[u8]) -> usize
     ensures { λ r. ⌜ r ≡ firstOf (optionsLines (now (answer .entry))) ⌝ }
 {
     let names = NAMES;
-    if any_times(inside(answer, TEMPLATE), 2, &names) {
+    if any_times_in_checked(inside(answer, TEMPLATE), 2, &names) {
         return 4;
     }
     if is_wrong(answer) {

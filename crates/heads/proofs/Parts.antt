@@ -1,4 +1,4 @@
--- Where the parts of a whole object lie: at least two bytes of head, then the value, within the bytes.
+-- Where the parts of a whole object lie: at least two bytes of head, then the value, within the bytes. No object begins with '00'.
 -- Assumes nothing.
 use mathlib.Core.Path.{_≡_, refl, sym, ap, _∙_, subst}
 use mathlib.Core.Bool.{Bool, true, false, not, _&&_}
@@ -8,8 +8,8 @@ use native.Mathlib.Nat.{le-refl, le-add-right}
 use native.Mathlib.Omega.{arith}
 use lib.Dec.{leb, eqb}
 use lib.ListN.{length, getD}
-use borrow.Author.Tests.{leb-true, eqb-false, not-true}
-use Rattle.lists.proofs.Choice.{picked, and-left, and-right}
+use borrow.Author.Tests.{leb-true, eqb-false, eq-eqb, not-true}
+use Rattle.lists.proofs.Choice.{pick-yes, picked, and-left, and-right}
 use Rattle.heads.specs.Head.{twoBytes, tagSize, tagRight, lengthSize, lengthOf, valueStart, valueEnd, whole}
 
 pub record Within (start end size : ℕ) : Type 0 where
@@ -32,3 +32,12 @@ whole-within s e =
       order = le-add-right _ _;
       fits = leb-true _ _ (and-right (not (eqb (lengthSize s) 0)) _ rest);
     }
+
+-- '00' is no tag, so no object stands where such a byte does
+pub zero-no-tag : (s : List ℕ) → getD s 0 0 ≡ 0 → tagRight s ≡ false
+unfolding tagRight
+zero-no-tag s e = pick-yes _ _ _ (eq-eqb _ _ e)
+
+pub zero-not-whole : (s : List ℕ) → getD s 0 0 ≡ 0 → whole s ≡ false
+unfolding whole
+zero-not-whole s e = rw (zero-no-tag s e)

@@ -29,9 +29,9 @@ tagSize s = pick (twoBytes (getD s 0 0)) 2 1
 unfoldable pub tagOf : List ℕ → ℕ
 tagOf s = pick (twoBytes (getD s 0 0)) (256 * getD s 0 0 + getD s 1 0) (getD s 0 0)
 
--- a second tag byte is '00' to '7F'
+-- a tag stands at the front: its first byte is not '00', and where a second one follows, that is '00' to '7F'
 unfoldable pub tagRight : List ℕ → Bool
-tagRight s = pick (twoBytes (getD s 0 0)) (ltb (getD s 1 0) 0x80) true
+tagRight s = pick (eqb (getD s 0 0) 0) false (pick (twoBytes (getD s 0 0)) (ltb (getD s 1 0) 0x80) true)
 
 -- the first length byte
 unfoldable pub lengthByte : List ℕ → ℕ

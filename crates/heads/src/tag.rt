@@ -40,10 +40,14 @@ pub fn tag_of(s: &[u8]) -> usize
     }
 }
 
+// Whether a tag stands at the front.
 pub fn is_tag_right(s: &[u8]) -> bool
     ensures { λ r. ⌜ r ≡ tagRight (now (s .entry)) ⌝ }
 {
-    if has_two_bytes(byte(s, 0)) {
+    let first = byte(s, 0);
+    if first == 0 {
+        false
+    } else if has_two_bytes(first) {
         byte(s, 1) < 0x80
     } else {
         true

@@ -1,7 +1,8 @@
--- Tests: several at once, a number between two limits, two lists that are the same.
+-- Tests: several at once, a number between two limits, two lists that are the same, something that is there.
 -- Assumes nothing.
 use mathlib.Core.Bool.{Bool, true, false}
 use mathlib.Core.List.{List, [], _∷_}
+use mathlib.Core.Option.{Option, none, some}
 use Prim.Native.Nat.{ℕ}
 use lib.Dec.{leb, eqb}
 use Rattle.lists.specs.Choice.{pick}
@@ -21,3 +22,8 @@ alike [] [] = true
 alike [] (b ∷ bs) = false
 alike (a ∷ as′) [] = false
 alike (a ∷ as′) (b ∷ bs) = pick (eqb a b) (alike as′ bs) false
+
+-- whether there is something
+unfoldable pub isSome : {A : Type 0} → Option A → Bool
+isSome none = false
+isSome (some a) = true

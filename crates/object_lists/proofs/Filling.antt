@@ -14,7 +14,7 @@ use Rattle.lists.specs.Writing.{zeros, put}
 use Rattle.lists.proofs.Choice.{pick-yes, pick-no}
 use Rattle.lists.proofs.Writing.{zeros-length, put-step}
 use Rattle.heads.specs.Head.{tagOf, tagSize}
-use Rattle.objects.specs.Objects.{isSome}
+use Rattle.lists.specs.Tests.{isSome}
 use Rattle.terminal.specs.Reading.{Terminal}
 use Rattle.wanted.specs.Wanted.{Wanted, andThen, sizeAt, firstWanted, entriesOf, total, totalBy, totalOf, most, fillable, tally}
 use Rattle.object_lists.specs.Filled.{entryBytes, firstBytes, filled, filledBy, filledList, filling}

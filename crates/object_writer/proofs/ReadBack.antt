@@ -35,14 +35,15 @@ module _ (t : ℕ) (r : List ℕ) (ok : isTag t ≡ true) where
   short-tag h =
       let small = lt-ltb t 256 h in
       let tests : (not (eqb t 0) && not (twoBytes t)) ≡ true = sym (pick-yes _ _ _ small) ∙ ok in
+      let some-tag = not-true (eqb t 0) (and-left _ _ tests) in
       let one = not-true (twoBytes t) (and-right (not (eqb t 0)) _ tests) in
       let bytes : tagBytes t ≡ t ∷ [] = pick-yes _ _ _ small in
       rw bytes
       (record {
         size = pick-no _ _ _ one ∙ sym (ap length bytes);
         tag = pick-no _ _ _ one;
-        right = pick-no _ _ _ one;
-        due = not-true _ (and-left _ _ tests);
+        right = pick-no _ _ _ some-tag ∙ pick-no _ _ _ one;
+        due = some-tag;
       })
 
   long-tag : 256 ≤ t → TagBack t (tagBytes t ++ r)
@@ -54,13 +55,13 @@ module _ (t : ℕ) (r : List ℕ) (ok : isTag t ≡ true) where
       let two = and-left (twoBytes (t / 256)) _ rest in
       let bytes : tagBytes t ≡ t / 256 ∷ t % 256 ∷ [] = pick-no _ _ _ large in
       let joined : 256 * (t / 256) + t % 256 ≡ t = omega arith in
-      let some-bits : t / 256 ≡ 0 → ⊥ = λ (e : t / 256 ≡ 0). omega arith in
+      let some-tag = ne-eqb (t / 256) 0 (λ (e : t / 256 ≡ 0). omega arith) in
       rw bytes
       (record {
         size = pick-yes _ _ _ two ∙ sym (ap length bytes);
         tag = pick-yes _ _ _ two ∙ joined;
-        right = pick-yes _ _ _ two ∙ and-right (twoBytes (t / 256)) _ rest;
-        due = ne-eqb _ _ some-bits;
+        right = pick-no _ _ _ some-tag ∙ (pick-yes _ _ _ two ∙ and-right (twoBytes (t / 256)) _ rest);
+        due = some-tag;
       })
 
   tag-back : TagBack t (tagBytes t ++ r)

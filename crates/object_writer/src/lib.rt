@@ -2,7 +2,7 @@
 use heads::tag::has_two_bytes;
 use heads::tag::is_constructed;
 use lists::lay;
-use objects::list::is_list;
+use objects::place::list_refusal;
 ghost use mathlib.Core.Path.{_≡_};
 ghost use Prim.Native.Nat.{_+_, _<_, _≤_};
 ghost use lib.ListN.{length};
@@ -39,10 +39,11 @@ fn is_tag(t: usize) -> bool
 }
 
 fn fits_tag(tag: usize, value: &[u8]) -> bool
+    requires { ⌜ length (now value) ≤ 4096 ⌝ }
     ensures { λ r. ⌜ r ≡ fitsTag tag (now (value .entry)) ⌝ }
 {
     if is_constructed(tag) {
-        is_list(value)
+        list_refusal(value) == 0
     } else {
         true
     }
@@ -66,7 +67,7 @@ fn length_size(n: usize) -> usize
     }
 }
 
-// The refusal's number, or 0. The size goes before the list check, whose depth it bounds.
+// The refusal's number, or 0. The size goes before the list check, which refuses over 4,096 bytes by another number.
 fn refusal(tag: usize, value: &[u8], room: usize) -> usize
     ensures { λ r. ⌜ r ≡ writeRefusal tag (now (value .entry)) room ⌝ }
 {

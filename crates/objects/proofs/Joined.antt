@@ -58,7 +58,7 @@ module _ (a b : List ℕ) (w : whole a ≡ true) where
 
   same-right : tagRight (a ++ b) ≡ tagRight a
   unfolding tagRight
-  same-right = ap₂ (λ (f g : ℕ). pick (twoBytes f) (ltb g 0x80) true) same-first same-second
+  same-right = ap₂ (λ (f g : ℕ). pick (eqb f 0) false (pick (twoBytes f) (ltb g 0x80) true)) same-first same-second
 
   -- a byte of the head after the tag
   same-later : (k : ℕ) → k < lengthSize a → getD (a ++ b) (tagSize (a ++ b) + k) 0 ≡ getD a (tagSize a + k) 0

@@ -1,18 +1,17 @@
 -- Worked lists that hold the definitions to document 01: each is read, or refused, by computation.
 -- Assumes nothing.
-use mathlib.Core.Path.{_≡_, refl, ap, _∙_}
-use mathlib.Core.Bool.{true, false, not}
+use mathlib.Core.Path.{_≡_, refl}
+use mathlib.Core.Bool.{false}
 use mathlib.Core.List.{List, [], _∷_}
 use mathlib.Core.Option.{Option, none, some}
-use Prim.Native.Nat.{ℕ, _≤_, _<_}
-use lib.Dec.{ltb}
-use lib.ListN.{length}
-use borrow.Author.Tests.{lt-ltb, le-ltb}
+use Prim.Native.Nat.{ℕ}
 use Rattle.lists.specs.Choice.{pick, firstOf}
-use Rattle.lists.proofs.Choice.{pick-yes, pick-no, pick-same}
 use Rattle.lists.specs.Shorter.{counted, shorter}
 use Rattle.heads.specs.Head.{firstByte, constructed, twoBytes, tagSize, tagOf, tagRight, lengthByte, lengthForm, lengthSize, lengthOf, valueStart, valueEnd, whole}
 use Rattle.objects.specs.Objects.{Object, between, firstObject, isSome, before, rightInside, listed, objects, isList, readRefusal}
+use Rattle.objects.specs.Lookup.{seek}
+use Rattle.objects.specs.declared.Sought.{Sought}
+use Rattle.objects.specs.declared.Sought.the-variants.{Refused}
 
 object : ℕ → List ℕ → Object
 object t v = record { tag = t; value = v }
@@ -64,15 +63,16 @@ plain : reads (0x5A ∷ 0x02 ∷ 0x5A ∷ 0x01 ∷ []) ≡ some (object 0x5A (0x
 unfolding reads object
 plain = refl
 
--- refusal 9: over 4,096 bytes, or no list; and only then
-over : (s : List ℕ) → 4096 < length s → readRefusal s ≡ 9
-unfolding readRefusal firstOf
-over s h = pick-yes _ _ _ (lt-ltb 4096 (length s) h)
+-- '00' is no tag: where an object is due it is passed over, and read as a head it is none
+no-tag : (reads (0x00 ∷ 0x00 ∷ []) ≡ some []) × (whole (0x00 ∷ 0x00 ∷ []) ≡ false)
+unfolding reads whole tagRight pick
+no-tag = (refl, refl)
 
-no-list : (s : List ℕ) → isList s ≡ false → readRefusal s ≡ 9
-unfolding readRefusal firstOf
-no-list s e = ap (pick (ltb 4096 (length s)) 9) (pick-yes _ _ _ (ap not e)) ∙ pick-same _ _
+-- bytes that are no list are refused by a look-up, also of a tag that stands before the break, or of none
+looks-up : List ℕ → ℕ → Sought
+unfolding reads isList firstOf readRefusal seek
+looks-up s tag = seek s tag
 
-read : (s : List ℕ) → length s ≤ 4096 → isList s ≡ true → readRefusal s ≡ 0
-unfolding readRefusal firstOf
-read s h e = pick-no _ _ _ (le-ltb 4096 (length s) h) ∙ pick-no _ _ _ (ap not e)
+no-look-up : (looks-up (0x5A ∷ 0x01 ∷ 0x12 ∷ 0xFF ∷ []) 0x5A ≡ Refused) × (looks-up (0x5A ∷ 0x01 ∷ 0x12 ∷ 0xFF ∷ []) 0x82 ≡ Refused)
+unfolding looks-up
+no-look-up = (refl, refl)

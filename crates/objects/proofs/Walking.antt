@@ -13,7 +13,7 @@ use Rattle.lists.specs.Choice.{pick}
 use Rattle.lists.proofs.Choice.{pick-yes, pick-no, picked, either}
 use Rattle.objects.specs.Objects.{Object, between, before, rightInside, objects}
 use Rattle.objects.specs.Place.{Place, objectAt, follow, walk, placesFrom, nextAt}
-use Rattle.objects.specs.Lookup.{Lookup, absent, once, twice, met, lookup, firstAmong, firstFrom, unless, alone, findIn, foundValue}
+use Rattle.objects.specs.Lookup.{Lookup, absent, once, twice, met, lookup, firstAmong, firstFrom, unless, alone, findInChecked, foundValue}
 use Rattle.heads.specs.declared.Next.{Next}
 use Rattle.heads.specs.declared.Next.the-variants.{Member, End, Broken}
 use Rattle.objects.specs.declared.Found.{Found}
@@ -129,6 +129,6 @@ module _ (s : List ℕ) (tag : ℕ) where
   lookup-walk (suc n) at h = lookup-step n at (nextAt s at) refl h (λ end k. lookup-walk n end k)
 
   -- a look-up by place finds what a look-up among the members finds
-  pub find-lookup : (ms : List Object) → objects s ≡ some ms → lookup tag ms ≡ foundValue s (findIn s tag)
-  unfolding findIn firstFrom placesFrom again
+  pub find-lookup : (ms : List Object) → objects s ≡ some ms → lookup tag ms ≡ foundValue s (findInChecked s tag)
+  unfolding findInChecked firstFrom placesFrom again
   find-lookup ms e = ap (lookup tag) (sym (places-members s ms e)) ∙ lookup-walk (length s) 0 (omega arith)

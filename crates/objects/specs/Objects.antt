@@ -1,6 +1,6 @@
 -- Which bytes are a list of data objects, and of which objects. 01, "Data objects"; 000, Annex C.
 -- Assumes nothing.
-use mathlib.Core.Bool.{Bool, true, false, not, _&&_}
+use mathlib.Core.Bool.{Bool, true, not, _&&_}
 use mathlib.Core.List.{List, [], _∷_}
 use mathlib.Core.Option.{Option, none, some}
 use Prim.Native.Nat.{ℕ, _-_}
@@ -9,6 +9,7 @@ use lib.ListN.{length, getD, take, drop}
 use Rattle.lists.specs.Choice.{pick, firstOf}
 use Rattle.lists.specs.Shorter.{shorter}
 use Rattle.heads.specs.Head.{constructed, tagOf, valueStart, valueEnd, whole}
+unfoldable pub use Rattle.lists.specs.Tests.{isSome}
 
 pub record Object : Type 0 where
   pub tag : ℕ
@@ -21,10 +22,6 @@ between s a e = take (e - a) (drop a s)
 -- the object at the front of some bytes
 unfoldable pub firstObject : List ℕ → Object
 firstObject s = record { tag = tagOf s; value = between s (valueStart s) (valueEnd s) }
-
-unfoldable pub isSome : {A : Type 0} → Option A → Bool
-isSome none = false
-isSome (some a) = true
 
 -- an object before the others, where those are a list
 unfoldable pub before : Object → Option (List Object) → Option (List Object)

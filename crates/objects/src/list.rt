@@ -5,8 +5,8 @@ use heads::tag::is_constructed;
 ghost use mathlib.Core.Path.{_≡_};
 ghost use Rattle.objects.specs.Objects.{isList};
 
-// Whether the bytes are a list of objects, at every depth. It calls itself on the value of each constructed object, so
-// whoever lends bytes bounds their number first.
+// Whether the bytes are a list of objects, at every depth. It calls itself on the value of each constructed object;
+// `list_refusal`, through which alone other crates reach it, tests the 4,096 bytes first.
 pub fn is_list(s: &[u8]) -> bool
     ensures { λ r. ⌜ r ≡ isList (now (s .entry)) ⌝ }
 {

@@ -1,7 +1,7 @@
 // Answers questions on data objects, one to a line of standard input. Bytes are in hexadecimal, `-` for none.
 //
 //     LIST bytes             the direct members as TAG:VALUE, or the refusal
-//     FIND tag bytes         whether the tag stands among them: absent, once with its value, or twice
+//     FIND tag bytes         whether the tag stands among them: absent, once with its value, or twice; or the refusal
 //     HELD bytes             the objects that a held reader gives, to the end or to the first bytes that are none
 //     NTH n bytes            the one of them with n others before it
 //     DATA answer            the data field of a card's answer

@@ -2,6 +2,7 @@
 use heads::Next;
 use hexadecimal::unhex;
 use objects::Found;
+use objects::Sought;
 use objects::lookup;
 use objects::place;
 use text::after_word;
@@ -56,11 +57,18 @@ pub fn print_member(tag: usize, value: &[u8]) {
 pub fn find(words: &[u8]) {
     let mut bytes = [0u8; 5000];
     let n = unhex(after_word(words), &mut bytes);
-    print_found(hex_number(words), &bytes[0..n]);
+    print_sought(hex_number(words), &bytes[0..n]);
 }
 
-fn print_found(tag: usize, s: &[u8]) {
+fn print_sought(tag: usize, s: &[u8]) {
     match lookup::find(s, tag) {
+        Sought::Refused => printing::text(b"refused 9"),
+        Sought::InList(found) => print_found(found, s),
+    }
+}
+
+fn print_found(found: Found, s: &[u8]) {
+    match found {
         Found::Absent => printing::text(b"absent"),
         Found::Twice => printing::text(b"twice"),
         Found::Once { start, end } => {

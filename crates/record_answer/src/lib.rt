@@ -1,10 +1,10 @@
 // The answer to READ RECORD, and what all records together must tell.
 use card_data::answer::frame_reason;
 use card_data::answer::inside;
-use card_data::named::any_times;
-use card_data::named::any_wrong;
-use card_data::named::times;
-use card_data::named::value_of;
+use card_data::named::any_times_in_checked;
+use card_data::named::any_wrong_in_checked;
+use card_data::named::times_in_checked;
+use card_data::named::value_in_checked;
 use wanted::is_fillable;
 ghost use mathlib.Core.Path.{_≡_};
 ghost use mathlib.Core.Bool.{not};
@@ -65,7 +65,7 @@ fn was_told(seen: Seen, name: usize) -> bool
 fn is_again(seen: Seen, s: &[u8], name: usize) -> bool
     ensures { λ r. ⌜ r ≡ again (toldBy seen name) (standing (now (s .entry)) name) ⌝ }
 {
-    was_told(seen, name) && times(s, name) != 0
+    was_told(seen, name) && times_in_checked(s, name) != 0
 }
 
 // Whether one of the names stands there, and had been told before.
@@ -87,7 +87,7 @@ fn is_twice(seen: Seen, answer: &[u8]) -> bool
 {
     let names = NAMES;
     let s = inside(answer, RECORD);
-    if any_times(s, 2, &names) {
+    if any_times_in_checked(s, 2, &names) {
         return true;
     }
     any_again(seen, s, &names)
@@ -101,7 +101,7 @@ fn content_reason(seen: Seen, answer: &[u8]) -> usize
         return 4;
     }
     let names = NAMES;
-    if any_wrong(inside(answer, RECORD), &names) {
+    if any_wrong_in_checked(inside(answer, RECORD), &names) {
         return 5;
     }
     0
@@ -123,14 +123,14 @@ pub fn record_reason(seen: Seen, answer: &[u8]) -> usize
 pub fn has_value(answer: &[u8], name: usize) -> bool
     ensures { λ r. ⌜ r ≡ isSome (valueIn name (now (answer .entry))) ⌝ }
 {
-    times(inside(answer, RECORD), name) == 1
+    times_in_checked(inside(answer, RECORD), name) == 1
 }
 
 // That value; nothing where it tells none.
 pub fn record_value(answer: &[u8], name: usize) -> &[u8]
     ensures { λ r. ⌜ now r ≡ Option·getD (valueIn name (now (answer .entry))) [] ⌝ }
 {
-    value_of(inside(answer, RECORD), name)
+    value_in_checked(inside(answer, RECORD), name)
 }
 
 // Whether one of the names was not told.

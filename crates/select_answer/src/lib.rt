@@ -1,10 +1,10 @@
 // The answer to SELECT.
 use card_data::answer::frame_reason;
 use card_data::answer::inside;
-use card_data::named::any_times;
-use card_data::named::any_wrong;
-use card_data::named::times;
-use card_data::named::value_of;
+use card_data::named::any_times_in_checked;
+use card_data::named::any_wrong_in_checked;
+use card_data::named::times_in_checked;
+use card_data::named::value_in_checked;
 use terminal::fields;
 use wanted::is_fillable;
 ghost use mathlib.Core.Path.{_≡_};
@@ -23,14 +23,14 @@ const INNER_NAMES: [usize; 1] = [0x9F38];
 fn proprietary(answer: &[u8]) -> &[u8]
     ensures { λ r. ⌜ now r ≡ valueOf (direct 0x6F (now (answer .entry)) 0xA5) ⌝ }
 {
-    value_of(inside(answer, SELECTED), 0xA5)
+    value_in_checked(inside(answer, SELECTED), 0xA5)
 }
 
 // The list of what GPO wants to be told; empty where the card has none.
 pub fn pdol(answer: &[u8]) -> &[u8]
     ensures { λ r. ⌜ now r ≡ pdolOf (now (answer .entry)) ⌝ }
 {
-    value_of(proprietary(answer), 0x9F38)
+    value_in_checked(proprietary(answer), 0x9F38)
 }
 
 fn begins(aid: &[u8], v: &[u8]) -> bool
@@ -55,29 +55,29 @@ fn is_name_wrong(aid: &[u8], answer: &[u8]) -> bool
     ensures { λ r. ⌜ r ≡ nameWrong (now (aid .entry)) (direct 0x6F (now (answer .entry)) 0x84) ⌝ }
 {
     let s = inside(answer, SELECTED);
-    times(s, 0x84) == 1 && !begins(aid, value_of(s, 0x84))
+    times_in_checked(s, 0x84) == 1 && !begins(aid, value_in_checked(s, 0x84))
 }
 
 fn is_twice(answer: &[u8]) -> bool
     ensures { λ r. ⌜ r ≡ selectTwice (now (answer .entry)) ⌝ }
 {
     let names = NAMES;
-    if any_times(inside(answer, SELECTED), 2, &names) {
+    if any_times_in_checked(inside(answer, SELECTED), 2, &names) {
         return true;
     }
     let inner = INNER_NAMES;
-    any_times(proprietary(answer), 2, &inner)
+    any_times_in_checked(proprietary(answer), 2, &inner)
 }
 
 fn is_wrong(aid: &[u8], answer: &[u8]) -> bool
     ensures { λ r. ⌜ r ≡ selectWrong (now (aid .entry)) (now (answer .entry)) ⌝ }
 {
     let names = NAMES;
-    if any_wrong(inside(answer, SELECTED), &names) {
+    if any_wrong_in_checked(inside(answer, SELECTED), &names) {
         return true;
     }
     let inner = INNER_NAMES;
-    if any_wrong(proprietary(answer), &inner) {
+    if any_wrong_in_checked(proprietary(answer), &inner) {
         return true;
     }
     is_name_wrong(aid, answer)
@@ -94,7 +94,7 @@ fn content_reason(aid: &[u8], answer: &[u8]) -> usize
         return 5;
     }
     let names = NAMES;
-    if any_times(inside(answer, SELECTED), 0, &names) {
+    if any_times_in_checked(inside(answer, SELECTED), 0, &names) {
         return 8;
     }
     if !is_fillable(pdol(answer)) {

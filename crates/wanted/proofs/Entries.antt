@@ -1,26 +1,26 @@
 -- An object list, an entry at a time: what it asks for and how much go by the entry at the front and the rest.
 -- Assumes nothing.
 use mathlib.Core.Path.{_≡_, refl, sym, ap, ap₂, _∙_}
-use mathlib.Core.Bool.{Bool, true, false, not, _&&_, false≢true}
+use mathlib.Core.Bool.{true, false, false≢true}
 use mathlib.Core.List.{List, [], _∷_, _++_}
 use mathlib.Core.Option.{Option, none, some}
 use Prim.Native.Nat.{ℕ, _+_, _-_, _≤_, _<_, min}
 use native.Mathlib.Nat.{add-assoc, zero-add, add-zero, not-suc-le-zero}
 use native.Mathlib.Omega.{arith}
 use lib.Dec.{eqb, leb}
-use lib.ListN.{length, getD, take, drop, replicate, length-drop, length-append, length-replicate, length-take}
+use lib.ListN.{length, drop, length-drop}
 use borrow.Author.Tests.{eqb-false, ne-eqb, leb-true, le-leb, lt-leb}
 use Rattle.lists.specs.Choice.{pick}
 use Rattle.lists.specs.Shorter.{Asks}
 use Rattle.lists.proofs.Choice.{pick-yes, pick-no, pick-cong, picked, either, and-left, and-right}
 use Rattle.lists.proofs.Shorter.{equation}
 use Rattle.heads.specs.Head.{tagOf, tagRight, tagSize}
-use Rattle.objects.specs.Objects.{isSome}
+use Rattle.lists.specs.Tests.{isSome}
 use Rattle.wanted.specs.Wanted.{Wanted, andThen, sizeAt, firstWanted, asks, wantedStep, entriesOf, total, totalBy, totalOf, most, fits, fillable, tally}
 
 pub entry-fits : (s : List ℕ) → asks s ≡ true → tagSize s + 1 ≤ length s
 unfolding asks
-entry-fits s e = leb-true _ _ (and-right (tagRight s) _ (and-right (not (eqb (getD s 0 0) 0)) _ e))
+entry-fits s e = leb-true _ _ (and-right (tagRight s) _ e)
 
 step-asks : Asks wantedStep
 unfolding wantedStep

@@ -1,7 +1,7 @@
 -- What an object list asks for: tags, by the rule of data objects, each with one length byte. 01, "The commands";
 -- 000, II-1.4.
 -- Assumes nothing.
-use mathlib.Core.Bool.{Bool, true, false, not, _&&_}
+use mathlib.Core.Bool.{Bool, true, false, _&&_}
 use mathlib.Core.List.{List, [], _∷_}
 use mathlib.Core.Option.{Option, none, some}
 use Prim.Native.Nat.{ℕ, _+_}
@@ -27,9 +27,9 @@ sizeAt s = getD s (tagSize s) 0
 unfoldable pub firstWanted : List ℕ → Wanted
 firstWanted s = record { tag = tagOf s; size = sizeAt s }
 
--- a legal tag stands at the front, and its length byte after it. '00' is no tag here
+-- a legal tag stands at the front, and its length byte after it. '00' is no tag, and means nothing only between objects
 unfoldable pub asks : List ℕ → Bool
-asks s = not (eqb (getD s 0 0) 0) && (tagRight s && leb (tagSize s + 1) (length s))
+asks s = tagRight s && leb (tagSize s + 1) (length s)
 
 unfoldable pub wantedStep : (List ℕ → Option (List Wanted)) → List ℕ → Option (List Wanted)
 wantedStep entries s =

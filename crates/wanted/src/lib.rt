@@ -10,9 +10,7 @@ ghost use Rattle.wanted.specs.Wanted.{sizeAt, asks, fillable, tally};
 fn is_entry(s: &[u8]) -> bool
     ensures { λ r. ⌜ r ≡ asks (now (s .entry)) ⌝ }
 {
-    if byte(s, 0) == 0 {
-        false
-    } else if is_tag_right(s) {
+    if is_tag_right(s) {
         tag_size(s) + 1 <= s.len()
     } else {
         false

@@ -1,7 +1,10 @@
 -- `object_writer::fits_tag` meets its contract: the list check, asked only of a constructed object's value.
 -- Assumes nothing.
-use mathlib.Core.Path.{sym, _∙_}
+use mathlib.Core.Path.{sym, ap, _∙_}
+use Prim.Native.Nat.{ℕ}
+use lib.Dec.{eqb}
 use Rattle.lists.proofs.Choice.{pick-yes, pick-no}
+use Rattle.objects.proofs.Refusals.{checked}
 use Rattle.object_writer.specs.Written.{fitsTag}
 use borrow.Author.Needs.{needs}
 use Rattle.object_writer.proofs.fits_tag.Statement.{statement}
@@ -10,7 +13,10 @@ use Rattle.object_writer.proofs.fits_tag.Tie as tie
 returns : tie.Need-returns
 unfolding fitsTag
 returns c =
-    c .is-list .ensures ∙ sym (pick-yes _ _ _ (sym (c .before .before .is-constructed .ensures) ∙ c .before .if1 .taken))
+    let v = c .before .before .before .before .args .value .now in
+    ap (λ (n : ℕ). eqb n 0) (c .list-refusal .ensures)
+    ∙ (checked v (c .before .before .before .before .pre)
+    ∙ sym (pick-yes _ _ _ (sym (c .before .before .is-constructed .ensures) ∙ c .before .if1 .taken)))
 
 returns-2 : tie.Need-returns-2
 unfolding fitsTag

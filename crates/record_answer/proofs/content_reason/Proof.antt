@@ -9,8 +9,8 @@ use Rattle.record_answer.proofs.Standing.{record-found}
 use Rattle.record_answer.proofs.content_reason.Statement.{statement}
 use Rattle.record_answer.proofs.content_reason.Tie as tie
 
-found : (c : tie.After-any-wrong) → c .any-wrong .result ≡ anyWrong recordNames (direct 0x70 (c .before .before .before .before .before .before .args .answer .now))
-found c = c .any-wrong .ensures ∙ ap (anyWrong recordNames) (record-found _ (c .before .before .inside .ensures))
+found : (c : tie.After-any-wrong-in-checked) → c .any-wrong-in-checked .result ≡ anyWrong recordNames (direct 0x70 (c .before .before .before .before .before .before .args .answer .now))
+found c = c .any-wrong-in-checked .ensures ∙ ap (anyWrong recordNames) (record-found _ (c .before .before .inside .ensures))
 
 returns : tie.Need-returns
 unfolding recordLines

@@ -13,7 +13,7 @@ use Rattle.record_answer.proofs.is_again.Tie as tie
 returns : tie.Need-returns
 unfolding again
 returns c =
-    ap (λ (n : ℕ). not (eqb n 0)) (c .times .ensures)
+    ap (λ (n : ℕ). not (eqb n 0)) (c .times-in-checked .ensures)
     ∙ sym (and-yes (c .before .before .was-told .ensures) _ (c .before .if1 .taken))
 
 returns-2 : tie.Need-returns-2

@@ -9,8 +9,8 @@ use Rattle.record_answer.proofs.Standing.{record-found}
 use Rattle.record_answer.proofs.is_twice.Statement.{statement}
 use Rattle.record_answer.proofs.is_twice.Tie as tie
 
-found : (c : tie.After-any-times) → c .any-times .result ≡ anyTimes 2 recordNames (direct 0x70 (c .before .before .before .before .args .answer .now))
-found c = c .any-times .ensures ∙ ap (anyTimes 2 recordNames) (record-found _ (c .before .before .inside .ensures))
+found : (c : tie.After-any-times-in-checked) → c .any-times-in-checked .result ≡ anyTimes 2 recordNames (direct 0x70 (c .before .before .before .before .args .answer .now))
+found c = c .any-times-in-checked .ensures ∙ ap (anyTimes 2 recordNames) (record-found _ (c .before .before .inside .ensures))
 
 returns : tie.Need-returns
 unfolding recordTwice

@@ -14,7 +14,7 @@ returns : tie.Need-returns
 unfolding valueIn valueOf
 returns c =
     let name = c .before .before .before .args .name in
-    c .value-of .ensures ∙ ap (λ (look : ℕ → Lookup). valueOf (look name)) (record-found _ (c .before .inside .ensures))
+    c .value-in-checked .ensures ∙ ap (λ (look : ℕ → Lookup). valueOf (look name)) (record-found _ (c .before .inside .ensures))
 
 pub record-value-spec : {M : Type 1} → statement M
 record-value-spec = tie.close (tie.spec (λ c κs. search needs) (λ c κs. search needs) returns)

@@ -27,8 +27,8 @@ at-2 : (c : tie.Else2) → From 2 (c .before .before .before .before .before .be
 unfolding selectLines
 at-2 c = at-1 (c .before .before) ∙ line-no (c .before .is-wrong .ensures) 5 _ (c .if2 .left)
 
-missing : (c : tie.After-any-times) → c .any-times .result ≡ anyTimes 0 selectNames (direct 0x6F (c .before .before .before .before .before .before .before .before .before .args .answer .now))
-missing c = c .any-times .ensures ∙ ap (anyTimes 0 selectNames) (select-found _ (c .before .before .inside .ensures))
+missing : (c : tie.After-any-times-in-checked) → c .any-times-in-checked .result ≡ anyTimes 0 selectNames (direct 0x6F (c .before .before .before .before .before .before .before .before .before .args .answer .now))
+missing c = c .any-times-in-checked .ensures ∙ ap (anyTimes 0 selectNames) (select-found _ (c .before .before .inside .ensures))
 
 at-3 : (c : tie.Else3) → From 3 (c .before .before .before .before .before .before .before .before .before .before .args .aid .now) (c .before .before .before .before .before .before .before .before .before .before .args .answer .now)
 unfolding selectLines

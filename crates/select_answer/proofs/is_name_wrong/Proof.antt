@@ -35,14 +35,14 @@ returns c =
     let b = c .before .before .before in
     let aid = b .before .before .before .before .args .aid .now in
     let look = found (b .before) in
-    ap not (c .begins .ensures ∙ ap (begins aid) (c .before .value-of .ensures ∙ ap valueOf look))
-    ∙ there aid _ (sym (b .times .ensures ∙ ap times look) ∙ c .before .before .if1 .taken)
+    ap not (c .begins .ensures ∙ ap (begins aid) (c .before .value-in-checked .ensures ∙ ap valueOf look))
+    ∙ there aid _ (sym (b .times-in-checked .ensures ∙ ap times look) ∙ c .before .before .if1 .taken)
 
 returns-2 : tie.Need-returns-2
 returns-2 c =
     let b = c .before in
     let aid = b .before .before .before .before .args .aid .now in
-    let n = b .times .ensures ∙ ap times (found (b .before)) in
+    let n = b .times-in-checked .ensures ∙ ap times (found (b .before)) in
     ap (λ (k : ℕ). eqb k 1) n ∙ not-there aid _ (λ e. c .if1 .left (n ∙ e))
 
 pub is-name-wrong-spec : {M : Type 1} → statement M

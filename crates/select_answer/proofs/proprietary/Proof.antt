@@ -10,7 +10,7 @@ use Rattle.select_answer.proofs.proprietary.Statement.{statement}
 use Rattle.select_answer.proofs.proprietary.Tie as tie
 
 returns : tie.Need-returns
-returns c = c .value-of .ensures ∙ ap (λ (look : ℕ → Lookup). valueOf (look 0xA5)) (select-found _ (c .before .inside .ensures))
+returns c = c .value-in-checked .ensures ∙ ap (λ (look : ℕ → Lookup). valueOf (look 0xA5)) (select-found _ (c .before .inside .ensures))
 
 pub proprietary-spec : {M : Type 1} → statement M
 proprietary-spec = tie.close (tie.spec (λ c κs. search needs) (λ c κs. search needs) returns)

@@ -16,7 +16,7 @@ returns : tie.Need-returns
 unfolding wrongValue foundValue
 returns c =
     let b = c .before .before in
-    sym (ap (wrongValue _) (by-place _ _ (b .find .ensures) (c .enum-told .given .1)))
+    sym (ap (wrongValue _) (by-place _ _ (b .find-in-checked .ensures) (c .enum-told .given .1)))
 
 returns-2 : tie.Need-returns-2
 unfolding wrongValue foundValue
@@ -24,13 +24,13 @@ returns-2 c =
     let b = c .before .before .before .before .before in
     let name = b .before .before .args .name in
     ap not (c .is-right .ensures ∙ ap (rightValue name) (c .before .value .ensures))
-    ∙ sym (ap (wrongValue name) (by-place _ name (b .find .ensures) (c .before .before .before .start .given .1)))
+    ∙ sym (ap (wrongValue name) (by-place _ name (b .find-in-checked .ensures) (c .before .before .before .start .given .1)))
 
 returns-3 : tie.Need-returns-3
 unfolding wrongValue foundValue
 returns-3 c =
     let b = c .before .before in
-    sym (ap (wrongValue _) (by-place _ _ (b .find .ensures) (c .enum-told2 .given .1)))
+    sym (ap (wrongValue _) (by-place _ _ (b .find-in-checked .ensures) (c .enum-told2 .given .1)))
 
 pub is-wrong-spec : {M : Type 1} → statement M
 is-wrong-spec =

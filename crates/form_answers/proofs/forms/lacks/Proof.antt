@@ -14,7 +14,7 @@ unfolding lacks
 returns c =
     let b = c .before .before in
     let names = b .before .before .before .before .args .names .now in
-    c .any-times .ensures
+    c .any-times-in-checked .ensures
     ∙ (ap (anyTimes 0 names) (template-found _ (c .before .inside .ensures))
     ∙ sym (and-yes (b .before .is-one .ensures) _ (b .if1 .taken)))
 

@@ -6,7 +6,7 @@ use mathlib.Core.List.{List, [], _++_}
 use Prim.Native.Nat.{ℕ, _+_, _-_, _≤_, _<_}
 use lib.ListN.{length, take, drop, length-take, length-drop}
 use Rattle.heads.specs.Head.{tagSize}
-use Rattle.objects.specs.Objects.{isSome}
+use Rattle.lists.specs.Tests.{isSome}
 use Rattle.lists.specs.Writing.{put}
 use Rattle.lists.proofs.Cutting.{rest-part, none-left}
 use Rattle.lists.proofs.Writing.{put-length, put-nothing}

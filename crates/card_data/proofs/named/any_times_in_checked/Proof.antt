@@ -1,4 +1,4 @@
--- `card_data::named::any_times` meets its contract. The loop's invariant: the names that are left decide as all do.
+-- `card_data::named::any_times_in_checked` meets its contract. The loop's invariant: the names that are left decide as all do.
 -- Assumes nothing.
 use mathlib.Core.Path.{_≡_, refl, sym, ap, _∙_}
 use mathlib.Core.Bool.{Bool}
@@ -12,8 +12,8 @@ use borrow.Author.Tests.{eq-eqb, ne-eqb}
 use Rattle.lists.specs.Tables.{anyOf}
 use Rattle.card_data.specs.Named.{standing, times, anyTimes}
 use Rattle.lists.proofs.Tables.{any-one-on, any-found, any-through}
-use Rattle.card_data.proofs.named.any_times.Statement.{statement}
-use Rattle.card_data.proofs.named.any_times.Tie as tie
+use Rattle.card_data.proofs.named.any_times_in_checked.Statement.{statement}
+use Rattle.card_data.proofs.named.any_times_in_checked.Tie as tie
 
 abbrev stands : List ℕ → ℕ → ℕ → Bool
 stands s n name = eqb (times (standing s name)) n
@@ -29,14 +29,14 @@ unfolding anyTimes
 returns c =
     let a = c .before .before .before .before .before .before .before .args in
     let l = c .before .before .before .before .loop in
-    let so = eq-eqb _ (a .n) (sym (c .before .times .ensures) ∙ c .if1 .taken) in
+    let so = eq-eqb _ (a .n) (sym (c .before .times-in-checked .ensures) ∙ c .if1 .taken) in
     sym (any-found (stands (a .s .now) (a .n)) (a .names .now) (l .i) (omega arith) so) ∙ l .inv
 
 loop-again : tie.Need-loop-again Inv-loop μ-loop
 loop-again c =
     let a = c .before .before .before .before .before .before .before .args in
     let l = c .before .before .before .before .loop in
-    let not-so = ne-eqb _ (a .n) (λ e. c .if1 .left (c .before .times .ensures ∙ e)) in
+    let not-so = ne-eqb _ (a .n) (λ e. c .if1 .left (c .before .times-in-checked .ensures ∙ e)) in
     sym (any-one-on (stands (a .s .now) (a .n)) (a .names .now) (l .i) (omega arith) not-so) ∙ l .inv
 
 returns-2 : tie.Need-returns-2 Inv-loop μ-loop
@@ -46,8 +46,8 @@ returns-2 c =
     let l = c .before .loop in
     sym (any-through (stands (a .s .now) (a .n)) (a .names .now) (l .i) (omega arith)) ∙ l .inv
 
-pub any-times-spec : {M : Type 1} → statement M
-any-times-spec =
+pub any-times-in-checked-spec : {M : Type 1} → statement M
+any-times-in-checked-spec =
     tie.close
     (tie.spec
     Inv-loop

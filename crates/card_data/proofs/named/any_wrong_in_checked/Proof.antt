@@ -1,4 +1,4 @@
--- `card_data::named::any_wrong` meets its contract. The loop's invariant: the names that are left decide as all do.
+-- `card_data::named::any_wrong_in_checked` meets its contract. The loop's invariant: the names that are left decide as all do.
 -- Assumes nothing.
 use mathlib.Core.Path.{_≡_, refl, sym, ap, _∙_}
 use mathlib.Core.Bool.{Bool}
@@ -10,8 +10,8 @@ use borrow.Author.Needs.{needs}
 use Rattle.lists.specs.Tables.{anyOf}
 use Rattle.card_data.specs.Named.{standing, wrongValue, anyWrong}
 use Rattle.lists.proofs.Tables.{any-one-on, any-found, any-through}
-use Rattle.card_data.proofs.named.any_wrong.Statement.{statement}
-use Rattle.card_data.proofs.named.any_wrong.Tie as tie
+use Rattle.card_data.proofs.named.any_wrong_in_checked.Statement.{statement}
+use Rattle.card_data.proofs.named.any_wrong_in_checked.Tie as tie
 
 abbrev wrong : List ℕ → ℕ → Bool
 wrong s name = wrongValue name (standing s name)
@@ -42,8 +42,8 @@ returns-2 c =
     let l = c .before .loop in
     sym (any-through (wrong (a .s .now)) (a .names .now) (l .i) (omega arith)) ∙ l .inv
 
-pub any-wrong-spec : {M : Type 1} → statement M
-any-wrong-spec =
+pub any-wrong-in-checked-spec : {M : Type 1} → statement M
+any-wrong-in-checked-spec =
     tie.close
     (tie.spec
     Inv-loop
