@@ -1,5 +1,5 @@
 #!/usr/bin/env python3
-"""Card answers for crates/answers_bench: writes its stdin, and the stdout that it must give.
+"""Card answers for crates/bench_answers: writes its stdin, and the stdout that it must give.
 
 The expected lines come from `reference answers`, a program that was written from the scope paper and shares nothing with the
 proved code. Build it first (cd reference && cargo build --release --offline), then run this in the repository's root.
@@ -8,7 +8,7 @@ import itertools
 import random
 import subprocess
 
-FOLDER = "crates/answers_bench/"
+FOLDER = "crates/bench_answers/"
 REFERENCE = "reference/target/release/reference"
 
 GOOD = b"\x90\x00"

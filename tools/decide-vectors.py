@@ -1,5 +1,5 @@
 #!/usr/bin/env python3
-"""Selections at random for crates/decide_bench: writes its stdin and the stdout that it must give.
+"""Selections at random for crates/bench_decide: writes its stdin and the stdout that it must give.
 
 Each line of stdin is the first 40 bytes of a START in hexadecimal. Each line of stdout has the numbers that matter (random
 number, target, maximum, amount, floor limit, threshold) and 1 where the transaction is selected, else 0. The answer is
@@ -9,7 +9,7 @@ below the floor limit, which no valid START has) from the inequality of document
 import random
 from fractions import Fraction
 
-FOLDER = "crates/decide_bench/"
+FOLDER = "crates/bench_decide/"
 TOP = 10**12 - 1
 
 

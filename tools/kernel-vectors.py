@@ -1,8 +1,8 @@
 #!/usr/bin/env python3
-"""Calls for crates/kernel_bench: writes its stdin, and the stdout that it must give.
+"""Calls for crates/bench_kernel: writes its stdin, and the stdout that it must give.
 
 The replies come from two programs that were written from the scope paper and share nothing with the proved code: those of
-crates/kernel_bench/calls.jsonl were stored with the calls, the others are given by `reference make-calls`, and by `reference play` for
+crates/bench_kernel/calls.jsonl were stored with the calls, the others are given by `reference make-calls`, and by `reference play` for
 the scripts of samples/. Build it first (cd reference && cargo build --release --offline), then run this in the repository's
 root.
 """
@@ -10,9 +10,9 @@ import glob
 import json
 import subprocess
 
-FOLDER = "crates/kernel_bench/"
+FOLDER = "crates/bench_kernel/"
 REFERENCE = "reference/target/release/reference"
-STORED = "crates/kernel_bench/calls.jsonl"
+STORED = "crates/bench_kernel/calls.jsonl"
 COUNT, SEED = 300, 1
 
 # Answers over this length make up most of the generator's text. They are turned away, whatever their bytes, and a call that

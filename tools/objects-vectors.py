@@ -1,8 +1,8 @@
 #!/usr/bin/env python3
 """Questions on data objects for the program objects_bench, and the answers it must give.
 
-  objects-vectors.py --stdin     the questions, a line each: crates/objects_bench/stdin
-  objects-vectors.py --stdout    the answers, a line each: crates/objects_bench/stdout
+  objects-vectors.py --stdin     the questions, a line each: crates/bench_objects/stdin
+  objects-vectors.py --stdout    the answers, a line each: crates/bench_objects/stdout
 
 The answers come from the reader and writer below. They were written from document 01, "Data objects" and refusals 9 to
 11, and share nothing with the proved code.

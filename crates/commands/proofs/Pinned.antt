@@ -2,8 +2,8 @@
 -- Assumes nothing.
 use mathlib.Core.Path.{_≡_, refl}
 use mathlib.Core.List.{List, [], _∷_}
-use Rattle.lists.specs.Choice.{pick}
-use Rattle.object_writer.specs.Written.{written, tagBytes, lengthBytes}
+use Rattle.slices.specs.Choice.{pick}
+use Rattle.tlv_write.specs.Written.{written, tagBytes, lengthBytes}
 use Rattle.commands.specs.Commands.{selectCommand, optionsCommand, recordCommand, cryptogramCommand, withLength, sizeIn}
 
 select-worked : selectCommand (0xA0 ∷ 0x00 ∷ 0x00 ∷ 0x00 ∷ 0x03 ∷ []) ≡ 0x00 ∷ 0xA4 ∷ 0x04 ∷ 0x00 ∷ 0x05 ∷ 0xA0 ∷ 0x00 ∷ 0x00 ∷ 0x00 ∷ 0x03 ∷ 0x00 ∷ []

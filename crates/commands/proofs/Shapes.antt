@@ -7,11 +7,11 @@ use native.Mathlib.Omega.{arith}
 use lib.ListN.{length, drop, length-append, length-take}
 use borrow.Author.Tests.{lt-ltb, le-ltb, ltb-true, ltb-false, eq-eqb, ne-eqb, eqb-true, eqb-false}
 use lib.Dec.{ltb, eqb}
-use Rattle.lists.specs.Choice.{pick}
-use Rattle.lists.proofs.Choice.{pick-yes, pick-no, either}
-use Rattle.object_writer.specs.Written.{written, tagBytes, lengthBytes}
-use Rattle.terminal.specs.Layout.{aidRoom, aidAt}
-use Rattle.terminal.specs.Reading.{readingOf}
+use Rattle.slices.specs.Choice.{pick}
+use Rattle.slices.proofs.Choice.{pick-yes, pick-no, either}
+use Rattle.tlv_write.specs.Written.{written, tagBytes, lengthBytes}
+use Rattle.start_fields.specs.Layout.{aidRoom, aidAt}
+use Rattle.start_fields.specs.Reading.{readingOf}
 use Rattle.commands.specs.Commands.{selectCommand, optionsCommand, recordCommand, cryptogramCommand, withLength, longest}
 
 -- the object 83, with a length of one byte and of two

@@ -9,16 +9,16 @@ use native.Mathlib.Omega.{arith}
 use lib.Dec.{leb}
 use lib.ListN.{length, length-append}
 use borrow.Author.Tests.{le-leb, lt-leb, leb-true, leb-false}
-use Rattle.lists.specs.Choice.{pick}
-use Rattle.lists.specs.Writing.{put, laid}
-use Rattle.lists.proofs.Choice.{pick-yes, pick-no, pick-ap, either}
-use Rattle.lists.proofs.Writing.{put-length, put-step, laid-fits, laid-short}
-use Rattle.terminal.specs.Reading.{Terminal}
-use Rattle.wanted.specs.Wanted.{tally, fillable, totalOf, most}
-use Rattle.object_lists.specs.Filled.{filling, filledList}
-use Rattle.values.specs.declared.Known.{Known}
-use Rattle.wanted.proofs.Entries.{tally-fillable}
-use Rattle.object_lists.proofs.Filling.{list-length}
+use Rattle.slices.specs.Choice.{pick}
+use Rattle.slices.specs.Writing.{put, laid}
+use Rattle.slices.proofs.Choice.{pick-yes, pick-no, pick-ap, either}
+use Rattle.slices.proofs.Writing.{put-length, put-step, laid-fits, laid-short}
+use Rattle.start_fields.specs.Reading.{Terminal}
+use Rattle.dol_wanted.specs.Wanted.{tally, fillable, totalOf, most}
+use Rattle.dol_fill.specs.Filled.{filling, filledList}
+use Rattle.dol_values.specs.declared.Known.{Known}
+use Rattle.dol_wanted.proofs.Entries.{tally-fillable}
+use Rattle.dol_fill.proofs.Filling.{list-length}
 use Rattle.commands.specs.Commands.{dataSize, sizeIn}
 
 module _ (list : List ℕ) where

@@ -5,9 +5,9 @@ use mathlib.Core.List.{List, [], _∷_, _++_}
 use Prim.Native.Nat.{ℕ, _+_, _*_, _%_}
 use lib.Dec.{eqb, leb}
 use lib.ListN.{length}
-use Rattle.lists.specs.Choice.{pick}
-use Rattle.object_writer.specs.Written.{written}
-use Rattle.wanted.specs.Wanted.{fillable, totalOf}
+use Rattle.slices.specs.Choice.{pick}
+use Rattle.tlv_write.specs.Written.{written}
+use Rattle.dol_wanted.specs.Wanted.{fillable, totalOf}
 
 -- SELECT by the AID
 unfoldable pub selectCommand : List ℕ → List ℕ

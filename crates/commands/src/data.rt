@@ -1,15 +1,15 @@
 // The data of a command, and the byte that ends it.
-use lists::lay;
-use object_lists::fill::fill;
-use values::Known;
-use wanted::total;
+use dol_fill::fill::fill;
+use dol_values::Known;
+use dol_wanted::total;
+use slices::lay;
 ghost use mathlib.Core.Path.{_≡_};
 ghost use mathlib.Core.List.{[], _∷_, _++_};
 ghost use Prim.Native.Nat.{_+_, _≤_};
 ghost use lib.ListN.{length};
-ghost use Rattle.lists.specs.Writing.{put};
-ghost use Rattle.terminal.specs.Reading.{readingOf};
-ghost use Rattle.object_lists.specs.Filled.{filling};
+ghost use Rattle.slices.specs.Writing.{put};
+ghost use Rattle.start_fields.specs.Reading.{readingOf};
+ghost use Rattle.dol_fill.specs.Filled.{filling};
 ghost use Rattle.commands.specs.Commands.{dataSize};
 
 // How many bytes a list is filled with.

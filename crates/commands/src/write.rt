@@ -1,15 +1,18 @@
 // The commands.
 use crate::data::data_size;
 use crate::data::lay_data;
-use lists::lay;
-use terminal::fields::aid;
-use values::Known;
+use dol_values::Known;
+use slices::lay;
+use start_fields::fields::aid;
 ghost use mathlib.Core.Path.{_≡_};
 ghost use lib.ListN.{length};
-ghost use Rattle.lists.specs.Writing.{laid};
-ghost use Rattle.terminal.specs.Reading.{readingOf};
-ghost use Rattle.object_lists.specs.Filled.{filling};
+ghost use Rattle.slices.specs.Writing.{laid};
+ghost use Rattle.start_fields.specs.Reading.{readingOf};
+ghost use Rattle.dol_fill.specs.Filled.{filling};
 ghost use Rattle.commands.specs.Commands.{selectCommand, optionsCommand, recordCommand, cryptogramCommand, sizeIn};
+
+// The longest command: what a command buffer must have room for.
+pub const LONGEST: usize = 261;
 
 pub fn select(start: &[u8], buf: &mut [u8]) -> usize
     ensures size { λ r. ⌜ r ≡ sizeIn (length (now (buf .entry))) (selectCommand (readingOf (now (start .entry)) .aid)) ⌝ }

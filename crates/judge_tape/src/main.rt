@@ -4,7 +4,7 @@
 use judge::judge;
 use libc::STDIN_FILENO;
 use libc::STDOUT_FILENO;
-use lists::part;
+use slices::part;
 use verdict_line::line;
 
 enum Input {

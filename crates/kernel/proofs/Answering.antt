@@ -5,14 +5,14 @@ use mathlib.Core.List.{List}
 use Prim.Native.Nat.{ℕ}
 use lib.Dec.{eqb}
 use borrow.Author.Tests.{eq-eqb, ne-eqb}
-use Rattle.lists.specs.Choice.{pick}
-use Rattle.lists.proofs.Choice.{pick-yes, pick-no}
-use Rattle.tape.specs.Entries.{Entry, silence}
+use Rattle.slices.specs.Choice.{pick}
+use Rattle.slices.proofs.Choice.{pick-yes, pick-no}
+use Rattle.tape_read.specs.Entries.{Entry, silence}
 use Rattle.session_phase.specs.declared.Reply.the-variants.{Refused, Closed as ClosedReply}
-use Rattle.moves.specs.Moves.{Moved, played}
-use Rattle.moves.specs.declared.Step.{Step as Move}
-use Rattle.dialogue.specs.Events.{step}
-use Rattle.refusals.specs.Refusals.{callRefusal}
+use Rattle.session_moves.specs.Moves.{Moved, played}
+use Rattle.session_moves.specs.declared.Step.{Step as Move}
+use Rattle.session_events.specs.Events.{step}
+use Rattle.kernel_refusals.specs.Refusals.{callRefusal}
 use Rattle.kernel.specs.declared.Session.{Session}
 use Rattle.kernel.specs.declared.Step.{Step}
 use Rattle.kernel.specs.Calls.{Called, called, refused, accepted, closedState, closedAfter, taken, unless, call}

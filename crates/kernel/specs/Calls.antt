@@ -4,16 +4,16 @@
 use mathlib.Core.List.{List}
 use Prim.Native.Nat.{ℕ}
 use lib.Dec.{eqb}
-use Rattle.lists.specs.Choice.{pick}
-use Rattle.tape.specs.Entries.{Entry, silence}
+use Rattle.slices.specs.Choice.{pick}
+use Rattle.tape_read.specs.Entries.{Entry, silence}
 use Rattle.session_phase.specs.declared.Reply.{Reply}
 use Rattle.session_phase.specs.declared.Reply.the-variants.{Refused, Closed as ClosedReply}
 use Rattle.session_phase.specs.declared.Waiting.the-variants.{Closed}
-use Rattle.state.specs.Keeping.{changed, fresh as freshState}
-use Rattle.state.specs.declared.State.{State}
-use Rattle.moves.specs.Moves.{Moved}
-use Rattle.dialogue.specs.Events.{step}
-use Rattle.refusals.specs.Refusals.{callRefusal}
+use Rattle.session_state.specs.Keeping.{changed, fresh as freshState}
+use Rattle.session_state.specs.declared.State.{State}
+use Rattle.session_moves.specs.Moves.{Moved}
+use Rattle.session_events.specs.Events.{step}
+use Rattle.kernel_refusals.specs.Refusals.{callRefusal}
 use Rattle.kernel.specs.declared.Session.{Session}
 use Rattle.kernel.specs.declared.Step.{Step}
 

@@ -2,20 +2,20 @@
 // lent buffer; a decision, a word that is due, a silence and a call that is turned away touch no byte of it.
 use crate::Session;
 use crate::Step;
-use dialogue::event;
-use moves::Step as Move;
-use refusals::refusal;
+use kernel_refusals::refusal;
+use session_events::event;
+use session_moves::Step as Move;
 use session_phase::Reply;
 use session_phase::Waiting;
-use state::State;
-use state::change;
-use tape::ANSWER;
-use tape::HOST;
-use tape::SILENCE;
-use tape::START;
+use session_state::State;
+use session_state::change;
+use tape_read::ANSWER;
+use tape_read::HOST;
+use tape_read::SILENCE;
+use tape_read::START;
 ghost use mathlib.Core.Path.{_≡_};
 ghost use mathlib.Core.List.{List, []};
-ghost use Rattle.tape.specs.Entries.{entry, start as startKind, answer as answerKind, silence as silenceKind, host as hostKind};
+ghost use Rattle.tape_read.specs.Entries.{entry, start as startKind, answer as answerKind, silence as silenceKind, host as hostKind};
 ghost use Rattle.session_phase.specs.declared.Reply.the-variants.{Refused, Closed as ClosedReply};
 ghost use Rattle.kernel.specs.Calls.{called, call, closedState, freshSession};
 

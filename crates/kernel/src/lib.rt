@@ -2,7 +2,7 @@
 mod calls;
 
 use session_phase::Reply;
-use state::State;
+use session_state::State;
 
 // What can be read off a session is read off its state.
 pub struct Session {

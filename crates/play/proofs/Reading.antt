@@ -9,10 +9,10 @@ use lib.Dec.{eqb, ltb}
 use lib.ListN.{length, getD, drop, drop-of-length-le}
 use lib.Seq.{drop-cons}
 use borrow.Author.Tests.{eq-eqb, ne-eqb, lt-ltb, ltb-true, le-ltb}
-use Rattle.lists.specs.Choice.{pick}
-use Rattle.lists.proofs.Choice.{pick-yes, pick-no, and-both}
-use Rattle.hexadecimal.specs.Digits.{digit}
-use Rattle.hexadecimal.proofs.Extra.{and-no}
+use Rattle.slices.specs.Choice.{pick}
+use Rattle.slices.proofs.Choice.{pick-yes, pick-no, and-both}
+use Rattle.text_hex.specs.Digits.{digit}
+use Rattle.text_hex.proofs.Extra.{and-no}
 use Rattle.play.specs.Lines.{named, allDigits, numberFrom, noNumber}
 
 -- the first word

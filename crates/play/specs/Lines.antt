@@ -5,9 +5,9 @@ use mathlib.Core.List.{List, [], _∷_}
 use Prim.Native.Nat.{ℕ, _+_, _*_, _%_}
 use lib.Dec.{eqb, ltb}
 use lib.ListN.{length}
-use Rattle.lists.specs.Choice.{pick}
-use Rattle.hexadecimal.specs.Digits.{digit}
-use Rattle.tape.specs.Entries.{start, answer, silence, host}
+use Rattle.slices.specs.Choice.{pick}
+use Rattle.text_hex.specs.Digits.{digit}
+use Rattle.tape_read.specs.Entries.{start, answer, silence, host}
 
 -- whether w is the first word of a line: a space follows it, or nothing
 unfoldable pub named : List ℕ → List ℕ → Bool

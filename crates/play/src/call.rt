@@ -8,22 +8,23 @@ use crate::line::kind_of;
 use crate::say;
 use crate::store::full;
 use crate::store::store;
-use hexadecimal::unhex;
-use input::Line;
-use input::read_line;
+use commands::write::LONGEST;
 use kernel::Session;
 use kernel::Step;
-use lists::part;
-use recorder::has_room;
-use recorder::record;
+use kernel_record::has_room;
+use kernel_record::record;
 use session_phase::Reply;
 use session_phase::awaits;
-use state::result::decision;
-use tape::ANSWER;
-use tape::HOST;
-use tape::START;
-use tape_writer::Writer;
-use text::after_word;
+use session_state::result::decision;
+use slices::part;
+use tape_read::ANSWER;
+use tape_read::HOST;
+use tape_read::START;
+use tape_write::Writer;
+use text_hex::unhex;
+use text_input::Line;
+use text_input::read_line;
+use text_lines::after_word;
 
 // The session and the writer after a line, and whether there is a next one: not at the end of the input, and not where a line or
 // a block was not written.
@@ -91,7 +92,7 @@ fn is_room(s: Session, writer: Writer, tape: &[u8]) -> bool {
 
 // The reply is printed once its entries are stored.
 fn play(s: Session, writer: Writer, file: i32, kind: u8, payload: &[u8], tape: &mut [u8]) -> Turn {
-    let mut command = [0u8; 261];
+    let mut command = [0u8; LONGEST];
     let step = stepped(s, kind, payload, &mut command);
     let session = step.session;
     let reply = step.reply;

@@ -1,10 +1,10 @@
 // What a line asks, and what is wrong with one that asks nothing.
-use hexadecimal::digit_of;
-use lists::byte;
-use tape::ANSWER;
-use tape::HOST;
-use tape::SILENCE;
-use tape::START;
+use slices::byte;
+use tape_read::ANSWER;
+use tape_read::HOST;
+use tape_read::SILENCE;
+use tape_read::START;
+use text_hex::digit_of;
 ghost use mathlib.Core.Path.{_≡_};
 ghost use Prim.Native.Nat.{_≤_};
 ghost use Rattle.play.specs.Lines.{named, kindOf, allDigits, faultOf, sessionNumber};

@@ -28,7 +28,7 @@ use kernel::Session;
 use libc::STDERR_FILENO;
 use line::NO_NUMBER;
 use line::session_number;
-use tape_writer::Writer;
+use tape_write::Writer;
 ghost use Prim.Native.Nat.{_≤_};
 
 // A line of the longest word and the longest payload: seven bytes, and the digits of 4,096.

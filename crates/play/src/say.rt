@@ -1,6 +1,6 @@
 // What is said on standard output. Each function answers whether it was written; where it was not, that is said on standard error.
-use hexadecimal::hex;
 use libc::STDOUT_FILENO;
+use text_hex::hex;
 
 pub fn text(s: &[u8]) -> bool {
     if io::write_all(STDOUT_FILENO, s) {

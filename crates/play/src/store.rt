@@ -1,7 +1,7 @@
 // The tape's file. A descriptor below 0 stands for no file.
 use libc::STDERR_FILENO;
-use tape::block_at;
-use tape_writer::Appended;
+use tape_read::block_at;
+use tape_write::Appended;
 
 // No file.
 pub const NONE: i32 = -1;

@@ -9,18 +9,18 @@ use native.Mathlib.Omega.{arith}
 use lib.Dec.{eqb}
 use lib.ListN.{length}
 use borrow.Author.Tests.{eqb-true}
-use Rattle.lists.proofs.Choice.{picked}
-use Rattle.tape.specs.Entries.{Entry}
-use Rattle.wanted.specs.Wanted.{fillable}
-use Rattle.locator.specs.Entries.{mostRecords, toRead}
-use Rattle.locator.proofs.Counting.{read-length}
-use Rattle.form_answers.specs.Options.{profileOf, locatorOf}
-use Rattle.record_answer.specs.Records.{afterRecords}
-use Rattle.form_answers.specs.Cryptogram.{cryptogramOf}
-use Rattle.answers.proofs.AcceptedAnswers.{options-entries}
-use Rattle.decide.specs.Replies.{codeIn, replyOf}
-use Rattle.decide.specs.declared.reply.HostReply.{HostReply}
-use Rattle.decide.specs.declared.reply.HostReply.the-variants.{Unable}
+use Rattle.slices.proofs.Choice.{picked}
+use Rattle.tape_read.specs.Entries.{Entry}
+use Rattle.dol_wanted.specs.Wanted.{fillable}
+use Rattle.answer_afl.specs.Entries.{mostRecords, toRead}
+use Rattle.answer_afl.proofs.Counting.{read-length}
+use Rattle.answer_forms.specs.Options.{profileOf, locatorOf}
+use Rattle.answer_record.specs.Records.{afterRecords}
+use Rattle.answer_forms.specs.Cryptogram.{cryptogramOf}
+use Rattle.answer_laws.proofs.AcceptedAnswers.{options-entries}
+use Rattle.decide_requests.specs.Replies.{codeIn, replyOf}
+use Rattle.decide_requests.specs.declared.reply.HostReply.{HostReply}
+use Rattle.decide_requests.specs.declared.reply.HostReply.the-variants.{Unable}
 use Rattle.rulebook.specs.Situation.{Situation, listIn}
 use Rattle.rulebook.specs.Phase.{Asked, selecting, optioning, reading, first, second, Heard, terminal, issuer, Phase, asks, hears, decides, decided as settled, ended}
 use Rattle.rulebook.specs.Turn.{goesOn, opened, selected, requested, allRead, readOn, withProfile, optioned, withRecord, recorded, answered, replied, online, byFirst, firstAnswered, secondAnswered, replyMade, turn, heard as issuerHeard, after}

@@ -10,8 +10,8 @@ use lib.Dec.{ltb}
 use lib.ListN.{length, take}
 use lib.Seq.{split-at, take-all, take-length, take-append-le, take-append-add}
 use borrow.Author.Tests.{ltb-true, ltb-false}
-use Rattle.lists.proofs.Choice.{either}
-use Rattle.tape.specs.Entries.{Entry, entry, answer}
+use Rattle.slices.proofs.Choice.{either}
+use Rattle.tape_read.specs.Entries.{Entry, entry, answer}
 use Rattle.rulebook.specs.Phase.{opens}
 use Rattle.rulebook.specs.Session.{Session, Beginning, AwaitsCard, Closed, Open, Lawful, BreaksAt}
 use Rattle.rulebook.specs.Machine.{at, run}

@@ -6,24 +6,24 @@ use Prim.Native.Nat.{ℕ, zero, suc, _+_}
 use native.Mathlib.Numerals.{add-one}
 use lib.Dec.{eqb}
 use lib.ListN.{length, take}
-use Rattle.lists.specs.Writing.{zeros}
-use Rattle.lists.proofs.Choice.{picked}
-use Rattle.objects.specs.Objects.{isSome}
-use Rattle.terminal.specs.Reading.{Terminal}
-use Rattle.tape.specs.Entries.{Entry}
-use Rattle.wanted.specs.Wanted.{fillable}
-use Rattle.select_answer.specs.Select.{selectReason, pdolOf}
-use Rattle.form_answers.specs.Options.{optionsReason, profileOf, locatorOf}
-use Rattle.locator.specs.Entries.{toRead}
-use Rattle.record_answer.specs.Records.{recordReason, afterRecords}
-use Rattle.form_answers.specs.Cryptogram.{cryptogramReason, cryptogramOf}
-use Rattle.checks.specs.Bits.{joined}
-use Rattle.decide.specs.Requests.{firstRequest, secondRequest}
-use Rattle.decide.specs.Replies.{codeIn, responseCode}
-use Rattle.decide.specs.declared.reply.HostReply.{HostReply}
-use Rattle.decide.specs.declared.reply.HostReply.the-variants.{Unable}
-use Rattle.checks.proofs.Rows.{joined-self, kept-on}
-use Rattle.checks.proofs.Laws.{tvr-kept, tsi-kept, tsi-kept-on}
+use Rattle.slices.specs.Writing.{zeros}
+use Rattle.slices.proofs.Choice.{picked}
+use Rattle.tlv_list.specs.Objects.{isSome}
+use Rattle.start_fields.specs.Reading.{Terminal}
+use Rattle.tape_read.specs.Entries.{Entry}
+use Rattle.dol_wanted.specs.Wanted.{fillable}
+use Rattle.answer_select.specs.Select.{selectReason, pdolOf}
+use Rattle.answer_forms.specs.Options.{optionsReason, profileOf, locatorOf}
+use Rattle.answer_afl.specs.Entries.{toRead}
+use Rattle.answer_record.specs.Records.{recordReason, afterRecords}
+use Rattle.answer_forms.specs.Cryptogram.{cryptogramReason, cryptogramOf}
+use Rattle.decide_tvr.specs.Bits.{joined}
+use Rattle.decide_requests.specs.Requests.{firstRequest, secondRequest}
+use Rattle.decide_requests.specs.Replies.{codeIn, responseCode}
+use Rattle.decide_requests.specs.declared.reply.HostReply.{HostReply}
+use Rattle.decide_requests.specs.declared.reply.HostReply.the-variants.{Unable}
+use Rattle.decide_tvr.proofs.Rows.{joined-self, kept-on}
+use Rattle.decide_tvr.proofs.Laws.{tvr-kept, tsi-kept, tsi-kept-on}
 use Rattle.rulebook.specs.Situation.{Situation, begun, cardFacts, issuerCodes, listIn}
 use Rattle.rulebook.specs.Phase.{Asked, selecting, optioning, reading, first, second, Heard, terminal, issuer, Phase, asks, hears, decides, situationOf, decided, ended, terminated, tvrOf, tsiOf}
 use Rattle.rulebook.specs.Turn.{goesOn, opened, selected, managed, requested, allRead, readOn, withProfile, optioned, withRecord, recorded, answered, replied, online, byFirst, firstAllows, secondAllows, firstAnswered, secondAnswered, turn, heard as issuerHeard, after}

@@ -5,8 +5,8 @@ use mathlib.Core.Path.{_≡_, refl}
 use mathlib.Core.List.{List, [], _∷_, _++_}
 use Prim.Native.Nat.{ℕ, zero, suc, _-_, _/_}
 use lib.ListN.{length}
-use Rattle.tape.specs.Entries.{Entry, entry, start, host}
-use Rattle.locator.specs.Entries.{mostRecords}
+use Rattle.tape_read.specs.Entries.{Entry, entry, start, host}
+use Rattle.answer_afl.specs.Entries.{mostRecords}
 use Rattle.rulebook.specs.Session.{longest, Session}
 use Rattle.rulebook.proofs.Opening.{reached}
 use Rattle.rulebook.proofs.Made.{startOf, select, selected, options, readOne, recorded, number, firstAsked, secondAsked, given, tc, arqc, decides, exchange, reads}

@@ -9,8 +9,8 @@ use Prim.Native.Nat.{ℕ}
 use lib.Dec.{eqb}
 use lib.ListN.{length}
 use borrow.Author.Tests.{eqb-false}
-use Rattle.objects.specs.Objects.{isSome}
-use Rattle.tape.specs.Entries.{Entry, entry, start, command, answer, silence, decision}
+use Rattle.tlv_list.specs.Objects.{isSome}
+use Rattle.tape_read.specs.Entries.{Entry, entry, start, command, answer, silence, decision}
 use Rattle.rulebook.specs.Phase.{opens}
 use Rattle.rulebook.specs.Session.{Session, BreaksAt}
 use Rattle.rulebook.specs.Machine.{Machine, at, done, run}

@@ -5,13 +5,13 @@ use mathlib.Core.Bool.{true}
 use mathlib.Core.List.{List}
 use mathlib.Core.Option.{some}
 use Prim.Native.Nat.{ℕ}
-use Rattle.terminal.specs.Reading.{readingOf}
-use Rattle.start.specs.Start.{validStart}
-use Rattle.tape.specs.Entries.{entry, start, host}
-use Rattle.decide.specs.Replies.{replyOf, isReply}
-use Rattle.decide.specs.declared.reply.HostReply.{HostReply}
-use Rattle.decide.specs.declared.reply.HostHeard.{HostHeard}
-use Rattle.decide.specs.declared.reply.HostHeard.the-variants.{Said}
+use Rattle.start_fields.specs.Reading.{readingOf}
+use Rattle.start_valid.specs.Start.{validStart}
+use Rattle.tape_read.specs.Entries.{entry, start, host}
+use Rattle.decide_requests.specs.Replies.{replyOf, isReply}
+use Rattle.decide_requests.specs.declared.reply.HostReply.{HostReply}
+use Rattle.decide_requests.specs.declared.reply.HostHeard.{HostHeard}
+use Rattle.decide_requests.specs.declared.reply.HostHeard.the-variants.{Said}
 use Rattle.rulebook.specs.Situation.{Situation}
 use Rattle.rulebook.specs.Phase.{terminal, issuer, Phase, opens, hears, dueKind}
 use Rattle.rulebook.specs.Turn.{opened, allowed, replyMade, heard, after}

@@ -3,41 +3,41 @@
 -- Assumes nothing.
 use mathlib.Core.List.{List}
 use mathlib.Core.Option.{Option}
-use Rattle.tape.specs.Entries.{Entry}
-use Rattle.lists.specs.Choice.{pick as l·pick, firstOf as l·firstOf}
-use Rattle.lists.specs.Shorter.{counted as l·counted, shorter as l·shorter}
-use Rattle.lists.specs.Writing.{put as l·put, laid as l·laid, zeros as l·zeros}
-use Rattle.heads.specs.Head.{firstByte as o·firstByte, constructed as o·constructed, twoBytes as o·twoBytes, tagSize as o·tagSize, tagOf as o·tagOf, tagRight as o·tagRight, lengthByte as o·lengthByte, lengthForm as o·lengthForm, lengthSize as o·lengthSize, lengthOf as o·lengthOf, valueStart as o·valueStart, valueEnd as o·valueEnd, whole as o·whole}
-use Rattle.objects.specs.Lookup.{met as o·met, lookup as o·lookup}
-use Rattle.objects.specs.Objects.{between as o·between, firstObject as o·firstObject, isSome as o·isSome, before as o·before, rightInside as o·rightInside, listed as o·listed, objects as o·objects, isList as o·isList, readRefusal as o·readRefusal}
-use Rattle.objects.specs.Place.{dataField as o·dataField}
-use Rattle.object_writer.specs.Written.{isTag as o·isTag, tagBytes as o·tagBytes, lengthBytes as o·lengthBytes, written as o·written, writtenAll as o·writtenAll, fitsTag as o·fitsTag, writeRefusal as o·writeRefusal, refusalOf as o·refusalOf, sizeOf as o·sizeOf, sizeWritten as o·sizeWritten, bufferAfter as o·bufferAfter}
-use Rattle.decimals.specs.Dates.{dateKey as t·dateKey, monthAndDay as t·monthAndDay, validStartDate as t·validStartDate, validCardDate as t·validCardDate}
-use Rattle.decimals.specs.Decimal.{decimalFrom as t·decimalFrom, decimal as t·decimal, decimalByte as t·decimalByte, digitsOnly as t·digitsOnly, zerosOnly as t·zerosOnly}
-use Rattle.terminal.specs.Reading.{readingOf as t·readingOf}
-use Rattle.start.specs.Start.{validKind as t·validKind, validDigits as t·validDigits, validRandom as t·validRandom, validPercentages as t·validPercentages, validThreshold as t·validThreshold, validAid as t·validAid, validStart as t·validStart, terminalOf as t·terminalOf}
-use Rattle.lists.specs.Tests.{every as t·every, between as t·between, alike as l·alike}
-use Rattle.checks.specs.Bits.{joined as d·joined, meet as d·meet, flag as d·flag}
-use Rattle.decide.specs.Replies.{codeIn as d·codeIn, saidBy as d·saidBy, replyOf as d·replyOf, isReply as d·isReply, responseCode as d·responseCode}
-use Rattle.decide.specs.Requests.{issuerCode as d·issuerCode, codeMatch as d·codeMatch, byType as d·byType, firstRequest as d·firstRequest, whenUnable as d·whenUnable, secondRequest as d·secondRequest, givenBy as d·givenBy}
-use Rattle.checks.specs.Results.{differentVersions as d·differentVersions, expired as d·expired, notYetEffective as d·notYetEffective, riskManaged as d·riskManaged, atFloorLimit as d·atFloorLimit, drawn as d·drawn, restrictions as d·restrictions, risks as d·risks, tvrAfterRecords as d·tvrAfterRecords, tsiAfterRecords as d·tsiAfterRecords, tsiAfterFirstAnswer as d·tsiAfterFirstAnswer}
-use Rattle.checks.specs.Selection.{biased as d·biased, chosen as d·chosen, selected as d·selected}
-use Rattle.object_lists.specs.Filled.{entryBytes as q·entryBytes, firstBytes as q·firstBytes, filled as q·filled, filledBy as q·filledBy, filledList as q·filledList, filling as q·filling}
-use Rattle.values.specs.Known.{held as q·held, nothing as q·nothing, kept as q·kept, ofTerminal as q·ofTerminal, ofSession as q·ofSession, orElse as q·orElse, valueFor as q·valueFor, withFormat as q·withFormat, supplied as q·supplied}
-use Rattle.values.specs.Shape.{shaped as q·shaped, numeric as q·numeric, formatOf as q·formatOf}
-use Rattle.wanted.specs.Wanted.{andThen as q·andThen, sizeAt as q·sizeAt, firstWanted as q·firstWanted, asks as q·asks, wantedStep as q·wantedStep, entriesOf as q·entriesOf, total as q·total, totalBy as q·totalBy, totalOf as q·totalOf, fits as q·fits, fillable as q·fillable, tally as q·tally}
+use Rattle.tape_read.specs.Entries.{Entry}
+use Rattle.slices.specs.Choice.{pick as l·pick, firstOf as l·firstOf}
+use Rattle.slices.specs.Shorter.{counted as l·counted, shorter as l·shorter}
+use Rattle.slices.specs.Writing.{put as l·put, laid as l·laid, zeros as l·zeros}
+use Rattle.tlv_head.specs.Head.{firstByte as o·firstByte, constructed as o·constructed, twoBytes as o·twoBytes, tagSize as o·tagSize, tagOf as o·tagOf, tagRight as o·tagRight, lengthByte as o·lengthByte, lengthForm as o·lengthForm, lengthSize as o·lengthSize, lengthOf as o·lengthOf, valueStart as o·valueStart, valueEnd as o·valueEnd, whole as o·whole}
+use Rattle.tlv_list.specs.Lookup.{met as o·met, lookup as o·lookup}
+use Rattle.tlv_list.specs.Objects.{between as o·between, firstObject as o·firstObject, isSome as o·isSome, before as o·before, rightInside as o·rightInside, listed as o·listed, objects as o·objects, isList as o·isList, readRefusal as o·readRefusal}
+use Rattle.tlv_list.specs.Place.{dataField as o·dataField}
+use Rattle.tlv_write.specs.Written.{isTag as o·isTag, tagBytes as o·tagBytes, lengthBytes as o·lengthBytes, written as o·written, writtenAll as o·writtenAll, fitsTag as o·fitsTag, writeRefusal as o·writeRefusal, refusalOf as o·refusalOf, sizeOf as o·sizeOf, sizeWritten as o·sizeWritten, bufferAfter as o·bufferAfter}
+use Rattle.decimal_dates.specs.Dates.{dateKey as t·dateKey, monthAndDay as t·monthAndDay, validStartDate as t·validStartDate, validCardDate as t·validCardDate}
+use Rattle.decimal_dates.specs.Decimal.{decimalFrom as t·decimalFrom, decimal as t·decimal, decimalByte as t·decimalByte, digitsOnly as t·digitsOnly, zerosOnly as t·zerosOnly}
+use Rattle.start_fields.specs.Reading.{readingOf as t·readingOf}
+use Rattle.start_valid.specs.Start.{validKind as t·validKind, validDigits as t·validDigits, validRandom as t·validRandom, validPercentages as t·validPercentages, validThreshold as t·validThreshold, validAid as t·validAid, validStart as t·validStart, terminalOf as t·terminalOf}
+use Rattle.slices.specs.Tests.{every as t·every, between as t·between, alike as l·alike}
+use Rattle.decide_tvr.specs.Bits.{joined as d·joined, meet as d·meet, flag as d·flag}
+use Rattle.decide_requests.specs.Replies.{codeIn as d·codeIn, saidBy as d·saidBy, replyOf as d·replyOf, isReply as d·isReply, responseCode as d·responseCode}
+use Rattle.decide_requests.specs.Requests.{issuerCode as d·issuerCode, codeMatch as d·codeMatch, byType as d·byType, firstRequest as d·firstRequest, whenUnable as d·whenUnable, secondRequest as d·secondRequest, givenBy as d·givenBy}
+use Rattle.decide_tvr.specs.Results.{differentVersions as d·differentVersions, expired as d·expired, notYetEffective as d·notYetEffective, riskManaged as d·riskManaged, atFloorLimit as d·atFloorLimit, drawn as d·drawn, restrictions as d·restrictions, risks as d·risks, tvrAfterRecords as d·tvrAfterRecords, tsiAfterRecords as d·tsiAfterRecords, tsiAfterFirstAnswer as d·tsiAfterFirstAnswer}
+use Rattle.decide_tvr.specs.Selection.{biased as d·biased, chosen as d·chosen, selected as d·selected}
+use Rattle.dol_fill.specs.Filled.{entryBytes as q·entryBytes, firstBytes as q·firstBytes, filled as q·filled, filledBy as q·filledBy, filledList as q·filledList, filling as q·filling}
+use Rattle.dol_values.specs.Known.{held as q·held, nothing as q·nothing, kept as q·kept, ofTerminal as q·ofTerminal, ofSession as q·ofSession, orElse as q·orElse, valueFor as q·valueFor, withFormat as q·withFormat, supplied as q·supplied}
+use Rattle.dol_values.specs.Shape.{shaped as q·shaped, numeric as q·numeric, formatOf as q·formatOf}
+use Rattle.dol_wanted.specs.Wanted.{andThen as q·andThen, sizeAt as q·sizeAt, firstWanted as q·firstWanted, asks as q·asks, wantedStep as q·wantedStep, entriesOf as q·entriesOf, total as q·total, totalBy as q·totalBy, totalOf as q·totalOf, fits as q·fits, fillable as q·fillable, tally as q·tally}
 use Rattle.commands.specs.Commands.{selectCommand as c·selectCommand, optionsCommand as c·optionsCommand, recordCommand as c·recordCommand, withLength as c·withLength, cryptogramCommand as c·cryptogramCommand, sizeIn as c·sizeIn, dataSize as c·dataSize}
-use Rattle.card_data.specs.Answer.{sizeBad as a·sizeBad, statusBad as a·statusBad, only as a·only, outer as a·outer, theOne as a·theOne, tagged as a·tagged, valueUnder as a·valueUnder, isOne as a·isOne, inside as a·inside, outerBad as a·outerBad, frame as a·frame}
-use Rattle.card_data.specs.CardNumber.{halves as a·halves, digits as a·digits, onlyF as a·onlyF, cardNumber as a·cardNumber}
-use Rattle.card_data.specs.Content.{meets as a·meets, rules as a·rules, ruleFor as a·ruleFor, rightValue as a·rightValue}
-use Rattle.form_answers.specs.Cryptogram.{informationOf as a·informationOf, cryptogramOf as a·cryptogramOf, cryptogramWrong as a·cryptogramWrong, cryptogramLines as a·cryptogramLines, cryptogramReason as a·cryptogramReason, allows as a·allows}
-use Rattle.form_answers.specs.Forms.{lacks as a·lacks}
-use Rattle.locator.specs.Entries.{firstEntry as a·firstEntry, entries as a·entries, wholeEntries as a·wholeEntries, sfi as a·sfi, records as a·records, fileRight as a·fileRight, entryRight as a·entryRight, entriesRight as a·entriesRight, recordsOf as a·recordsOf, recordCount as a·recordCount, tooMany as a·tooMany, run as a·run, readEntry as a·readEntry, readAll as a·readAll, toRead as a·toRead}
-use Rattle.card_data.specs.Named.{membersIn as a·membersIn, named as a·named, among as a·among, direct as a·direct, standing as a·standing, times as a·times, told as a·told, valueOf as a·valueOf, wrongValue as a·wrongValue, anyTimes as a·anyTimes, anyWrong as a·anyWrong, listed as a·listed}
-use Rattle.form_answers.specs.Options.{profileOf as a·profileOf, locatorOf as a·locatorOf, optionsWrong as a·optionsWrong, optionsLines as a·optionsLines, optionsReason as a·optionsReason}
-use Rattle.record_answer.specs.Records.{again as a·again, anyAgain as a·anyAgain, recordTwice as a·recordTwice, recordLines as a·recordLines, recordReason as a·recordReason, valueIn as a·valueIn, namedIn as a·namedIn, incomplete as a·incomplete, completeReason as a·completeReason, afterRecords as a·afterRecords, toldBy as a·toldBy}
-use Rattle.select_answer.specs.Select.{inner as a·inner, begins as a·begins, nameWrong as a·nameWrong, selectTwice as a·selectTwice, selectWrong as a·selectWrong, selectLines as a·selectLines, selectReason as a·selectReason, pdolOf as a·pdolOf}
-use Rattle.lists.specs.Tables.{anyOf as a·anyOf, beside as a·beside}
+use Rattle.answer_common.specs.Answer.{sizeBad as a·sizeBad, statusBad as a·statusBad, only as a·only, outer as a·outer, theOne as a·theOne, tagged as a·tagged, valueUnder as a·valueUnder, isOne as a·isOne, inside as a·inside, outerBad as a·outerBad, frame as a·frame}
+use Rattle.answer_common.specs.CardNumber.{halves as a·halves, digits as a·digits, onlyF as a·onlyF, cardNumber as a·cardNumber}
+use Rattle.answer_common.specs.Content.{meets as a·meets, rules as a·rules, ruleFor as a·ruleFor, rightValue as a·rightValue}
+use Rattle.answer_forms.specs.Cryptogram.{informationOf as a·informationOf, cryptogramOf as a·cryptogramOf, cryptogramWrong as a·cryptogramWrong, cryptogramLines as a·cryptogramLines, cryptogramReason as a·cryptogramReason, allows as a·allows}
+use Rattle.answer_forms.specs.Forms.{lacks as a·lacks}
+use Rattle.answer_afl.specs.Entries.{firstEntry as a·firstEntry, entries as a·entries, wholeEntries as a·wholeEntries, sfi as a·sfi, records as a·records, fileRight as a·fileRight, entryRight as a·entryRight, entriesRight as a·entriesRight, recordsOf as a·recordsOf, recordCount as a·recordCount, tooMany as a·tooMany, run as a·run, readEntry as a·readEntry, readAll as a·readAll, toRead as a·toRead}
+use Rattle.answer_common.specs.Named.{membersIn as a·membersIn, named as a·named, among as a·among, direct as a·direct, standing as a·standing, times as a·times, told as a·told, valueOf as a·valueOf, wrongValue as a·wrongValue, anyTimes as a·anyTimes, anyWrong as a·anyWrong, listed as a·listed}
+use Rattle.answer_forms.specs.Options.{profileOf as a·profileOf, locatorOf as a·locatorOf, optionsWrong as a·optionsWrong, optionsLines as a·optionsLines, optionsReason as a·optionsReason}
+use Rattle.answer_record.specs.Records.{again as a·again, anyAgain as a·anyAgain, recordTwice as a·recordTwice, recordLines as a·recordLines, recordReason as a·recordReason, valueIn as a·valueIn, namedIn as a·namedIn, incomplete as a·incomplete, completeReason as a·completeReason, afterRecords as a·afterRecords, toldBy as a·toldBy}
+use Rattle.answer_select.specs.Select.{inner as a·inner, begins as a·begins, nameWrong as a·nameWrong, selectTwice as a·selectTwice, selectWrong as a·selectWrong, selectLines as a·selectLines, selectReason as a·selectReason, pdolOf as a·pdolOf}
+use Rattle.slices.specs.Tables.{anyOf as a·anyOf, beside as a·beside}
 use Rattle.rulebook.specs.Situation.{begun as r·begun, perhaps as r·perhaps, profileKnown as r·profileKnown, knownIn as r·knownIn, cardFacts as r·cardFacts, issuerCodes as r·issuerCodes, listIn as r·listIn}
 use Rattle.rulebook.specs.Phase.{situationOf as r·situationOf, commandOf as r·commandOf, dueKind as r·dueKind, decisionOf as r·decisionOf, decided as r·decided, ended as r·ended}
 use Rattle.rulebook.specs.Turn.{goesOn as r·goesOn, opened as r·opened, selected as r·selected, managed as r·managed, requested as r·requested, allRead as r·allRead, readOn as r·readOn, withProfile as r·withProfile, optioned as r·optioned, withRecord as r·withRecord, recorded as r·recorded, answered as r·answered, replied as r·replied, online as r·online, byFirst as r·byFirst, firstAllows as r·firstAllows, secondAllows as r·secondAllows, firstAnswered as r·firstAnswered, secondAnswered as r·secondAnswered, turn as r·turn, allowed as r·allowed, replyMade as r·replyMade, heard as r·heard, after as r·after}

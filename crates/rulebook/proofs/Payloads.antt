@@ -8,8 +8,8 @@ use lib.Dec.{leb}
 use lib.ListN.{length}
 use lib.Pow.{areBytes}
 use borrow.Author.Tests.{le-leb, leb-true}
-use Rattle.lists.proofs.Choice.{and-left, and-right, and-both}
-use Rattle.tape.specs.Entries.{payloadMost}
+use Rattle.slices.proofs.Choice.{and-left, and-right, and-both}
+use Rattle.tape_read.specs.Entries.{payloadMost}
 use Rattle.rulebook.specs.Session.{isPayload}
 
 module _ (p : List ℕ) where

@@ -8,8 +8,8 @@ use mathlib.Core.Option.{Option, none, some}
 use Prim.Native.Nat.{ℕ}
 use native.Mathlib.Omega.{arith}
 use lib.Dec.{eqb}
-use Rattle.lists.specs.Choice.{pick}
-use Rattle.tape.specs.Entries.{Entry, entry, command, answer, silence, decision}
+use Rattle.slices.specs.Choice.{pick}
+use Rattle.tape_read.specs.Entries.{Entry, entry, command, answer, silence, decision}
 use Rattle.rulebook.specs.Phase.{Asked, opens, asks, hears, decides, dueKind}
 use Rattle.rulebook.specs.Session.{Session, Beginning, AwaitsCard, Closed}
 use Rattle.rulebook.proofs.Said.{other-kinds}

@@ -7,12 +7,12 @@ use mathlib.Core.Logic.{inl, inr, ⊎-elim}
 use mathlib.Core.Option.{Option, none, some}
 use Prim.Native.Nat.{ℕ}
 use lib.Dec.{eqb}
-use Rattle.tape.specs.Entries.{Entry, entry, command, answer, decision}
+use Rattle.tape_read.specs.Entries.{Entry, entry, command, answer, decision}
 use Rattle.rulebook.specs.Phase.{opens, asks, hears, decides, commandOf, dueKind, decisionOf}
 use Rattle.rulebook.specs.Session.{Session, Open, Lawful, BreaksAt}
 use Rattle.rulebook.specs.Roles.{given, Kernel, RightKernel, Verdict, pass, inconclusive, fail, Judge, RightJudge}
-use Rattle.lists.specs.Tests.{alike}
-use Rattle.lists.proofs.Comparing.{alike-same}
+use Rattle.slices.specs.Tests.{alike}
+use Rattle.slices.proofs.Comparing.{alike-same}
 use Rattle.rulebook.proofs.Said.{other-kinds}
 use Rattle.rulebook.specs.Machine.{Machine, at, owes, done, due, next, run}
 use Rattle.rulebook.proofs.Running.{due-entry, due-test, chosen, taken, no-state, session-run}

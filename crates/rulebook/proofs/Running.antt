@@ -8,16 +8,16 @@ use Prim.Native.Nat.{ℕ}
 use native.Mathlib.Omega.{arith}
 use lib.Dec.{eqb}
 use borrow.Author.Tests.{eqb-true, eq-eqb}
-use Rattle.lists.specs.Choice.{pick}
-use Rattle.lists.proofs.Choice.{pick-yes, pick-no, either, and-left, and-right, and-both}
-use Rattle.tape.specs.Entries.{Entry, entry, command, answer, decision}
+use Rattle.slices.specs.Choice.{pick}
+use Rattle.slices.proofs.Choice.{pick-yes, pick-no, either, and-left, and-right, and-both}
+use Rattle.tape_read.specs.Entries.{Entry, entry, command, answer, decision}
 use Rattle.rulebook.specs.Situation.{Situation}
 use Rattle.rulebook.specs.Phase.{Asked, Heard, Phase, opens, asks, hears, decides, commandOf, dueKind, decisionOf}
 use Rattle.rulebook.specs.Turn.{turn, allowed, after}
 use Rattle.rulebook.specs.Session.{isPayload, Plays, exchanged, heard, decided, Session}
 use Rattle.rulebook.specs.Machine.{Machine, at, owes, done, due, sayable, next, andOn, run}
-use Rattle.lists.specs.Tests.{alike}
-use Rattle.lists.proofs.Comparing.{alike-same, same-alike}
+use Rattle.slices.specs.Tests.{alike}
+use Rattle.slices.proofs.Comparing.{alike-same, same-alike}
 use Rattle.rulebook.proofs.Single.{head-same, tail-same}
 
 -- what is left of a session in a state

@@ -6,14 +6,14 @@ use mathlib.Core.Bool.{true, false}
 use mathlib.Core.List.{List, [], _∷_}
 use Prim.Native.Nat.{ℕ}
 use lib.Dec.{eqb}
-use Rattle.lists.specs.Choice.{pick}
-use Rattle.lists.specs.Tests.{every, between}
-use Rattle.terminal.specs.Reading.{readingOf}
-use Rattle.start.specs.Start.{validKind, validDigits, validRandom, validPercentages, validThreshold, validAid, validStart}
-use Rattle.decimals.specs.Decimal.{decimalFrom, decimal, decimalByte, digitsOnly, zerosOnly}
-use Rattle.decimals.specs.Dates.{monthAndDay, validStartDate}
-use Rattle.tape.specs.Entries.{command, answer, silence, decision}
-use Rattle.decide.specs.Replies.{codeIn, saidBy, replyOf, isReply}
+use Rattle.slices.specs.Choice.{pick}
+use Rattle.slices.specs.Tests.{every, between}
+use Rattle.start_fields.specs.Reading.{readingOf}
+use Rattle.start_valid.specs.Start.{validKind, validDigits, validRandom, validPercentages, validThreshold, validAid, validStart}
+use Rattle.decimal_dates.specs.Decimal.{decimalFrom, decimal, decimalByte, digitsOnly, zerosOnly}
+use Rattle.decimal_dates.specs.Dates.{monthAndDay, validStartDate}
+use Rattle.tape_read.specs.Entries.{command, answer, silence, decision}
+use Rattle.decide_requests.specs.Replies.{codeIn, saidBy, replyOf, isReply}
 use Rattle.rulebook.specs.Phase.{Heard, terminal, issuer, dueKind}
 use Rattle.rulebook.specs.Turn.{allowed}
 use Rattle.rulebook.specs.Session.{isPayload}

@@ -6,8 +6,8 @@ use mathlib.Core.List.{List, [], _∷_, _++_}
 use mathlib.Core.Logic.{⊎-elim}
 use Prim.Native.Nat.{ℕ}
 use native.Mathlib.Omega.{arith}
-use Rattle.objects.specs.Objects.{isSome}
-use Rattle.tape.specs.Entries.{Entry, entry, start, command, answer, silence, host, decision}
+use Rattle.tlv_list.specs.Objects.{isSome}
+use Rattle.tape_read.specs.Entries.{Entry, entry, start, command, answer, silence, host, decision}
 use Rattle.rulebook.specs.Phase.{Phase}
 use Rattle.rulebook.specs.Session.{Plays, exchanged, heard, decided, Session, Open, Lawful, BreaksAt}
 use Rattle.rulebook.proofs.Trichotomy.{snoc-same}

@@ -4,7 +4,7 @@
 use mathlib.Core.Path.{refl}
 use mathlib.Core.List.{List, [], _∷_, _++_}
 use Prim.Native.Nat.{ℕ}
-use Rattle.tape.specs.Entries.{Entry, entry, start, host}
+use Rattle.tape_read.specs.Entries.{Entry, entry, start, host}
 use Rattle.rulebook.specs.Session.{Session}
 use Rattle.rulebook.proofs.Opening.{reached}
 use Rattle.rulebook.proofs.Made.{startOf, select, selected, options, optioned, readOne, recordedWith, recorded, number, firstAsked, secondAsked, given, aac, tc, arqc, decides, exchange, openingWith, opening, reads}

@@ -10,8 +10,8 @@ use native.Mathlib.Omega.{arith}
 use lib.Dec.{eqb}
 use lib.ListN.{length, take, getD}
 use borrow.Author.Tests.{eqb-false}
-use Rattle.objects.specs.Objects.{isSome}
-use Rattle.tape.specs.Entries.{Entry, entry, start, command, answer, host, decision}
+use Rattle.tlv_list.specs.Objects.{isSome}
+use Rattle.tape_read.specs.Entries.{Entry, entry, start, command, answer, host, decision}
 use Rattle.rulebook.specs.Session.{Session, Open, BreaksAt}
 use Rattle.rulebook.proofs.Opening.{reached}
 use Rattle.rulebook.proofs.Breaks.{begins-empty}

@@ -9,7 +9,7 @@ use native.Mathlib.Numerals.{add-one}
 use native.Mathlib.Omega.{arith}
 use lib.ListN.{length, take}
 use lib.Seq.{take-append-le}
-use Rattle.tape.specs.Entries.{Entry, entry, command, answer, decision}
+use Rattle.tape_read.specs.Entries.{Entry, entry, command, answer, decision}
 use Rattle.rulebook.specs.Phase.{Phase, opens, asks, hears}
 use Rattle.rulebook.specs.Turn.{turn, after}
 use Rattle.rulebook.specs.Session.{Plays, exchanged, heard, decided, Session, Beginning, Open, Lawful, phasesOf, Reads}

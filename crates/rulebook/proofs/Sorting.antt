@@ -6,12 +6,12 @@ use mathlib.Core.List.{List, [], _∷_, _++_}
 use mathlib.Core.Option.{some}
 use Prim.Native.Nat.{ℕ}
 use native.Mathlib.Omega.{arith}
-use Rattle.tape.specs.Entries.{Entry, entry, command, answer}
+use Rattle.tape_read.specs.Entries.{Entry, entry, command, answer}
 use Rattle.rulebook.specs.Phase.{Asked, Phase, opens, asks, commandOf}
 use Rattle.rulebook.specs.Turn.{turn}
 use Rattle.rulebook.specs.Session.{isPayload, Session, Beginning, AwaitsCard}
 use Rattle.rulebook.proofs.Ends.{Finished}
-use Rattle.lists.specs.Tests.{alike}
+use Rattle.slices.specs.Tests.{alike}
 use Rattle.rulebook.specs.Machine.{Machine, at, owes, done, due, next, andOn, run}
 use Rattle.rulebook.proofs.Running.{Follows, Led, chosen, at-end, due-entry, no-play, follows-from, step-back, run-session, follows-ends}
 use Rattle.rulebook.proofs.Reading.{run-append}

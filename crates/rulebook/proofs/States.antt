@@ -7,7 +7,7 @@ use mathlib.Core.Logic.{inl, inr, ⊎-elim}
 use mathlib.Core.Option.{none, some}
 use Prim.Native.Nat.{ℕ}
 use native.Mathlib.Omega.{arith}
-use Rattle.tape.specs.Entries.{Entry, entry, silence}
+use Rattle.tape_read.specs.Entries.{Entry, entry, silence}
 use Rattle.rulebook.specs.Phase.{Asked, opens}
 use Rattle.rulebook.specs.Session.{Closed, Open, Lawful}
 use Rattle.rulebook.specs.Machine.{Machine, at, owes, done, next, andOn, run}

@@ -7,7 +7,7 @@ use mathlib.Core.Path.{_≡_}
 use mathlib.Core.List.{List, [], _++_}
 use Prim.Native.Nat.{ℕ, _≤_}
 use lib.ListN.{length}
-use Rattle.tape.specs.Entries.{Entry}
+use Rattle.tape_read.specs.Entries.{Entry}
 use Rattle.rulebook.specs.Phase.{Phase, opens}
 use Rattle.rulebook.specs.Session.{longest, Session, Beginning, Open, Lawful, BreaksAt, Reads}
 use Rattle.rulebook.proofs.Single.{prefix-free, reads-once, session-reads, beginning-reads, reads-lawful}

@@ -8,8 +8,8 @@ use Prim.Native.Nat.{ℕ}
 use native.Mathlib.Omega.{arith}
 use lib.Dec.{eqb}
 use borrow.Author.Tests.{eqb-true, eqb-false}
-use Rattle.lists.proofs.Choice.{either}
-use Rattle.tape.specs.Entries.{Entry, entry, silence}
+use Rattle.slices.proofs.Choice.{either}
+use Rattle.tape_read.specs.Entries.{Entry, entry, silence}
 use Rattle.rulebook.specs.Phase.{Asked, Phase, opens}
 use Rattle.rulebook.specs.Session.{Session, Beginning, Closed, Open}
 use Rattle.rulebook.proofs.Ends.{Finished}

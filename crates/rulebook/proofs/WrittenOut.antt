@@ -3,7 +3,7 @@
 -- Assumes nothing.
 use mathlib.Core.Path.{refl}
 use mathlib.Core.List.{List, [], _∷_}
-use Rattle.tape.specs.Entries.{Entry, entry, start, command, answer, host, decision}
+use Rattle.tape_read.specs.Entries.{Entry, entry, start, command, answer, host, decision}
 use Rattle.rulebook.specs.Session.{Session}
 use Rattle.rulebook.proofs.Opening.{reached}
 use Rattle.rulebook.proofs.Made.{reads}

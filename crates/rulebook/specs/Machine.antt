@@ -7,9 +7,9 @@ use mathlib.Core.List.{List, [], _∷_}
 use mathlib.Core.Option.{Option, none, some}
 use Prim.Native.Nat.{ℕ}
 use lib.Dec.{eqb}
-use Rattle.lists.specs.Choice.{pick}
-use Rattle.lists.specs.Tests.{alike}
-use Rattle.tape.specs.Entries.{Entry, command, answer, decision}
+use Rattle.slices.specs.Choice.{pick}
+use Rattle.slices.specs.Tests.{alike}
+use Rattle.tape_read.specs.Entries.{Entry, command, answer, decision}
 use Rattle.rulebook.specs.Phase.{Asked, Heard, Phase, asks, hears, decides, commandOf, dueKind, decisionOf}
 use Rattle.rulebook.specs.Turn.{turn, allowed, after}
 use Rattle.rulebook.specs.Session.{isPayload}

@@ -3,12 +3,12 @@
 use mathlib.Core.List.{List, [], _∷_, _++_}
 use mathlib.Core.Option.{Option, none, some}
 use Prim.Native.Nat.{ℕ}
-use Rattle.lists.specs.Writing.{zeros}
-use Rattle.object_lists.specs.Filled.{filling}
-use Rattle.tape.specs.Entries.{start, host}
+use Rattle.slices.specs.Writing.{zeros}
+use Rattle.dol_fill.specs.Filled.{filling}
+use Rattle.tape_read.specs.Entries.{start, host}
 use Rattle.commands.specs.Commands.{selectCommand, optionsCommand, recordCommand, cryptogramCommand}
-use Rattle.decide.specs.Requests.{p1Of}
-use Rattle.decide.specs.declared.requests.Cryptogram.{Cryptogram}
+use Rattle.decide_requests.specs.Requests.{p1Of}
+use Rattle.decide_requests.specs.declared.requests.Cryptogram.{Cryptogram}
 use Rattle.rulebook.specs.Situation.{Situation, knownIn, listIn}
 
 -- what the card was asked

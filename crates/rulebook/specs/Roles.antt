@@ -5,7 +5,7 @@ use mathlib.Core.Bool.{Bool, true, _||_}
 use mathlib.Core.List.{List, _∷_, _++_}
 use Prim.Native.Nat.{ℕ}
 use lib.Dec.{eqb}
-use Rattle.tape.specs.Entries.{Entry, command, decision}
+use Rattle.tape_read.specs.Entries.{Entry, command, decision}
 use Rattle.rulebook.specs.Session.{Session, Open, BreaksAt}
 
 -- what a kernel gives: commands and the decision

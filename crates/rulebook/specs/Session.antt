@@ -9,8 +9,8 @@ use Prim.Native.Nat.{ℕ, _+_, _*_, _≤_}
 use lib.Dec.{leb}
 use lib.ListN.{length, take}
 use lib.Pow.{areBytes}
-use Rattle.tape.specs.Entries.{Entry, entry, command, answer, silence, decision, payloadMost}
-use Rattle.locator.specs.Entries.{mostRecords}
+use Rattle.tape_read.specs.Entries.{Entry, entry, command, answer, silence, decision, payloadMost}
+use Rattle.answer_afl.specs.Entries.{mostRecords}
 use Rattle.rulebook.specs.Situation.{Situation}
 use Rattle.rulebook.specs.Phase.{Asked, Heard, Phase, opens, asks, hears, decides, commandOf, dueKind, decisionOf}
 use Rattle.rulebook.specs.Turn.{turn, allowed, after}

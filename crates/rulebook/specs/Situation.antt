@@ -3,13 +3,13 @@
 use mathlib.Core.List.{List, [], _∷_}
 use mathlib.Core.Option.{Option, none, some, Option·getD}
 use Prim.Native.Nat.{ℕ}
-use Rattle.lists.specs.Writing.{zeros}
-use Rattle.terminal.specs.Reading.{Terminal}
-use Rattle.values.specs.Known.{nothing, kept}
-use Rattle.values.specs.declared.Value.{Value}
-use Rattle.values.specs.declared.Known.{Known}
-use Rattle.checks.specs.Card.{CardFacts}
-use Rattle.decide.specs.Codes.{IssuerCodes}
+use Rattle.slices.specs.Writing.{zeros}
+use Rattle.start_fields.specs.Reading.{Terminal}
+use Rattle.dol_values.specs.Known.{nothing, kept}
+use Rattle.dol_values.specs.declared.Value.{Value}
+use Rattle.dol_values.specs.declared.Known.{Known}
+use Rattle.decide_tvr.specs.Card.{CardFacts}
+use Rattle.decide_requests.specs.Codes.{IssuerCodes}
 
 -- what the records have told: for each named tag its value, once it was told
 abbrev pub Facts : Type 0

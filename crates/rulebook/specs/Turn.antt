@@ -6,25 +6,25 @@ use mathlib.Core.List.{List, [], _∷_}
 use mathlib.Core.Option.{Option, none, some}
 use Prim.Native.Nat.{ℕ, _*_}
 use lib.Dec.{eqb}
-use Rattle.lists.specs.Choice.{pick}
-use Rattle.objects.specs.Objects.{isSome}
-use Rattle.terminal.specs.Reading.{Terminal, readingOf}
-use Rattle.start.specs.Start.{validStart}
-use Rattle.values.specs.Known.{orElse}
-use Rattle.wanted.specs.Wanted.{fillable}
-use Rattle.select_answer.specs.Select.{selectReason, pdolOf}
-use Rattle.form_answers.specs.Options.{optionsReason, profileOf, locatorOf}
-use Rattle.locator.specs.Entries.{toRead}
-use Rattle.record_answer.specs.Records.{recordReason, namedIn, afterRecords}
-use Rattle.form_answers.specs.Cryptogram.{cryptogramReason, cryptogramOf}
-use Rattle.checks.specs.Results.{tvrAfterRecords, tsiAfterRecords, tsiAfterFirstAnswer}
-use Rattle.decide.specs.Requests.{firstRequest, secondRequest, givenBy, firstAllowed, secondAllowed}
-use Rattle.decide.specs.Replies.{codeIn, replyOf, isReply, responseCode}
-use Rattle.decide.specs.declared.requests.Cryptogram.{Cryptogram}
-use Rattle.decide.specs.declared.reply.HostReply.{HostReply}
-use Rattle.decide.specs.declared.reply.HostReply.the-variants.{Unable}
-use Rattle.decide.specs.declared.reply.HostHeard.{HostHeard}
-use Rattle.decide.specs.declared.reply.HostHeard.the-variants.{Said, Nothing}
+use Rattle.slices.specs.Choice.{pick}
+use Rattle.tlv_list.specs.Objects.{isSome}
+use Rattle.start_fields.specs.Reading.{Terminal, readingOf}
+use Rattle.start_valid.specs.Start.{validStart}
+use Rattle.dol_values.specs.Known.{orElse}
+use Rattle.dol_wanted.specs.Wanted.{fillable}
+use Rattle.answer_select.specs.Select.{selectReason, pdolOf}
+use Rattle.answer_forms.specs.Options.{optionsReason, profileOf, locatorOf}
+use Rattle.answer_afl.specs.Entries.{toRead}
+use Rattle.answer_record.specs.Records.{recordReason, namedIn, afterRecords}
+use Rattle.answer_forms.specs.Cryptogram.{cryptogramReason, cryptogramOf}
+use Rattle.decide_tvr.specs.Results.{tvrAfterRecords, tsiAfterRecords, tsiAfterFirstAnswer}
+use Rattle.decide_requests.specs.Requests.{firstRequest, secondRequest, givenBy, firstAllowed, secondAllowed}
+use Rattle.decide_requests.specs.Replies.{codeIn, replyOf, isReply, responseCode}
+use Rattle.decide_requests.specs.declared.requests.Cryptogram.{Cryptogram}
+use Rattle.decide_requests.specs.declared.reply.HostReply.{HostReply}
+use Rattle.decide_requests.specs.declared.reply.HostReply.the-variants.{Unable}
+use Rattle.decide_requests.specs.declared.reply.HostHeard.{HostHeard}
+use Rattle.decide_requests.specs.declared.reply.HostHeard.the-variants.{Said, Nothing}
 use Rattle.rulebook.specs.Situation.{Situation, Facts, begun, cardFacts, issuerCodes, listIn}
 use Rattle.rulebook.specs.Phase.{Asked, selecting, optioning, reading, first, second, Heard, terminal, issuer, Phase, asks, hears, decided, ended, approved, declined}
 

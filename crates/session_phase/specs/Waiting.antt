@@ -4,7 +4,7 @@
 use mathlib.Core.Bool.{Bool, true, false}
 use Prim.Native.Nat.{ℕ}
 use lib.Dec.{eqb}
-use Rattle.tape.specs.Entries.{start, answer, host}
+use Rattle.tape_read.specs.Entries.{start, answer, host}
 use Rattle.session_phase.specs.declared.Speaker.{Speaker}
 use Rattle.session_phase.specs.declared.Speaker.the-variants.{Terminal, Issuer}
 use Rattle.session_phase.specs.declared.Waiting.{Waiting}

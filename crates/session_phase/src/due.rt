@@ -1,9 +1,9 @@
 // What a session waits for.
 use crate::Speaker;
 use crate::Waiting;
-use tape::ANSWER;
-use tape::HOST;
-use tape::START;
+use tape_read::ANSWER;
+use tape_read::HOST;
+use tape_read::START;
 ghost use mathlib.Core.Path.{_≡_};
 ghost use Rattle.session_phase.specs.Waiting.{kindOf, awaited, outcomeOf, reasonOf};
 

@@ -1,12 +1,11 @@
 // What a session waits for, and what a call is answered with.
 mod due;
 
+use decide_requests::requests::Cryptogram;
 pub use due::awaits;
 pub use due::kind_of;
 pub use due::outcome;
 pub use due::reason;
-
-use decide::requests::Cryptogram;
 
 // What the card was asked.
 pub enum Question {

@@ -9,7 +9,7 @@ use native.Mathlib.Omega.{arith}
 use lib.Dec.{ltb}
 use lib.ListN.{length, getD, length-append}
 use borrow.Author.Tests.{lt-ltb, le-ltb, ltb-true, ltb-false}
-use Rattle.lists.proofs.Choice.{pick-yes, pick-no, pick-cong, either}
+use Rattle.slices.proofs.Choice.{pick-yes, pick-no, pick-cong, either}
 use Rattle.verdict_line.specs.Line.{digitsOf, decimal, fieldOf}
 
 -- however many digits are allowed beyond those that there are

@@ -3,7 +3,7 @@
 use mathlib.Core.Path.{_≡_, refl, sym}
 use mathlib.Core.List.{[], _∷_}
 use native.Mathlib.Omega.{arith}
-use Rattle.lists.specs.Choice.{pick}
+use Rattle.slices.specs.Choice.{pick}
 use Rattle.verdict.specs.Saying.{says}
 use Rattle.verdict_line.specs.Line.{wordOf, digitsOf, decimal, fieldOf, lineOf}
 use Rattle.verdict.specs.declared.Verdict.the-variants.{Pass, Fail, Inconclusive, Unreadable}

@@ -8,9 +8,9 @@ use native.Mathlib.Omega.{arith}
 use lib.ListN.{length, take, set, length-append}
 use lib.Seq.{sets-eq, drop-drop, take-append-seam}
 use borrow.Author.Tests.{le-leb, lt-leb}
-use Rattle.lists.specs.Writing.{put, laid}
-use Rattle.lists.proofs.Choice.{pick-yes, pick-no}
-use Rattle.lists.proofs.Writing.{put-length, put-step, put-start, laid-fits, laid-short}
+use Rattle.slices.specs.Writing.{put, laid}
+use Rattle.slices.proofs.Choice.{pick-yes, pick-no}
+use Rattle.slices.proofs.Writing.{put-length, put-step, put-start, laid-fits, laid-short}
 use Rattle.verdict_line.specs.Line.{wordOf, decimal, fieldOf, lineOf, lineSize}
 use Rattle.verdict.specs.declared.Verdict.{Verdict}
 use Rattle.verdict.specs.declared.Answer.{Answer}

@@ -1,11 +1,11 @@
 // The line that says a verdict.
-use lists::lay;
+use slices::lay;
 use verdict::Answer;
 use verdict::Verdict;
 ghost use mathlib.Core.Path.{_≡_};
 ghost use Prim.Native.Nat.{_+_, _≤_};
 ghost use lib.ListN.{length};
-ghost use Rattle.lists.specs.Writing.{put, laid};
+ghost use Rattle.slices.specs.Writing.{put, laid};
 ghost use Rattle.verdict_line.specs.Line.{wordOf, decimal, fieldOf, lineOf, lineSize};
 
 // The longest line is INCONCLUSIVE with two numbers of 20 digits: 55 bytes.

@@ -9,22 +9,22 @@ use native.Mathlib.Omega.{arith}
 use lib.ListN.{length}
 use lib.Pow.{areBytes}
 use borrow.Author.Needs.{needs}
-use Rattle.crc.proofs.Bytes.{bytes-each}
-use Rattle.tape.specs.Entries.{Entry, entry}
-use Rattle.tape.specs.Blocks.{codeOf, kindIn, payloadIn, sessionIn, entryIn}
-use Rattle.tape.specs.Tapes.{blockAt, sessionOf}
+use Rattle.tape_crc.proofs.Bytes.{bytes-each}
+use Rattle.tape_read.specs.Entries.{Entry, entry, blockSize}
+use Rattle.tape_read.specs.Blocks.{codeOf, kindIn, payloadIn, sessionIn, entryIn}
+use Rattle.tape_read.specs.Tapes.{blockAt, sessionOf}
 use Rattle.rulebook.specs.Machine.{at}
 use Rattle.rulebook.specs.Phase.{opens}
 use Rattle.rulebook.specs.Session.{isPayload}
 use Rattle.verdict.specs.Saying.{says}
-use Rattle.verdicts.specs.Judged.{Judged}
+use Rattle.verdict_judged.specs.Judged.{Judged}
 use Rattle.verdict.specs.declared.Verdict.the-variants.{Unreadable}
-use Rattle.verdicts.specs.Progress.{Progress, reached, reads, verdictOf}
-use Rattle.verdicts.proofs.Meaning.{verdict-right}
-use Rattle.verdicts.proofs.Loop.{verdictFrom, verdict-long, verdict-ragged, verdict-blocks, loop-good, loop-bad, loop-end, block-payload, block-bytes, block-entry}
-use Rattle.following.specs.declared.Judgement.{Judgement}
-use Rattle.following.specs.Following.{begun, fed}
-use Rattle.following.proofs.Tracking.{Tracks, tracks-begun, fed-tracks, said}
+use Rattle.verdict_judged.specs.Progress.{Progress, reached, reads, verdictOf}
+use Rattle.verdict_judged.proofs.Meaning.{verdict-right}
+use Rattle.verdict_judged.proofs.Loop.{verdictFrom, verdict-long, verdict-ragged, verdict-blocks, loop-good, loop-bad, loop-end, block-payload, block-bytes, block-entry}
+use Rattle.judge_follow.specs.declared.Judgement.{Judgement}
+use Rattle.judge_follow.specs.Following.{begun, fed}
+use Rattle.judge_follow.proofs.Tracking.{Tracks, tracks-begun, fed-tracks, said}
 use Rattle.judge.proofs.judge.Statement.{statement}
 use Rattle.judge.proofs.judge.Tie as tie
 
@@ -33,10 +33,10 @@ abbrev Stands : List ℕ → Judgement → ℕ → Type 0
 Stands t j k = (m : Progress) × (Tracks k j m × (verdictOf t ≡ verdictFrom m k (sessionOf t) t))
 
 abbrev Inv-loop : tie.InvT-loop
-Inv-loop tape number j₀ k₀ j k = (k ≤ length tape / 512) × Stands tape j k
+Inv-loop tape number j₀ k₀ j k = (k ≤ length tape / blockSize) × Stands tape j k
 
 abbrev μ-loop : tie.MeasureT-loop
-μ-loop tape number j₀ k₀ j k = length tape / 512 - k
+μ-loop tape number j₀ k₀ j k = length tape / blockSize - k
 
 returns : tie.Need-returns Inv-loop μ-loop
 returns c =
@@ -56,8 +56,8 @@ loop-holds c =
     )
 
 -- the blocks, and the session number of the first
-module _ (t : List ℕ) (k : ℕ) (j : Judgement) (stands : Stands t j k) (there : k < length t / 512) where
-  room : (k + 1) * 512 ≤ length t
+module _ (t : List ℕ) (k : ℕ) (j : Judgement) (stands : Stands t j k) (there : k < length t / blockSize) where
+  room : (k + 1) * blockSize ≤ length t
   room = omega arith
 
   fails : (n why : ℕ) (b : List ℕ) → b ≡ blockAt k t → n ≡ sessionOf t → why ≡ codeOf k n b → (why ≡ 0 → ⊥) → says Unreadable k why ≡ verdictOf t

@@ -7,7 +7,7 @@ use Prim.Native.Nat.{ℕ, _+_, _<_}
 use native.Mathlib.Omega.{arith}
 use lib.ListN.{length, set, length-take, length-set}
 use borrow.Author.Needs.{needs}
-use Rattle.lists.specs.Writing.{put, laid, zeros}
+use Rattle.slices.specs.Writing.{put, laid, zeros}
 use Rattle.verdict_line.specs.Line.{lineOf}
 use Rattle.verdict_line.proofs.Printing.{field-most, line-length, line-laid, line-taken, unwritten, size-written}
 use Rattle.verdict_line.proofs.line.Statement.{statement}

@@ -4,9 +4,9 @@ use mathlib.Core.Path.{_≡_, sym, ap, _∙_}
 use mathlib.Core.List.{List, [], _∷_, _++_}
 use Prim.Native.Nat.{ℕ, _+_, _≤_}
 use lib.ListN.{length}
-use Rattle.lists.specs.Writing.{laid}
-use Rattle.terminal.specs.Reading.{readingOf}
-use Rattle.object_lists.specs.Filled.{filling}
+use Rattle.slices.specs.Writing.{laid}
+use Rattle.start_fields.specs.Reading.{readingOf}
+use Rattle.dol_fill.specs.Filled.{filling}
 use Rattle.commands.specs.Commands.{dataSize}
 use Rattle.commands.proofs.Sizes.{data-length, two-laid}
 use borrow.Author.Needs.{needs}

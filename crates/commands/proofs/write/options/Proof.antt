@@ -4,9 +4,9 @@ use mathlib.Core.Path.{_≡_, refl, sym, ap, _∙_}
 use mathlib.Core.List.{List, [], _∷_, _++_}
 use Prim.Native.Nat.{ℕ, _+_, _≤_, _<_}
 use lib.ListN.{length}
-use Rattle.lists.specs.Writing.{put, laid}
-use Rattle.terminal.specs.Reading.{readingOf}
-use Rattle.object_lists.specs.Filled.{filling}
+use Rattle.slices.specs.Writing.{put, laid}
+use Rattle.start_fields.specs.Reading.{readingOf}
+use Rattle.dol_fill.specs.Filled.{filling}
 use Rattle.commands.specs.Commands.{optionsCommand, sizeIn, dataSize}
 use Rattle.commands.proofs.Sizes.{unissued, issued, two-pieces, data-length}
 use Rattle.commands.proofs.Shapes.{ended-length, options-short, options-long}

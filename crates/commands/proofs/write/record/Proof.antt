@@ -5,8 +5,8 @@ use Prim.Native.Nat.{ℕ, _≤_, _<_}
 use lib.ListN.{length}
 use Rattle.commands.specs.Commands.{recordCommand, sizeIn}
 use Rattle.commands.proofs.Sizes.{unissued, issued}
-use Rattle.lists.specs.Writing.{put}
-use Rattle.lists.proofs.Writing.{laid-fits}
+use Rattle.slices.specs.Writing.{put}
+use Rattle.slices.proofs.Writing.{laid-fits}
 use borrow.Author.Needs.{needs}
 use native.Mathlib.Omega.{arith}
 use Rattle.commands.proofs.write.record.Statement.{statement}

@@ -4,12 +4,12 @@ use mathlib.Core.Path.{_≡_, refl, sym, ap, _∙_}
 use mathlib.Core.List.{List, [], _∷_, _++_}
 use Prim.Native.Nat.{ℕ, _+_, _≤_, _<_}
 use lib.ListN.{length}
-use Rattle.lists.specs.Writing.{put, laid}
-use Rattle.terminal.specs.Reading.{readingOf}
+use Rattle.slices.specs.Writing.{put, laid}
+use Rattle.start_fields.specs.Reading.{readingOf}
 use Rattle.commands.specs.Commands.{selectCommand, sizeIn}
 use Rattle.commands.proofs.Sizes.{unissued, issued, two-laid, two-pieces}
 use Rattle.commands.proofs.Shapes.{ended-length, aid-most}
-use Rattle.lists.proofs.Writing.{put-length, laid-fits}
+use Rattle.slices.proofs.Writing.{put-length, laid-fits}
 use borrow.Author.Needs.{needs}
 use native.Mathlib.Omega.{arith}
 use Rattle.commands.proofs.write.select.Statement.{statement}

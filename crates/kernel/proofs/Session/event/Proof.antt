@@ -1,7 +1,7 @@
 -- `Session::event` meets its contract: the call is turned away, closes the session, or is the session's step.
 -- Assumes nothing.
 use borrow.Author.Needs.{needs}
-use Rattle.tape.specs.Entries.{entry}
+use Rattle.tape_read.specs.Entries.{entry}
 use Rattle.kernel.proofs.Answering.{away, closes, steps}
 use Rattle.kernel.proofs.Session.event.Statement.{statement}
 use Rattle.kernel.proofs.Session.event.Tie as tie

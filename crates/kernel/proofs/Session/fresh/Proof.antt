@@ -2,7 +2,7 @@
 -- Assumes nothing.
 use mathlib.Core.Path.{_≡_, refl, sym, ap, _∙_}
 use borrow.Author.Needs.{needs}
-use Rattle.state.specs.declared.State.{State}
+use Rattle.session_state.specs.declared.State.{State}
 use Rattle.kernel.specs.Calls.{freshSession}
 use Rattle.kernel.proofs.Session.fresh.Statement.{statement}
 use Rattle.kernel.proofs.Session.fresh.Tie as tie

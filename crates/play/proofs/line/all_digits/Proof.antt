@@ -5,7 +5,7 @@ use Prim.Native.Nat.{_-_}
 use native.Mathlib.Omega.{arith}
 use lib.ListN.{length, drop, getD}
 use borrow.Author.Needs.{needs}
-use Rattle.hexadecimal.specs.Digits.{digit}
+use Rattle.text_hex.specs.Digits.{digit}
 use Rattle.play.specs.Lines.{allDigits}
 use Rattle.play.proofs.Reading.{digits-next, digits-stop, digits-end}
 use Rattle.play.proofs.line.all_digits.Statement.{statement}

@@ -3,7 +3,7 @@
 use mathlib.Core.Path.{sym, _∙_}
 use borrow.Author.Needs.{needs}
 use borrow.Author.Tests.{eq-eqb, ne-eqb}
-use Rattle.lists.proofs.Choice.{pick-yes, pick-no}
+use Rattle.slices.proofs.Choice.{pick-yes, pick-no}
 use Rattle.play.specs.Lines.{faultOf}
 use Rattle.play.proofs.line.fault_of.Statement.{statement}
 use Rattle.play.proofs.line.fault_of.Tie as tie

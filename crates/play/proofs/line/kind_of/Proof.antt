@@ -2,7 +2,7 @@
 -- Assumes nothing.
 use mathlib.Core.Path.{sym, _∙_}
 use borrow.Author.Needs.{needs}
-use Rattle.lists.proofs.Choice.{pick-yes, pick-no}
+use Rattle.slices.proofs.Choice.{pick-yes, pick-no}
 use Rattle.play.specs.Lines.{kindOf}
 use Rattle.play.proofs.line.kind_of.Statement.{statement}
 use Rattle.play.proofs.line.kind_of.Tie as tie

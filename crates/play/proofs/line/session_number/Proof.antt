@@ -6,8 +6,8 @@ use native.Mathlib.Omega.{arith}
 use lib.ListN.{length, drop, getD}
 use borrow.Author.Needs.{needs}
 use borrow.Author.Tests.{eq-eqb, ne-eqb}
-use Rattle.lists.proofs.Choice.{pick-yes, pick-no}
-use Rattle.hexadecimal.specs.Digits.{digit}
+use Rattle.slices.proofs.Choice.{pick-yes, pick-no}
+use Rattle.text_hex.specs.Digits.{digit}
 use Rattle.play.specs.Lines.{numberFrom, sessionNumber, noNumber}
 use Rattle.play.proofs.Reading.{number-next, number-stop, number-end}
 use Rattle.play.proofs.line.session_number.Statement.{statement}

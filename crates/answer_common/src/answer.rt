@@ -1,0 +1,122 @@
+// An answer as a whole: its size, its status and its one object.
+use slices::byte;
+use tlv_head::Next;
+use tlv_list::place::data_field;
+use tlv_list::place::list_refusal;
+use tlv_list::place::next;
+use tlv_list::place::value;
+ghost use mathlib.Core.Path.{_≡_};
+ghost use Prim.Native.Nat.{_≤_};
+ghost use lib.ListN.{length};
+ghost use Rattle.slices.specs.Choice.{firstOf};
+ghost use Rattle.tlv_list.specs.Objects.{objects};
+ghost use Rattle.tlv_list.specs.Place.{dataField};
+ghost use Rattle.answer_common.specs.Answer.{sizeBad, statusBad, outer as outerOf, isOne, inside as insideOf, outerBad, frame};
+ghost use Rattle.answer_common.specs.Answer.{only as onlyOf, theOne};
+
+fn is_size_bad(answer: &[u8]) -> bool
+    ensures { λ r. ⌜ r ≡ sizeBad (now (answer .entry)) ⌝ }
+{
+    answer.len() < 2 || 258 < answer.len()
+}
+
+fn is_status_bad(answer: &[u8]) -> bool
+    requires { ⌜ 2 ≤ length (now answer) ⌝ }
+    ensures { λ r. ⌜ r ≡ statusBad (now (answer .entry)) ⌝ }
+{
+    let n = answer.len();
+    byte(answer, n - 2) != 0x90 || byte(answer, n - 1) != 0x00
+}
+
+// The only object of some bytes, where they are a list of one.
+fn only(s: &[u8]) -> Next
+    requires { ⌜ length (now s) ≤ 4096 ⌝ }
+    ensures { λ r. ⌜ theOne (now (s .entry)) r ≡ onlyOf (objects (now (s .entry))) ⌝ }
+{
+    if list_refusal(s) != 0 {
+        return Next::Broken;
+    }
+    match next(s, 0) {
+        Next::End => Next::End,
+        Next::Broken => Next::Broken,
+        Next::Member { tag, start, end } => match next(s, end) {
+            Next::End => Next::Member { tag, start, end },
+            Next::Broken => Next::Broken,
+            Next::Member {
+                tag: _,
+                start: _,
+                end: _,
+            } => Next::Broken,
+        },
+    }
+}
+
+// The one object of an answer's data.
+fn outer(answer: &[u8]) -> Next
+    ensures { λ r. ⌜ theOne (dataField (now (answer .entry))) r ≡ outerOf (now (answer .entry)) ⌝ }
+{
+    if is_size_bad(answer) {
+        return Next::Broken;
+    }
+    only(data_field(answer))
+}
+
+pub fn is_one(answer: &[u8], tag: usize) -> bool
+    ensures { λ r. ⌜ r ≡ isOne tag (now (answer .entry)) ⌝ }
+{
+    match outer(answer) {
+        Next::End => false,
+        Next::Broken => false,
+        Next::Member {
+            tag: t,
+            start: _,
+            end: _,
+        } => t == tag,
+    }
+}
+
+// The value of an answer's one object, if that has the tag; else nothing.
+pub fn inside(answer: &[u8], tag: usize) -> &[u8]
+    ensures { λ r. ⌜ now r ≡ insideOf tag (now (answer .entry)) ⌝ }
+{
+    match outer(answer) {
+        Next::End => &answer[0..0],
+        Next::Broken => &answer[0..0],
+        Next::Member { tag: t, start, end } => {
+            if t == tag {
+                value(data_field(answer), start, end)
+            } else {
+                &answer[0..0]
+            }
+        }
+    }
+}
+
+fn is_outer_bad(answer: &[u8], expected: &[usize]) -> bool
+    ensures { λ r. ⌜ r ≡ outerBad (now (expected .entry)) (now (answer .entry)) ⌝ }
+{
+    let mut i = 0;
+    while i < expected.len() {
+        if is_one(answer, expected[i]) {
+            return false;
+        }
+        i += 1;
+    }
+    true
+}
+
+// Reasons 1 to 3; 0 where none of them applies.
+pub fn frame_reason(answer: &[u8], expected: &[usize]) -> usize
+    ensures { λ r. ⌜ r ≡ firstOf (frame (now (expected .entry)) (now (answer .entry))) ⌝ }
+{
+    if is_size_bad(answer) {
+        return 1;
+    }
+    if is_status_bad(answer) {
+        return 2;
+    }
+    if is_outer_bad(answer, expected) {
+        return 3;
+    }
+    0
+}

@@ -1,0 +1,56 @@
+// What the value of each named object must be.
+use crate::number::is_card_number;
+use answer_afl::entries::are_whole;
+use decimal_dates::dates::valid_card_date;
+ghost use mathlib.Core.Path.{_≡_};
+ghost use Rattle.answer_common.specs.Content.{ruleFor, rightValue};
+
+// The rules for values.
+pub enum Rule {
+    // A number of bytes between two limits.
+    Sizes(usize, usize),
+    // Entries of an AFL.
+    Entries,
+    // The card number.
+    Number,
+    // A date YYMMDD.
+    Date,
+    Anything,
+}
+
+fn rule_for(tag: usize) -> Rule
+    ensures { λ r. ⌜ r ≡ ruleFor tag ⌝ }
+{
+    match tag {
+        0x84 => Rule::Sizes(5, 16),
+        0x9F38 => Rule::Sizes(0, 252),
+        0x82 => Rule::Sizes(2, 2),
+        0x94 => Rule::Entries,
+        0x5A => Rule::Number,
+        0x5F24 => Rule::Date,
+        0x5F25 => Rule::Date,
+        0x9F08 => Rule::Sizes(2, 2),
+        0x8C => Rule::Sizes(0, 252),
+        0x8D => Rule::Sizes(0, 252),
+        0x9F0D => Rule::Sizes(5, 5),
+        0x9F0E => Rule::Sizes(5, 5),
+        0x9F0F => Rule::Sizes(5, 5),
+        0x9F27 => Rule::Sizes(1, 1),
+        0x9F36 => Rule::Sizes(2, 2),
+        0x9F26 => Rule::Sizes(8, 8),
+        0x9F10 => Rule::Sizes(0, 32),
+        _ => Rule::Anything,
+    }
+}
+
+pub fn is_right(tag: usize, v: &[u8]) -> bool
+    ensures { λ r. ⌜ r ≡ rightValue tag (now (v .entry)) ⌝ }
+{
+    match rule_for(tag) {
+        Rule::Sizes(fewest, most) => fewest <= v.len() && v.len() <= most,
+        Rule::Entries => are_whole(v),
+        Rule::Number => is_card_number(v),
+        Rule::Date => valid_card_date(v),
+        Rule::Anything => true,
+    }
+}

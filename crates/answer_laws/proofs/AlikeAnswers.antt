@@ -1,0 +1,170 @@
+-- Answers that are alike have the same reason and tell the same facts: of two answers of a right size with the same status,
+-- each of one expected object, only what stands under the names counts. Other objects, '00' bytes and length forms do not.
+-- Assumes nothing.
+use mathlib.Core.Path.{_≡_, refl, sym, ap, ap₂, _∙_}
+use mathlib.Core.Bool.{Bool, true, false, not, _&&_, _||_, false≢true}
+use mathlib.Core.List.{List, [], _∷_, _++_, map}
+use mathlib.Core.Option.{Option}
+use Prim.Native.Nat.{ℕ, _/_}
+use lib.Dec.{eqb}
+use lib.ListN.{take, drop, length, getD}
+use Rattle.slices.specs.Choice.{pick, firstOf}
+use Rattle.slices.proofs.Choice.{pick-yes, pick-no, either}
+use Rattle.tlv_list.specs.Objects.{Object}
+use Rattle.tlv_list.specs.Lookup.{Lookup, absent, once, twice}
+use Rattle.start_fields.specs.Reading.{Terminal}
+use Rattle.slices.specs.Tests.{between}
+use Rattle.dol_wanted.specs.Wanted.{fillable}
+use Rattle.answer_afl.specs.Entries.{wholeEntries, entriesRight, tooMany}
+use Rattle.slices.specs.Tables.{anyOf, beside}
+use Rattle.answer_common.specs.Content.{meets, rules, ruleFor, rightValue}
+use Rattle.answer_common.specs.Answer.{isOne, inside}
+use Rattle.answer_common.specs.Named.{membersIn, listed, named, among, direct, times, told, valueOf, wrongValue, anyTimes, anyWrong}
+use Rattle.answer_common.proofs.Lines.{one-more}
+use Rattle.answer_common.proofs.Alike.{any-alike, times-alike, wrong-alike, named-alike, tags-alike, Alike, frame-alike}
+use Rattle.answer_forms.specs.Forms.{template, joined, bothForms, lacks}
+use Rattle.answer_select.specs.Select.{selectTag, selectNames, innerNames, inner, pdolOf, nameWrong, selectTwice, selectWrong, selectLines, selectReason}
+use Rattle.answer_forms.specs.Options.{optionNames, profileOf, locatorOf, optionsWrong, optionsLines, optionsReason}
+use Rattle.answer_record.specs.Records.{recordTag, recordNames, again, anyAgain, recordTwice, recordLines, recordReason, valueIn}
+use Rattle.answer_forms.specs.Cryptogram.{mandatoryNames, cryptogramNames, informationOf, cryptogramOf, cryptogramWrong, cryptogramLines, cryptogramReason}
+
+-- the same named members, in the same order, in two runs of bytes
+abbrev pub SameNamed : List ℕ → List ℕ → List ℕ → Type 0
+SameNamed names s t = named names (membersIn s) ≡ named names (membersIn t)
+
+-- a choice between the forms that agrees in both
+by-form : {t t′ : Bool} {x x′ y y′ : List ℕ} → t ≡ t′ → x ≡ x′ → y ≡ y′ → pick t x y ≡ pick t′ x′ y′
+by-form e f g = cc
+
+-- a name without a rule is never wrong
+free : (l : Lookup) → wrongValue 0xA5 l ≡ false
+unfolding wrongValue rightValue ruleFor rules beside pick meets
+free absent = refl
+free (once v) = refl
+free twice = refl
+
+listed-more : (name : ℕ) (x y : List ℕ) → listed name x ≡ true → listed name (x ++ y) ≡ true
+unfolding listed anyOf
+listed-more name [] y l = absurd (false≢true l)
+listed-more name (n ∷ x) y l =
+    either (eqb name n) (λ e. pick-yes _ _ _ e) (λ e. pick-no _ _ _ e ∙ listed-more name x y (sym (pick-no _ _ _ e) ∙ l))
+
+named-too : (name : ℕ) → listed name mandatoryNames ≡ true → listed name cryptogramNames ≡ true
+named-too name l = listed-more name mandatoryNames (0x9F10 ∷ []) l
+
+-- records
+module _ (before : ℕ → Bool) (a b : List ℕ) (alike : Alike (recordTag ∷ []) a b) (same : SameNamed recordNames (inside recordTag a) (inside recordTag b)) where
+  under : (name : ℕ) → listed name recordNames ≡ true → direct recordTag a name ≡ direct recordTag b name
+  unfolding direct
+  under name l = named-alike recordNames (inside recordTag a) (inside recordTag b) same name l
+
+  twice-same : recordTwice before a ≡ recordTwice before b
+  unfolding recordTwice anyAgain
+  twice-same =
+      ap₂ _||_
+      (times-alike recordNames (direct recordTag a) (direct recordTag b) 2 (λ name l. ap times (under name l)))
+      (any-alike _ _ recordNames (λ name l. ap (again (before name)) (under name l)))
+
+  pub record-alike : recordReason before a ≡ recordReason before b
+  unfolding recordReason recordLines
+  record-alike =
+      frame-alike (recordTag ∷ []) a b alike _ _
+      (one-more 4 _ _ twice-same (one-more 5 [] [] (wrong-alike recordNames (direct recordTag a) (direct recordTag b) under) refl))
+
+  pub record-facts : (name : ℕ) → listed name recordNames ≡ true → valueIn name a ≡ valueIn name b
+  unfolding valueIn
+  record-facts name l = ap told (under name l)
+
+-- SELECT: the same named members in 6F and in A5, in the same order, with the same values; of A5 itself its members stand for
+-- its value
+pub record SelectAlike (a b : List ℕ) : Type 0 where
+  pub frames : Alike (selectTag ∷ []) a b
+  pub members : map (λ m. m .tag) (named selectNames (membersIn (inside selectTag a))) ≡ map (λ m. m .tag) (named selectNames (membersIn (inside selectTag b)))
+  pub name : SameNamed (0x84 ∷ []) (inside selectTag a) (inside selectTag b)
+  pub within : SameNamed innerNames (valueOf (direct selectTag a 0xA5)) (valueOf (direct selectTag b 0xA5))
+
+module _ (t : Terminal) (a b : List ℕ) (same : SelectAlike a b) where
+  as-often : (name : ℕ) → listed name selectNames ≡ true → times (direct selectTag a name) ≡ times (direct selectTag b name)
+  unfolding direct
+  as-often name l = tags-alike selectNames (inside selectTag a) (inside selectTag b) (same .members) name l
+
+  name-same : direct selectTag a 0x84 ≡ direct selectTag b 0x84
+  unfolding direct listed anyOf pick
+  name-same = named-alike (0x84 ∷ []) (inside selectTag a) (inside selectTag b) (same .name) 0x84 refl
+
+  inner-same : (name : ℕ) → listed name innerNames ≡ true → inner a name ≡ inner b name
+  unfolding inner
+  inner-same name l = named-alike innerNames (valueOf (direct selectTag a 0xA5)) (valueOf (direct selectTag b 0xA5)) (same .within) name l
+
+  pub select-facts : pdolOf a ≡ pdolOf b
+  unfolding pdolOf listed anyOf pick
+  select-facts = ap valueOf (inner-same 0x9F38 refl)
+
+  -- only 84 has a rule of the two names in 6F
+  outer-wrong : anyWrong selectNames (direct selectTag a) ≡ anyWrong selectNames (direct selectTag b)
+  unfolding anyWrong anyOf
+  outer-wrong =
+      ap₂ (λ (x y : Bool). pick x true (pick y true false))
+      (ap (wrongValue 0x84) name-same)
+      (free (direct selectTag a 0xA5) ∙ sym (free (direct selectTag b 0xA5)))
+
+  pub select-alike : selectReason t a ≡ selectReason t b
+  unfolding selectReason selectLines selectTwice selectWrong
+  select-alike =
+      frame-alike (selectTag ∷ []) a b (same .frames) _ _
+      (one-more 4 _ _ (ap₂ _||_ (times-alike selectNames _ _ 2 as-often) (times-alike innerNames _ _ 2 (λ name l. ap times (inner-same name l))))
+      (one-more 5 _ _ (ap₂ _||_ outer-wrong (ap₂ _||_ (wrong-alike innerNames _ _ inner-same) (ap (nameWrong (t .aid)) name-same)))
+      (one-more 8 _ _ (times-alike selectNames _ _ 0 as-often)
+      (one-more 9 [] [] (ap (λ (v : List ℕ). not (fillable v)) select-facts) refl))))
+
+-- GPO and GENERATE AC: the same form; in a template the same named members, in the same order, else the same joined values
+pub record FormAlike (names a b : List ℕ) : Type 0 where
+  pub frames : Alike bothForms a b
+  pub is-template : isOne template a ≡ isOne template b
+  pub is-joined : isOne joined a ≡ isOne joined b
+  pub members : SameNamed names (inside template a) (inside template b)
+  pub values : inside joined a ≡ inside joined b
+
+module _ (names a b : List ℕ) (same : FormAlike names a b) where
+  in-form : (name : ℕ) → listed name names ≡ true → direct template a name ≡ direct template b name
+  unfolding direct
+  in-form name l = named-alike names (inside template a) (inside template b) (same .members) name l
+
+  lacks-same : (some : List ℕ) → ((name : ℕ) → listed name some ≡ true → listed name names ≡ true) → lacks some a ≡ lacks some b
+  unfolding lacks
+  lacks-same some l = ap₂ _&&_ (same .is-template) (times-alike some _ _ 0 (λ name k. ap times (in-form name (l name k))))
+
+module _ (a b : List ℕ) (same : FormAlike optionNames a b) where
+  pub options-facts : (profileOf a ≡ profileOf b) × (locatorOf a ≡ locatorOf b)
+  unfolding profileOf locatorOf listed anyOf pick
+  options-facts = (
+    by-form (same .is-joined) (ap (take 2) (same .values)) (ap valueOf (in-form optionNames a b same 0x82 refl)),
+    by-form (same .is-joined) (ap (drop 2) (same .values)) (ap valueOf (in-form optionNames a b same 0x94 refl)),
+  )
+
+  pub options-alike : optionsReason a ≡ optionsReason b
+  unfolding optionsReason optionsLines optionsWrong
+  options-alike =
+      let afl = options-facts .1 in
+      frame-alike bothForms a b (same .frames) _ _
+      (one-more 4 _ _ (times-alike optionNames _ _ 2 (λ name l. ap times (in-form optionNames a b same name l)))
+      (one-more 5 _ _ (ap₂ _||_ (wrong-alike optionNames _ _ (in-form optionNames a b same)) (ap₂ (λ (t : Bool) (v : List ℕ). t && not (wholeEntries v)) (same .is-joined) afl))
+      (one-more 6 _ _ (ap (λ (v : List ℕ). not (entriesRight v)) afl)
+      (one-more 7 _ _ (ap tooMany afl)
+      (one-more 8 [] [] (lacks-same optionNames a b same optionNames (λ name l. l)) refl)))))
+
+module _ (allowed : ℕ → Bool) (a b : List ℕ) (same : FormAlike cryptogramNames a b) where
+  pub cryptogram-facts : cryptogramOf a ≡ cryptogramOf b
+  unfolding cryptogramOf informationOf listed anyOf pick
+  cryptogram-facts =
+      ap (λ (v : List ℕ). getD v 0 0 / 64)
+      (by-form (same .is-joined) (same .values) (ap valueOf (in-form cryptogramNames a b same 0x9F27 refl)))
+
+  pub cryptogram-alike : cryptogramReason allowed a ≡ cryptogramReason allowed b
+  unfolding cryptogramReason cryptogramLines cryptogramWrong
+  cryptogram-alike =
+      frame-alike bothForms a b (same .frames) _ _
+      (one-more 4 _ _ (times-alike cryptogramNames _ _ 2 (λ name l. ap times (in-form cryptogramNames a b same name l)))
+      (one-more 5 _ _ (ap₂ _||_ (wrong-alike cryptogramNames _ _ (in-form cryptogramNames a b same)) (ap₂ (λ (t : Bool) (v : List ℕ). t && not (between 11 43 (length v))) (same .is-joined) (same .values)))
+      (one-more 8 _ _ (lacks-same cryptogramNames a b same mandatoryNames named-too)
+      (one-more 10 [] [] (ap (λ (k : ℕ). not (allowed k)) cryptogram-facts) refl))))

@@ -1,0 +1,38 @@
+-- `answer_record::is_twice` meets its contract: first in this record, then against the earlier ones.
+-- Assumes nothing.
+use mathlib.Core.Path.{_≡_, sym, ap, _∙_}
+use borrow.Author.Needs.{needs}
+use Rattle.answer_common.specs.Named.{direct, anyTimes}
+use Rattle.slices.proofs.Tables.{or-yes, or-no}
+use Rattle.answer_record.specs.Records.{recordNames, anyAgain, recordTwice, toldBy}
+use Rattle.answer_record.proofs.Standing.{record-found}
+use Rattle.answer_record.proofs.is_twice.Statement.{statement}
+use Rattle.answer_record.proofs.is_twice.Tie as tie
+
+found : (c : tie.After-any-times-in-checked) → c .any-times-in-checked .result ≡ anyTimes 2 recordNames (direct 0x70 (c .before .before .before .before .args .answer .now))
+found c = c .any-times-in-checked .ensures ∙ ap (anyTimes 2 recordNames) (record-found _ (c .before .before .inside .ensures))
+
+returns : tie.Need-returns
+unfolding recordTwice
+returns c = sym (or-yes (found (c .before)) _ (c .if1 .taken) ∙ c .if1 .taken)
+
+returns-2 : tie.Need-returns-2
+unfolding recordTwice
+returns-2 c =
+    let b = c .before .before in
+    let d = b .before .before .before in
+    c .any-again .ensures
+    ∙ (ap (anyAgain (toldBy (d .before .before .args .seen)) recordNames) (record-found _ (d .inside .ensures))
+    ∙ sym (or-no (found (b .before)) _ (b .if1 .left)))
+
+pub is-twice-spec : {M : Type 1} → statement M
+is-twice-spec =
+    tie.close
+    (tie.spec
+    (λ c κs. search needs)
+    (λ c. search needs)
+    (λ c κs. search needs)
+    returns
+    (λ c. search needs)
+    (λ c κs. search needs)
+    returns-2)

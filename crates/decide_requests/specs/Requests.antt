@@ -1,0 +1,99 @@
+-- What the terminal asks of the card, and which answers a request allows: 01, "From facts to a decision", and 003, 7.7.
+-- Assumes nothing.
+use mathlib.Core.Bool.{Bool, true, false}
+use mathlib.Core.List.{List}
+use mathlib.Core.Option.{Option, some, none}
+use Prim.Native.Nat.{ℕ, _/_}
+use lib.Dec.{eqb}
+use lib.ListN.{replicate}
+use Rattle.slices.specs.Choice.{pick}
+use Rattle.start_fields.specs.Reading.{Terminal}
+use Rattle.decide_requests.specs.declared.reply.HostReply.{HostReply}
+use Rattle.decide_requests.specs.declared.reply.HostReply.the-variants.{Approve, Decline, Unable}
+use Rattle.decide_requests.specs.declared.requests.Cryptogram.{Cryptogram}
+use Rattle.decide_requests.specs.declared.requests.Cryptogram.the-variants.{Aac, Tc, Arqc}
+use Rattle.decide_requests.specs.declared.requests.Given.{Given}
+use Rattle.decide_requests.specs.declared.requests.Given.the-variants.{Of, Reserved}
+use Rattle.decide_tvr.specs.Bits.{joined, meet}
+use Rattle.decide_requests.specs.Codes.{IssuerCodes}
+
+-- the codes that the card gave, or five bytes of what stands for absent ones
+unfoldable pub issuerCode : ℕ → Option (List ℕ) → List ℕ
+issuerCode absent none = replicate 5 absent
+issuerCode absent (some code) = code
+
+-- a bit of the TVR that is set in the issuer's code or in the terminal's
+unfoldable pub codeMatch : ℕ → Option (List ℕ) → List ℕ → List ℕ → Bool
+codeMatch absent issuer terminal tvr = meet (joined (issuerCode absent issuer) terminal) tvr
+
+-- absent: all zeros
+abbrev pub denialMatch : Terminal → IssuerCodes → List ℕ → Bool
+denialMatch t c tvr = codeMatch 0x00 (c .denial) (t .denial) tvr
+
+-- absent: all ones
+abbrev pub onlineMatch : Terminal → IssuerCodes → List ℕ → Bool
+onlineMatch t c tvr = codeMatch 0xFF (c .online) (t .online) tvr
+
+-- absent: all ones
+abbrev pub defaultMatch : Terminal → IssuerCodes → List ℕ → Bool
+defaultMatch t c tvr = codeMatch 0xFF (c .default) (t .default) tvr
+
+-- the first request by the terminal's type and by whether its default and its online codes match: type 0 never goes
+-- online, type 1 always does, type 2 where an online code says so
+unfoldable pub byType : ℕ → Bool → Bool → Cryptogram
+byType kind default online =
+    pick (eqb kind 0) (pick default Aac Tc)
+    (pick (eqb kind 1) Arqc
+    (pick (eqb kind 2) (pick online Arqc Tc) Tc))
+
+-- a denial comes before all that
+unfoldable pub firstRequest : Terminal → IssuerCodes → List ℕ → Cryptogram
+firstRequest t c tvr = pick (denialMatch t c tvr) Aac (byType (t .kind) (defaultMatch t c tvr) (onlineMatch t c tvr))
+
+-- the second request where the issuer could not be reached, by type and by whether a default code matches
+unfoldable pub whenUnable : ℕ → Bool → Cryptogram
+whenUnable kind default = pick (eqb kind 1) Aac (pick default Aac Tc)
+
+unfoldable pub secondRequest : HostReply → Terminal → IssuerCodes → List ℕ → Cryptogram
+secondRequest Approve t c tvr = Tc
+secondRequest Decline t c tvr = Aac
+secondRequest Unable t c tvr = whenUnable (t .kind) (defaultMatch t c tvr)
+
+-- P1 of GENERATE AC: 01, "The commands"
+abbrev pub p1Of : Cryptogram → ℕ
+p1Of Aac = 0x00
+p1Of Tc = 0x40
+p1Of Arqc = 0x80
+
+-- the cryptogram that an answer gives, by the top two bits of 9F27: 01, "What the card must answer"
+unfoldable pub givenBy : ℕ → Given
+givenBy cid =
+    pick (eqb (cid / 64) 0) (Of Aac)
+    (pick (eqb (cid / 64) 1) (Of Tc)
+    (pick (eqb (cid / 64) 2) (Of Arqc) Reserved))
+
+-- the first answer: to TC any, to ARQC no TC, to AAC an AAC
+abbrev pub answersFirst : Cryptogram → Cryptogram → Bool
+answersFirst Tc given = true
+answersFirst Arqc Tc = false
+answersFirst Arqc Arqc = true
+answersFirst Arqc Aac = true
+answersFirst Aac Tc = false
+answersFirst Aac Arqc = false
+answersFirst Aac Aac = true
+
+abbrev pub firstAllowed : Cryptogram → Given → Bool
+firstAllowed asked (Of given) = answersFirst asked given
+firstAllowed asked Reserved = false
+
+-- the second answer: an AAC, or a TC where one was asked for
+abbrev pub answersSecond : Cryptogram → Cryptogram → Bool
+answersSecond asked Aac = true
+answersSecond asked Arqc = false
+answersSecond Tc Tc = true
+answersSecond Arqc Tc = false
+answersSecond Aac Tc = false
+
+abbrev pub secondAllowed : Cryptogram → Given → Bool
+secondAllowed asked (Of given) = answersSecond asked given
+secondAllowed asked Reserved = false

@@ -1,0 +1,26 @@
+-- Dates judged and ordered, each limit from both sides. Everything here is computed. Assumes nothing.
+use mathlib.Core.Path.{_≡_, refl}
+use mathlib.Core.Bool.{Bool, true, false}
+use mathlib.Core.List.{List, [], _∷_, map}
+use Prim.Native.Nat.{ℕ}
+use Rattle.slices.specs.Choice.{pick}
+use Rattle.slices.specs.Tests.{every, between}
+use Rattle.decimal_dates.specs.Decimal.{decimalByte, digitsOnly}
+use Rattle.decimal_dates.specs.Dates.{dateKey, monthAndDay, validCardDate}
+
+-- a card's date, and whether it is valid
+abbrev dates : List (List ℕ × Bool)
+dates =
+    (0x25 ∷ 0x12 ∷ 0x31 ∷ [], true) ∷ (0 ∷ 1 ∷ 1 ∷ [], true) ∷ (0x23 ∷ 2 ∷ 0x30 ∷ [], true)
+    ∷ (0x25 ∷ 0 ∷ 0x31 ∷ [], false) ∷ (0x25 ∷ 0x13 ∷ 0x31 ∷ [], false) ∷ (0x25 ∷ 0x12 ∷ 0 ∷ [], false) ∷ (0x25 ∷ 0x12 ∷ 0x32 ∷ [], false)
+    ∷ (0xA0 ∷ 0x12 ∷ 0x31 ∷ [], false) ∷ (0x25 ∷ 0x0A ∷ 0x31 ∷ [], false) ∷ (0x25 ∷ 0x12 ∷ 0x1F ∷ [], false)
+    ∷ ([], false) ∷ (0x25 ∷ 0x12 ∷ [], false) ∷ (0x25 ∷ 0x12 ∷ 0x31 ∷ 0 ∷ [], false)
+    ∷ []
+
+dates-judged : map (λ row. validCardDate (row .0)) dates ≡ map (λ row. row .1) dates
+unfolding validCardDate every pick between digitsOnly decimalByte monthAndDay
+dates-judged = refl
+
+keys : map dateKey ((0x25 ∷ 0x12 ∷ 0x31 ∷ []) ∷ (0 ∷ 1 ∷ 1 ∷ []) ∷ (0x99 ∷ 0x12 ∷ 0x31 ∷ []) ∷ []) ≡ 251231 ∷ 101 ∷ 991231 ∷ []
+unfolding dateKey
+keys = refl

@@ -1,0 +1,44 @@
+// Dates YYMMDD in three bytes. A byte that is not there reads as 0.
+ghost use mathlib.Core.Path.{_≡_};
+ghost use Prim.Native.Nat.{_≤_};
+ghost use lib.ListN.{getD};
+ghost use Rattle.decimal_dates.specs.Decimal.{twoDigits};
+ghost use Rattle.decimal_dates.specs.Dates.{dateKey, monthAndDay, validStartDate, validCardDate};
+use super::decimal::digits_only;
+use super::decimal::two_digits;
+use super::limits::between;
+
+// The number of two digits at a place of the date.
+fn pair(d: &[u8], i: usize) -> u64
+    ensures { λ r. ⌜ (r ≡ twoDigits (getD (now (d .entry)) i 0)) × (r ≤ 165) ⌝ }
+{
+    two_digits(slices::byte(d, i) as u64)
+}
+
+// What dates are ordered by.
+pub fn date_key(d: &[u8]) -> u64
+    ensures { λ r. ⌜ r ≡ dateKey (now (d .entry)) ⌝ }
+{
+    pair(d, 0) * 10000 + (pair(d, 1) * 100 + pair(d, 2))
+}
+
+fn month_and_day(d: &[u8]) -> bool
+    ensures { λ r. ⌜ r ≡ monthAndDay (now (d .entry)) ⌝ }
+{
+    between(1, 12, pair(d, 1)) && between(1, 31, pair(d, 2))
+}
+
+pub fn valid_start_date(d: &[u8]) -> bool
+    ensures { λ r. ⌜ r ≡ validStartDate (now (d .entry)) ⌝ }
+{
+    month_and_day(d)
+}
+
+pub fn valid_card_date(d: &[u8]) -> bool
+    ensures { λ r. ⌜ r ≡ validCardDate (now (d .entry)) ⌝ }
+{
+    if d.len() != 3 {
+        return false;
+    }
+    digits_only(d) && month_and_day(d)
+}

@@ -1,0 +1,89 @@
+-- Every session of the rulebook is the log of a kernel session, decided at its end: its events are bytes that the kernel takes one
+-- after the other. And the kernel, as a function of the entries so far, gives what the rulebook asks of one.
+-- Assumes nothing.
+use mathlib.Core.Path.{_≡_, refl, sym, ap, _∙_, subst}
+use mathlib.Core.Bool.{true, false}
+use mathlib.Core.List.{List, [], _∷_, _++_, append-assoc}
+use Prim.Native.Nat.{ℕ, _≤_}
+use native.Mathlib.Omega.{arith}
+use lib.ListN.{length, drop}
+use lib.Pow.{areBytes}
+use lib.Seq.{drop-at}
+use Rattle.slices.specs.Choice.{pick}
+use Rattle.slices.specs.Writing.{zeros}
+use Rattle.slices.proofs.Choice.{and-both}
+use Rattle.slices.proofs.Writing.{zeros-length}
+use Rattle.tape_read.specs.Entries.{Entry, entry, command, answer, decision}
+use Rattle.commands.specs.Commands.{longest}
+use Rattle.rulebook.specs.Phase.{Phase, opens}
+use Rattle.rulebook.proofs.Payloads.{payload-bytes}
+use Rattle.rulebook.specs.Session.{Plays, exchanged, heard, decided, Session as WholeSession}
+use Rattle.rulebook.specs.Machine.{at, done, run}
+use Rattle.rulebook.proofs.Running.{taken, session-run}
+use Rattle.rulebook.proofs.Reading.{run-append}
+use Rattle.rulebook.specs.Roles.{given, RightKernel}
+use Rattle.kernel_laws.specs.Log.{Call, plays, allBytes}
+use Rattle.kernel_laws.specs.Replay.{callsIn, firstEntry, givenAfter}
+use Rattle.kernel_laws.specs.Ending.{Reproduces}
+use Rattle.kernel_laws.proofs.Lawful.{any-calls}
+use Rattle.kernel_laws.proofs.Playing.{pending, own-entry, event-entry, word-event, read-played, session-played}
+
+-- ---- what a session hands in are bytes
+own-bytes : (buf : List ℕ) (e : Entry) (es : List Entry) → given e ≡ true → allBytes (callsIn buf es) ≡ true → allBytes (callsIn buf (e ∷ es)) ≡ true
+own-bytes buf e es g h = ap allBytes (own-entry buf e es g) ∙ h
+
+event-bytes : (buf : List ℕ) (e : Entry) (es : List Entry) → given e ≡ false → areBytes (e .payload) ≡ true → allBytes (callsIn buf es) ≡ true
+    → allBytes (callsIn buf (e ∷ es)) ≡ true
+unfolding allBytes
+event-bytes buf e es g b h = ap allBytes (event-entry buf e es g) ∙ and-both (areBytes (e .payload)) (allBytes (callsIn buf es)) b h
+
+plays-bytes : (buf : List ℕ) {p : Phase} {es : List Entry} → Plays p es → allBytes (callsIn buf es) ≡ true
+unfolding given callsIn allBytes
+plays-bytes buf (exchanged {c} {a} {es} f ok rest) =
+    own-bytes buf (entry command c) (entry answer a ∷ es) refl
+    (event-bytes buf (entry answer a) es refl (payload-bytes a ok) (plays-bytes buf rest))
+plays-bytes buf (heard {h} {k} {p = b} {es} f fits ok rest) =
+    event-bytes buf (entry k b) es (ap (λ (n : ℕ). given (entry n b)) f ∙ word-event h b) (payload-bytes b ok) (plays-bytes buf rest)
+plays-bytes buf (decided {d} f) = own-bytes buf (entry decision d) [] refl refl
+
+-- ---- the kernel plays every session
+-- with any buffer that is long enough
+pub session-logged : (buf : List ℕ) → longest ≤ length buf → (es : List Entry) → WholeSession es → Reproduces buf es
+unfolding WholeSession
+session-logged buf room es whole =
+    let bytes = plays-bytes buf whole in
+    let log = session-played buf room es whole in
+    record { bytes = bytes; log = log; decides = any-calls (callsIn buf es) bytes .decided (subst WholeSession (sym log) whole) }
+
+pub every-session : (es : List Entry) → WholeSession es → (cs : List Call) × (plays cs .log ≡ es)
+every-session es whole =
+    let size = zeros-length longest in
+    (callsIn (zeros longest) es, session-logged (zeros longest) (omega arith) es whole .log)
+
+-- ---- and is right, in the rulebook's sense
+module _ (buf : List ℕ) where
+  calls-append : (es fs : List Entry) → callsIn buf fs ≡ [] → callsIn buf (es ++ fs) ≡ callsIn buf es
+  unfolding callsIn
+  calls-append [] fs h = h
+  calls-append (e ∷ es) fs h =
+      ap (λ (cs : List Call). pick (given e) cs (record { event = e; buffer = buf } ∷ cs)) (calls-append es fs h)
+
+  -- an entry of the kernel's own is no call
+  no-call : (e : Entry) → given e ≡ true → callsIn buf (e ∷ []) ≡ []
+  unfolding callsIn
+  no-call e g = own-entry buf e [] g
+
+  pub right : longest ≤ length buf → RightKernel (givenAfter buf)
+  unfolding RightKernel givenAfter firstEntry
+  right room es e rest whole g =
+      let split = append-assoc es (e ∷ []) rest in
+      let read = session-run (es ++ (e ∷ rest)) whole in
+      let t =
+      taken (run rest) (run (es ++ (e ∷ [])) (at opens)) done
+      (sym (run-append (es ++ (e ∷ [])) rest (at opens)) ∙ (ap (λ (l : List Entry). run l (at opens)) split ∙ read))
+      in
+      let log : plays (callsIn buf es) .log ≡ es ++ (e ∷ pending (t .0)) =
+      ap (λ (cs : List Call). plays cs .log) (sym (calls-append es (e ∷ []) (no-call e g)))
+      ∙ (read-played buf room (es ++ (e ∷ [])) (t .0) (t .1 .0) ∙ append-assoc es (e ∷ []) (pending (t .0)))
+      in
+      ap (λ (l : List Entry). firstEntry (drop (length es) l)) log ∙ ap firstEntry (drop-at es (e ∷ pending (t .0)) (length es) refl)

@@ -1,0 +1,60 @@
+-- Which number a call is turned away with, line by line of 01's table: an earlier line is given whatever the later ones say.
+-- Assumes nothing.
+use mathlib.Core.Path.{_≡_, refl, ap, _∙_}
+use mathlib.Core.Bool.{Bool, true, false, not, _&&_}
+use mathlib.Core.List.{List, [], _∷_}
+use Prim.Native.Nat.{ℕ, _≤_, _<_}
+use lib.Dec.{eqb}
+use lib.ListN.{length}
+use borrow.Author.Tests.{eq-eqb, lt-ltb, le-ltb}
+use Rattle.slices.specs.Choice.{pick, firstOf}
+use Rattle.slices.proofs.Choice.{pick-yes, pick-no}
+use Rattle.start_valid.specs.Start.{validStart}
+use Rattle.tape_read.specs.Entries.{Entry, entry, start, answer, silence, host, payloadMost}
+use Rattle.commands.specs.Commands.{longest}
+use Rattle.decide_requests.specs.Replies.{replyOf, isReply}
+use Rattle.session_phase.specs.Waiting.{awaited, isOver}
+use Rattle.session_phase.specs.declared.Waiting.{Waiting}
+use Rattle.kernel_refusals.specs.Refusals.{isDue, startBad, answerBad, replyBad, refusalLines, callRefusal}
+
+module _ (waiting : Waiting) (buf : List ℕ) where
+  -- 1, whatever the session and the event
+  pub short-buffer : (e : Entry) → length buf < longest → callRefusal waiting e buf ≡ 1
+  unfolding callRefusal refusalLines firstOf
+  short-buffer e h = pick-yes _ _ _ (lt-ltb (length buf) longest h)
+
+  module _ (room : longest ≤ length buf) where
+    -- 2, whatever the event
+    pub session-over : (e : Entry) → isOver waiting ≡ true → callRefusal waiting e buf ≡ 2
+    unfolding callRefusal refusalLines firstOf
+    session-over e h = pick-no _ _ _ (le-ltb (length buf) longest room) ∙ pick-yes _ _ _ h
+
+    module _ (goes : isOver waiting ≡ false) where
+      -- 3, in turn or not; then 4
+      pub start-invalid : (b : List ℕ) → validStart b ≡ false → callRefusal waiting (entry start b) buf ≡ 3
+      unfolding callRefusal refusalLines firstOf startBad
+      start-invalid b h = pick-no _ _ _ (le-ltb (length buf) longest room) ∙ (pick-no _ _ _ goes ∙ pick-yes _ _ _ (ap not h))
+
+      -- 4, whatever the event's own line says, but after 3
+      pub not-due : (e : Entry) → startBad e ≡ false → isDue waiting e ≡ false → callRefusal waiting e buf ≡ 4
+      unfolding callRefusal refusalLines firstOf
+      not-due e s h =
+          pick-no _ _ _ (le-ltb (length buf) longest room) ∙ (pick-no _ _ _ goes ∙ (pick-no _ _ _ s ∙ pick-yes _ _ _ (ap not h)))
+
+      module _ (e : Entry) (s : startBad e ≡ false) (d : isDue waiting e ≡ true) where
+        pub answer-long : answerBad e ≡ true → callRefusal waiting e buf ≡ 5
+        unfolding callRefusal refusalLines firstOf
+        answer-long h =
+            pick-no _ _ _ (le-ltb (length buf) longest room)
+            ∙ (pick-no _ _ _ goes ∙ (pick-no _ _ _ s ∙ (pick-no _ _ _ (ap not d) ∙ pick-yes _ _ _ h)))
+
+        pub no-reply : answerBad e ≡ false → replyBad e ≡ true → callRefusal waiting e buf ≡ 6
+        unfolding callRefusal refusalLines firstOf
+        no-reply a h =
+            pick-no _ _ _ (le-ltb (length buf) longest room)
+            ∙ (pick-no _ _ _ goes ∙ (pick-no _ _ _ s ∙ (pick-no _ _ _ (ap not d) ∙ (pick-no _ _ _ a ∙ pick-yes _ _ _ h))))
+
+-- a silence is turned away wherever no answer is due
+pub silence-not-due : (waiting : Waiting) (p : List ℕ) → eqb (awaited waiting) answer ≡ false → isDue waiting (entry silence p) ≡ false
+unfolding isDue
+silence-not-due waiting p h = pick-yes _ _ _ refl ∙ ap (λ (t : Bool). t && eqb (length p) 0) h

@@ -1,0 +1,51 @@
+-- When a call is turned away: 01, the table of that name, lines 1 to 6. What is handed in is an entry, by its kind and payload, and the
+-- first line that applies gives the number.
+-- Assumes nothing.
+use mathlib.Core.Bool.{Bool, not, _&&_}
+use mathlib.Core.List.{List, [], _∷_}
+use Prim.Native.Nat.{ℕ}
+use lib.Dec.{eqb, ltb}
+use lib.ListN.{length}
+use Rattle.slices.specs.Choice.{pick, firstOf}
+use Rattle.tape_read.specs.Entries.{Entry, start, answer, silence, host, payloadMost}
+use Rattle.start_valid.specs.Start.{validStart}
+use Rattle.decide_requests.specs.Replies.{replyOf, isReply}
+use Rattle.commands.specs.Commands.{longest}
+use Rattle.session_phase.specs.Waiting.{awaited, isOver}
+use Rattle.session_phase.specs.declared.Waiting.{Waiting}
+
+-- the event is the one due; a silence, which has no payload, is accepted only where an answer is due
+unfoldable pub isDue : Waiting → Entry → Bool
+isDue waiting e =
+    pick (eqb (e .kind) silence) (eqb (awaited waiting) answer && eqb (length (e .payload)) 0) (eqb (e .kind) (awaited waiting))
+
+-- what an event of each kind must be
+unfoldable pub startBad : Entry → Bool
+startBad e = eqb (e .kind) start && not (validStart (e .payload))
+
+unfoldable pub answerBad : Entry → Bool
+answerBad e = eqb (e .kind) answer && ltb payloadMost (length (e .payload))
+
+unfoldable pub replyBad : Entry → Bool
+replyBad e = eqb (e .kind) host && not (isReply (replyOf (e .payload)))
+
+-- the table: on a session that waits for something, an event, and the command buffer that is lent for it
+unfoldable pub refusalLines : Waiting → Entry → List ℕ → List (Bool × ℕ)
+refusalLines waiting e buf =
+    -- command buffer under 261 bytes
+    (ltb (length buf) longest, 1)
+    -- session decided, or closed by silence
+    ∷ (isOver waiting, 2)
+    -- START invalid or not 74 bytes
+    ∷ (startBad e, 3)
+    -- event not the one due
+    ∷ (not (isDue waiting e), 4)
+    -- answer over 496 bytes
+    ∷ (answerBad e, 5)
+    -- HOST not 3 bytes, or not one of the replies
+    ∷ (replyBad e, 6)
+    ∷ []
+
+-- the number; 0 where no line applies, and the call is taken
+unfoldable pub callRefusal : Waiting → Entry → List ℕ → ℕ
+callRefusal waiting e buf = firstOf (refusalLines waiting e buf)

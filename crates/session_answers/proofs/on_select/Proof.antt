@@ -1,0 +1,66 @@
+-- `session_answers::on_select` meets its contract: a bad answer ends the session, and a good one leads to GPO, filled from 9F38.
+-- Assumes nothing.
+use borrow.Author.Needs.{needs}
+use Rattle.dol_values.specs.declared.Known.{Known}
+use mathlib.Core.Path.{_≡_, refl, sym, ap, ap₂, _∙_}
+use native.Mathlib.Omega.{arith}
+use mathlib.Core.List.{List, [], _∷_}
+use Prim.Native.Nat.{ℕ}
+use mathlib.Core.Option.{none}
+use Rattle.start_fields.specs.Reading.{readingOf}
+use Rattle.dol_fill.specs.Filled.{filling}
+use Rattle.commands.specs.Commands.{optionsCommand}
+use Rattle.answer_select.specs.Select.{selectReason, pdolOf}
+use Rattle.rulebook.specs.Phase.{selecting, optioning, asks, situationOf, commandOf}
+use Rattle.rulebook.specs.Turn.{selected, turn}
+use Rattle.session_state.specs.Reading.{situationWith, early}
+use Rattle.session_moves.specs.Moves.{questionOf, cursorAsking}
+use Rattle.session_answers.specs.Keeping.{keeping}
+use Rattle.session_moves.proofs.Moving.{early-refused, asking-on, reason-next}
+use Rattle.answer_laws.proofs.Reasons.{select-small}
+use Rattle.session_answers.proofs.on_select.Statement.{statement}
+use Rattle.session_answers.proofs.on_select.Tie as tie
+
+returns : tie.Need-returns
+unfolding turn selected keeping early situationWith
+returns c =
+    let args = c .before .before .before .before .before .before .before .args in
+    let s = args .s in
+    let a = args .a .now in
+    let buf = args .buf .now in
+    let why = c .before .before .select-reason .result in
+    early-refused s buf why (selectReason (readingOf (s .start)) a) (asks (optioning (early s) (pdolOf a)))
+    (c .before .before .select-reason .ensures) (select-small (readingOf (s .start)) a) (c .before .if1 .taken) (c .end .ensures)
+
+returns-2 : tie.Need-returns-2
+unfolding turn selected keeping early situationWith commandOf situationOf questionOf cursorAsking
+returns-2 c =
+    let args = c .before .before .before .before .before .before .before .before .before .before .before .before .before .args in
+    let s = args .s in
+    let a = args .a .now in
+    let buf = args .buf .now in
+    let why = c .before .before .before .before .before .before .before .before .select-reason .result in
+    let same = ap₂ (λ (k : Known) (l : List ℕ). optionsCommand (filling (readingOf (s .start)) k l))
+    (c .before .before .before .before .before .at-options .ensures)
+    (c .before .before .before .before .before .before .pdol .ensures) in
+    asking-on s buf (optioning (early s) (pdolOf a)) same (c .before .before .before .options .ensures .0)
+    (c .before .before .before .options .ensures .1) (c .wait .ensures) refl refl refl
+    ∙ sym
+    (reason-next why (selectReason (readingOf (s .start)) a) (early s) (asks (optioning (early s) (pdolOf a))) s buf
+    (c .before .before .before .before .before .before .before .before .select-reason .ensures)
+    (c .before .before .before .before .before .before .before .if1 .left))
+
+pub on-select-spec : {M : Type 1} → statement M
+on-select-spec =
+    tie.close
+    (tie.spec
+    (λ c. search needs)
+    (λ c κs. search needs)
+    (λ c κs. search needs)
+    returns
+    (λ c κs. search needs)
+    (λ c κs. search needs)
+    (λ c κs. search needs)
+    (λ c κs. search needs)
+    (λ c. search needs)
+    returns-2)

@@ -1,0 +1,124 @@
+// How a session goes on after each answer of the card's.
+use answer_forms::cryptogram;
+use answer_forms::cryptogram::Allowed;
+use answer_forms::options::options_reason;
+use answer_record::record_reason;
+use commands::write;
+use decide_requests::requests::Cryptogram;
+use decide_requests::requests::first_allowed;
+use decide_requests::requests::given_by;
+use decide_requests::requests::second_allowed;
+use decide_tvr::results::tsi_after_first_answer;
+use session_moves::Step;
+use session_moves::ends::decide;
+use session_moves::ends::end;
+use session_moves::ends::wait;
+use session_online::by_first;
+use session_phase::Question;
+use session_phase::Reply;
+use session_phase::Waiting;
+use session_readings::facts::seen;
+use session_readings::known::at_options;
+use session_records_read::read_on;
+use session_state::State;
+use session_state::change::change;
+use session_state::change::with_options;
+use session_state::change::with_told;
+use session_told::records::with_record;
+ghost use mathlib.Core.Path.{_≡_};
+ghost use mathlib.Core.List.{[]};
+ghost use Rattle.answer_forms.specs.Cryptogram.{allows};
+ghost use Rattle.rulebook.specs.Phase.{selecting, optioning, reading as readingRecord, first as firstAsked, second as secondAsked};
+ghost use Rattle.rulebook.specs.Turn.{turn, firstAllows, secondAllows};
+ghost use Rattle.session_state.specs.Reading.{early, late, recordsLeft};
+ghost use Rattle.session_moves.specs.Moves.{played, moved};
+ghost use Rattle.session_answers.specs.Keeping.{keeping, answeredState};
+
+pub fn on_select(s: State, a: &[u8], buf: &mut [u8]) -> Step
+    ensures { λ r. ⌜ played r (now (buf .exit)) ≡ moved (turn (selecting (early s)) (now (a .entry))) (keeping (selecting (early s)) (now (a .entry)) s) (now (buf .entry)) ⌝ }
+{
+    let start = s.start;
+    let terminal: &[u8] = &start;
+    let why = answer_select::select_reason(terminal, a);
+    if why != 0 {
+        return end(s, why);
+    }
+    let n = write::options(answer_select::pdol(a), terminal, at_options(s), buf);
+    wait(s, Waiting::ForCard(Question::Options), Reply::Command(n))
+}
+
+pub fn on_options(s: State, a: &[u8], buf: &mut [u8]) -> Step
+    ensures { λ r. ⌜ played r (now (buf .exit)) ≡ moved (turn (optioning (early s) []) (now (a .entry))) (keeping (optioning (early s) []) (now (a .entry)) s) (now (buf .entry)) ⌝ }
+{
+    let why = options_reason(a);
+    if why != 0 {
+        return end(s, why);
+    }
+    read_on(with_options(s, a), buf)
+}
+
+pub fn on_record(s: State, a: &[u8], buf: &mut [u8]) -> Step
+    ensures { λ r. ⌜ played r (now (buf .exit)) ≡ moved (turn (readingRecord (late s) 0 0 (recordsLeft s)) (now (a .entry))) (keeping (readingRecord (late s) 0 0 (recordsLeft s)) (now (a .entry)) s) (now (buf .entry)) ⌝ }
+{
+    let told = s.told;
+    let why = record_reason(seen(told), a);
+    if why != 0 {
+        return end(s, why);
+    }
+    read_on(with_told(s, with_record(told, a)), buf)
+}
+
+fn allowed_first(request: Cryptogram) -> Allowed
+    ensures { λ r. ⌜ allows r ≡ firstAllows request ⌝ }
+{
+    Allowed {
+        aac: first_allowed(request, given_by(0x00)),
+        tc: first_allowed(request, given_by(0x40)),
+        arqc: first_allowed(request, given_by(0x80)),
+    }
+}
+
+fn allowed_second(request: Cryptogram) -> Allowed
+    ensures { λ r. ⌜ allows r ≡ secondAllows request ⌝ }
+{
+    Allowed {
+        aac: second_allowed(request, given_by(0x00)),
+        tc: second_allowed(request, given_by(0x40)),
+        arqc: second_allowed(request, given_by(0x80)),
+    }
+}
+
+fn after_first(s: State) -> State
+    ensures { λ r. ⌜ r ≡ answeredState s ⌝ }
+{
+    let tvr = s.tvr;
+    let tsi = s.tsi;
+    let waiting = s.waiting;
+    let place = s.cursor;
+    change(s, waiting, tvr, tsi_after_first_answer(tsi), place)
+}
+
+pub fn on_first(s: State, request: Cryptogram, a: &[u8], buf: &mut [u8]) -> Step
+    ensures { λ r. ⌜ played r (now (buf .exit)) ≡ moved (turn (firstAsked (late s) request) (now (a .entry))) s (now (buf .entry)) ⌝ }
+{
+    let answered = after_first(s);
+    let reason = cryptogram::cryptogram_reason(allowed_first(request), a);
+    if reason != 0 {
+        return end(s, reason);
+    }
+    by_first(cryptogram::cryptogram(a), answered, buf)
+}
+
+pub fn on_second(s: State, request: Cryptogram, a: &[u8], buf: &mut [u8]) -> Step
+    ensures { λ r. ⌜ played r (now (buf .exit)) ≡ moved (turn (secondAsked (late s) request []) (now (a .entry))) s (now (buf .entry)) ⌝ }
+{
+    let why = cryptogram::cryptogram_reason(allowed_second(request), a);
+    if why != 0 {
+        return end(s, why);
+    }
+    if cryptogram::cryptogram(a) == 1 {
+        decide(s, 1)
+    } else {
+        decide(s, 2)
+    }
+}

@@ -1,0 +1,24 @@
+-- `event::is_allowed` meets its contract: each arm is the definition's at that speaker.
+-- Assumes nothing.
+use mathlib.Core.Path.{_≡_, sym, ap, _∙_}
+use borrow.Author.Needs.{needs}
+use Rattle.session_phase.specs.declared.Speaker.{Speaker}
+use Rattle.session_events.specs.Events.{allowedBy}
+use Rattle.session_events.proofs.event.is_allowed.Statement.{statement}
+use Rattle.session_events.proofs.event.is_allowed.Tie as tie
+
+returns : tie.Need-returns
+unfolding allowedBy
+returns c =
+    let args = c .before .before .before .before .args in
+    c .valid-start .ensures ∙ sym (ap (λ (x : Speaker). allowedBy x (args .p .now)) (c .before .enum-told .given .1))
+
+returns-2 : tie.Need-returns-2
+unfolding allowedBy
+returns-2 c =
+    let args = c .before .before .before .before .args in
+    c .is-reply .ensures ∙ sym (ap (λ (x : Speaker). allowedBy x (args .p .now)) (c .before .enum-told2 .given .1))
+
+pub is-allowed-spec : {M : Type 1} → statement M
+is-allowed-spec =
+    tie.close (tie.spec (λ c. search needs) (λ c κs. search needs) (λ c. search needs) (λ c κs. search needs) returns returns-2)

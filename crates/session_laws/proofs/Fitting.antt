@@ -1,0 +1,170 @@
+-- The state that a step leaves stands at the phase that the step leads to: what the answer told is kept in the very form in which
+-- the rulebook's next situation has it; what is waited for, TVR, TSI and the place among the records are the phase's own.
+-- Assumes nothing.
+use mathlib.Core.Path.{_≡_, refl, sym, ap, subst}
+use mathlib.Core.Bool.{Bool, true, false}
+use mathlib.Core.List.{List, []}
+use Prim.Native.Nat.{ℕ}
+use lib.Dec.{eqb}
+use lib.ListN.{length}
+use borrow.Author.Tests.{eqb-true}
+use Rattle.slices.specs.Choice.{pick}
+use Rattle.slices.proofs.Choice.{picked, either}
+use Rattle.tlv_list.specs.Objects.{isSome}
+use Rattle.start_fields.specs.Layout.{startLength}
+use Rattle.start_fields.specs.Reading.{readingOf}
+use Rattle.dol_wanted.specs.Wanted.{fillable}
+use Rattle.answer_afl.specs.Cursor.{isLeft}
+use Rattle.answer_afl.proofs.Walking.{none-remain, one-less}
+use Rattle.answer_select.specs.Select.{selectReason}
+use Rattle.answer_forms.specs.Options.{optionsReason}
+use Rattle.answer_record.specs.Records.{recordReason, afterRecords}
+use Rattle.answer_forms.specs.Cryptogram.{cryptogramReason, cryptogramOf}
+use Rattle.start_valid.proofs.Laws.{start-length}
+use Rattle.decide_requests.specs.Replies.{codeIn, replyOf}
+use Rattle.decide_requests.specs.declared.requests.Cryptogram.{Cryptogram}
+use Rattle.decide_requests.specs.declared.reply.HostReply.{HostReply}
+use Rattle.decide_requests.specs.declared.reply.HostReply.the-variants.{Unable}
+use Rattle.rulebook.specs.Situation.{Situation, listIn, begun as situationBegun}
+use Rattle.rulebook.specs.Phase.{Asked, selecting, optioning, reading, first, second, Phase, decides, situationOf, terminated, decided, ended, tvrOf, tsiOf}
+use Rattle.rulebook.specs.Turn.{goesOn, opened, selected, managed, requested, allRead, readOn, optioned, recorded, answered, replied, online, byFirst, firstAllows, secondAllows, firstAnswered, secondAnswered, turn, allowed, replyMade, heard, after}
+use Rattle.session_state.specs.Reading.{situationWith, early, late, recordsLeft, askedBy, heardBy}
+use Rattle.session_phase.specs.declared.Question.{Question}
+use Rattle.session_phase.specs.declared.Question.the-variants.{Select, Options, Record, First, Second}
+use Rattle.session_phase.specs.declared.Speaker.{Speaker}
+use Rattle.session_phase.specs.declared.Speaker.the-variants.{Terminal, Issuer}
+use Rattle.session_told.specs.Facts.{factsIn}
+use Rattle.session_told.specs.Runs.{inRun}
+use Rattle.session_state.specs.Keeping.{withTold, withOptions, changed, stateAt, begun}
+use Rattle.session_told.specs.Telling.{withRecord}
+use Rattle.session_state.specs.declared.State.{State}
+use Rattle.session_state.proofs.Starting.{late-told, early-begun, late-options, left-options}
+use Rattle.session_moves.specs.Moves.{questionOf, speakerOf, keptAs, cursorAsking, cursorAfter, standing}
+use Rattle.session_answers.specs.Keeping.{keeping}
+use Rattle.session_events.specs.Events.{keepingWord}
+use Rattle.session_laws.specs.Agreeing.{forgets, Knows, StandsAt}
+
+-- a state that can wait for a phase: once what the phase overwrites is overwritten, it stands there
+unfoldable pub Fits : Phase → State → Type 0
+Fits p s = Knows (standing p s) p
+
+pub fits-stands : (p : Phase) (s : State) → Fits p s → StandsAt (standing p s) p
+unfolding Fits standing changed
+fits-stands p s h = record { waits = refl; tvr = refl; tsi = refl; knows = h }
+
+-- two choices by one test
+both : {A B : Type 0} (P : A → B → Type 0) (t : Bool) (a a′ : A) (b b′ : B) → (t ≡ true → P a b) → (t ≡ false → P a′ b′) → P (pick t a a′) (pick t b b′)
+unfolding pick
+both P true a a′ b b′ yes′ no′ = yes′ refl
+both P false a a′ b b′ yes′ no′ = no′ refl
+
+module _ (s : State) where
+  -- a decision keeps nothing but TVR and TSI
+  decides-fits : (outcome reason : ℕ) (z : Situation) → Fits (decides outcome reason z) s
+  unfolding Fits Knows standing changed keptAs tvrOf tsiOf
+  decides-fits outcome reason z = tt
+
+  goes-fits : (reason : ℕ) (z : Situation) (p : Phase) → Fits p s → Fits (goesOn reason z p) s
+  unfolding goesOn ended
+  goes-fits reason z p h = picked (λ (q : Phase). Fits q s) (eqb reason 0) p _ (λ y. h) (λ n. decides-fits _ reason z)
+
+  -- the situation that is read off the state, with some TVR and TSI
+  abbrev lateWith : List ℕ → List ℕ → Situation
+  lateWith tvr tsi =
+      record { terminal = readingOf (s .start); profile = s .profile; facts = factsIn (s .told); tvr = tvr; tsi = tsi }
+
+  module _ (tvr tsi : List ℕ) where
+    abbrev z : Situation
+    z = lateWith tvr tsi
+
+    requested-fits : (reason : ℕ) → Fits (requested reason z) s
+    unfolding requested Fits Knows forgets standing changed keptAs questionOf tvrOf tsiOf situationOf cursorAfter cursorAsking askedBy late situationWith
+    requested-fits reason = goes-fits reason z _ refl
+
+    replied-fits : (reply : HostReply) (code : List ℕ) → Fits (replied z reply code) s
+    unfolding replied ended Fits Knows forgets standing changed keptAs questionOf tvrOf tsiOf situationOf cursorAfter cursorAsking askedBy late situationWith
+    replied-fits reply code = picked (λ (q : Phase). Fits q s) (fillable (listIn z 0x8D)) _ _ (λ y. refl) (λ n. decides-fits terminated 9 z)
+
+    online-fits : Fits (online z) s
+    unfolding online Fits Knows standing changed keptAs speakerOf heardBy tvrOf tsiOf cursorAfter late situationWith
+    online-fits = picked (λ (q : Phase). Fits q s) (eqb (z .terminal .kind) 0) _ _ (λ y. replied-fits Unable []) (λ n. refl)
+
+    by-first-fits : (type : ℕ) → Fits (byFirst type z) s
+    unfolding byFirst decided
+    by-first-fits type =
+        picked (λ (q : Phase). Fits q s) (eqb type 1) _ _ (λ y. decides-fits _ 0 z) (λ n.
+        picked (λ (q : Phase). Fits q s) (eqb type 0) _ _ (λ y. decides-fits _ 0 z) (λ m. online-fits))
+
+  all-read-fits : Fits (allRead (late s)) s
+  unfolding allRead ended managed late situationWith
+  all-read-fits =
+      picked (λ (q : Phase). Fits q s) (eqb (afterRecords (late s .facts)) 8) _ _ (λ y. decides-fits _ 8 (late s))
+      (λ n. requested-fits (managed (late s) .tvr) (managed (late s) .tsi) (afterRecords (late s .facts)))
+
+  -- the next record is the one at the cursor, and the cursor goes one further
+  read-fits : Fits (readOn (late s) (recordsLeft s)) s
+  unfolding readOn recordsLeft Fits Knows forgets standing changed keptAs questionOf tvrOf tsiOf situationOf cursorAfter cursorAsking askedBy late situationWith
+  read-fits =
+      let v = inRun (s .locator) in
+      either (isLeft v (s .cursor))
+      (λ y. subst (λ (rest : List (ℕ × ℕ)). Fits (readOn (late s) rest) s) (sym (one-less v (s .cursor) y)) refl)
+      (λ n. subst (λ (rest : List (ℕ × ℕ)). Fits (readOn (late s) rest) s) (sym (none-remain v (s .cursor) n)) all-read-fits)
+
+-- the same for situations and records that are known to be the state's
+reads-on : (s : State) (z : Situation) (rest : List (ℕ × ℕ)) → late s ≡ z → recordsLeft s ≡ rest → Fits (readOn z rest) s
+reads-on s z rest e f = subst (λ (p : Phase). Fits p s) (λ i. readOn (e i) (f i)) (read-fits s)
+
+-- ---- after each answer
+module _ (s : State) (a : List ℕ) where
+  abbrev Turns : Asked → Type 0
+  Turns w = Fits (turn w a) (keeping w a s)
+
+  select-fits : Turns (selecting (early s))
+  unfolding turn keeping selected Fits Knows forgets standing changed keptAs questionOf tvrOf tsiOf situationOf cursorAfter cursorAsking askedBy early situationWith
+  select-fits = goes-fits s (selectReason (early s .terminal) a) (early s) _ refl
+
+  options-fits : Turns (optioning (early s) [])
+  unfolding turn keeping optioned goesOn ended
+  options-fits =
+      both Fits (eqb (optionsReason a) 0) _ _ (withOptions a s) s
+      (λ y. let good = eqb-true (optionsReason a) 0 y in reads-on (withOptions a s) _ _ (late-options s a good) (left-options s a good))
+      (λ n. decides-fits s _ (optionsReason a) (early s))
+
+  record-fits : Turns (reading (late s) 0 0 (recordsLeft s))
+  unfolding turn keeping recorded goesOn ended late situationWith recordsLeft withTold
+  record-fits =
+      let reason = recordReason (λ name. isSome (factsIn (s .told) name)) a in
+      both Fits (eqb reason 0) _ _ (withTold (withRecord a (s .told)) s) s
+      (λ y. reads-on (withTold (withRecord a (s .told)) s) _ _ (late-told s a (eqb-true reason 0 y)) refl)
+      (λ n. decides-fits s _ reason (late s))
+
+  first-fits : (request : Cryptogram) → Turns (first (late s) request)
+  unfolding turn keeping firstAnswered answered late situationWith
+  first-fits request =
+      goes-fits s (cryptogramReason (firstAllows request) a) (late s) _
+      (by-first-fits s (s .tvr) (answered (late s) .tsi) (cryptogramOf a))
+
+  second-fits : (request : Cryptogram) → Turns (second (late s) request [])
+  unfolding turn keeping secondAnswered decided
+  second-fits request = goes-fits s (cryptogramReason (secondAllows request) a) (late s) _ (decides-fits s _ 0 (late s))
+
+-- an answer to what the state waits for
+pub turn-fits : (question : Question) (s : State) (a : List ℕ) → Fits (turn (askedBy question s) a) (keeping (askedBy question s) a s)
+unfolding askedBy
+turn-fits Select s a = select-fits s a
+turn-fits Options s a = options-fits s a
+turn-fits Record s a = record-fits s a
+turn-fits (First request) s a = first-fits s a request
+turn-fits (Second request) s a = second-fits s a request
+
+-- START, and the issuer's reply
+started-fits : (b : List ℕ) → length b ≡ startLength → Fits (opened (readingOf b)) (begun b)
+unfolding opened Fits Knows forgets standing changed keptAs questionOf tvrOf tsiOf situationOf cursorAfter cursorAsking askedBy early situationWith begun stateAt situationBegun
+started-fits b e = ap (λ (z : Situation). selecting z) (early-begun b e)
+
+-- somebody else's word that may be taken
+pub word-fits : (speaker : Speaker) (s : State) (p : List ℕ) → allowed (heardBy speaker s) p ≡ true
+    → Fits (after (heardBy speaker s) p) (keepingWord speaker p s)
+unfolding heardBy allowed after keepingWord heard late situationWith
+word-fits Terminal s p fits = started-fits p (start-length p fits)
+word-fits Issuer s p fits = replied-fits s (s .tvr) (s .tsi) (replyMade (replyOf p)) (codeIn p)

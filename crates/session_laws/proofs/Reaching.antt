@@ -1,0 +1,76 @@
+-- A whole session, event by event: from START on, the entries of the events with the commands and the decision that they bring
+-- about lead the machine to where the state stands. So the state alone says what the rulebook says of the tape so far.
+-- Assumes nothing.
+use mathlib.Core.Path.{_≡_, refl, sym, ap, _∙_, subst}
+use mathlib.Core.List.{List, [], _∷_, _++_}
+use mathlib.Core.Option.{some}
+use Prim.Native.Nat.{ℕ}
+use Rattle.tape_read.specs.Entries.{Entry}
+use Rattle.rulebook.specs.Phase.{Asked, Heard, Phase, opens, asks, hears, decides, tvrOf, tsiOf}
+use Rattle.rulebook.specs.Session.{Session}
+use Rattle.rulebook.specs.Machine.{Machine, at, owes, run}
+use Rattle.rulebook.proofs.Running.{run-session}
+use Rattle.session_phase.specs.declared.Question.{Question}
+use Rattle.session_phase.specs.declared.Speaker.{Speaker}
+use Rattle.session_phase.specs.declared.Waiting.the-variants.{ForCard, ForWord, Decided, Closed}
+use Rattle.session_state.specs.Reading.{heardBy}
+use Rattle.session_state.specs.Keeping.{fresh}
+use Rattle.session_state.specs.declared.State.{State}
+use Rattle.session_moves.specs.Moves.{Moved, speakerOf}
+use Rattle.session_laws.specs.Agreeing.{Knows, StandsAt}
+use Rattle.session_laws.specs.Logging.{logged, landing, Follows, Reached}
+use Rattle.session_laws.specs.Bits.{Even}
+use Rattle.session_laws.proofs.Stepping.{run-on, fresh-stands}
+use Rattle.session_laws.proofs.Telling.{asked-at, heard-at, decided-at, closed-never}
+
+pub reached-fresh : Reached fresh []
+unfolding run landing
+reached-fresh = record { phase = opens; read = refl; stands = fresh-stands }
+
+-- one event on
+pub reached-on : (es : List Entry) (σ : Machine) (e : Entry) (p : Phase) (buf : List ℕ) (m : Moved) → run es (at opens) ≡ some σ → Follows σ e p buf m
+    → Reached (m .state) (es ++ (e ∷ logged p))
+reached-on es σ e p buf m h f = record { phase = p; read = run-on es σ e p h (f .taken); stands = f .stands }
+
+-- what the state says of the entries
+module _ (s : State) (es : List Entry) (reached : Reached s es) where
+  -- where the machine stands, once the phase is known
+  landed : (p : Phase) → reached .phase ≡ p → run es (at opens) ≡ some (landing p)
+  landed p e = reached .read ∙ ap (λ (q : Phase). some (landing q)) e
+
+  stood : (p : Phase) → reached .phase ≡ p → StandsAt s p
+  stood p e = subst (StandsAt s) e (reached .stands)
+
+  pub reached-asked : (question : Question) → s .waiting ≡ ForCard question → (w : Asked) × ((run es (at opens) ≡ some (owes w)) × StandsAt s (asks w))
+  unfolding landing
+  reached-asked question e =
+      let there = asked-at s (reached .phase) question (reached .stands) e in
+      let w = there .0 in
+      (w, (landed (asks w) (there .1), stood (asks w) (there .1)))
+
+  pub reached-word : (speaker : Speaker) → s .waiting ≡ ForWord speaker
+      → (h : Heard) × ((speakerOf h ≡ speaker) × ((run es (at opens) ≡ some (at (hears h))) × StandsAt s (hears h)))
+  unfolding landing
+  reached-word speaker e =
+      let there = heard-at s (reached .phase) speaker (reached .stands) e in
+      let h = there .0 in
+      (h, (there .1 .1, (landed (hears h) (there .1 .0), stood (hears h) (there .1 .0))))
+
+  -- a state that has decided is one of a finished session
+  pub reached-decided : (outcome reason : ℕ) → s .waiting ≡ Decided outcome reason → Session es
+  unfolding landing
+  reached-decided outcome reason e =
+      let there = decided-at s (reached .phase) outcome reason (reached .stands) e in
+      run-session es (landed (decides outcome reason (there .0)) (there .1))
+
+  pub reached-open : s .waiting ≡ Closed → ⊥
+  reached-open e = closed-never s (reached .phase) (reached .stands) e
+
+  -- TVR and TSI are those of the word that is due
+  pub reached-even : Even s
+  unfolding Knows
+  reached-even speaker e =
+      let there = reached-word speaker e in
+      let stands = there .1 .1 .1 in
+      let same : there .0 ≡ heardBy speaker s = sym (ap (λ (x : Speaker). heardBy x s) (sym (there .1 .0)) ∙ stands .knows) in
+      (stands .tvr ∙ ap (λ (h : Heard). tvrOf (hears h)) same, stands .tsi ∙ ap (λ (h : Heard). tsiOf (hears h)) same)

@@ -1,0 +1,100 @@
+-- Each accepted step is one of the machine's: the entry is the one that the machine takes, and the state is left standing at the
+-- phase that it takes the machine to. The command or the decision that the phase puts on the tape is the next entry of the machine.
+-- Assumes nothing.
+use mathlib.Core.Path.{_≡_, refl, sym, ap, _∙_, subst}
+use mathlib.Core.Bool.{true}
+use mathlib.Core.List.{List, [], _∷_, _++_}
+use mathlib.Core.Option.{Option, some}
+use Prim.Native.Nat.{ℕ}
+use Rattle.tape_read.specs.Entries.{Entry, entry, answer}
+use Rattle.rulebook.specs.Phase.{Asked, Heard, Phase, opens, asks, hears, decides, dueKind, tvrOf, tsiOf}
+use Rattle.rulebook.specs.Turn.{turn, allowed, after}
+use Rattle.rulebook.specs.Session.{isPayload}
+use Rattle.rulebook.specs.Machine.{Machine, at, owes, done, next, run, andOn}
+use Rattle.rulebook.proofs.Running.{takes-command, takes-answer, takes-heard, takes-decision}
+use Rattle.rulebook.proofs.Reading.{run-append}
+use Rattle.session_phase.specs.Waiting.{isDecided}
+use Rattle.session_phase.specs.declared.Waiting.{Waiting}
+use Rattle.session_state.specs.Reading.{askedBy, heardBy}
+use Rattle.session_state.specs.Keeping.{stateAt, fresh}
+use Rattle.session_state.specs.declared.State.{State}
+use Rattle.session_moves.specs.Moves.{Moved, questionOf, speakerOf, keptAs, standing, moved}
+use Rattle.session_answers.specs.Keeping.{keeping}
+use Rattle.session_events.specs.Events.{answerStep, keepingWord, wordStep, stepAt, step}
+use Rattle.session_laws.specs.Agreeing.{forgets, Knows, StandsAt, Agrees}
+use Rattle.session_laws.specs.Logging.{logged, landing, Follows}
+use Rattle.session_laws.proofs.Standing.{turn-forgets, keeping-forgets}
+use Rattle.session_laws.proofs.Fitting.{Fits, fits-stands, turn-fits, word-fits}
+
+-- a state that stands at a phase agrees with the machine once the phase's entry is read
+pub lands-at : (s : State) (p : Phase) → StandsAt s p → Agrees s (landing p)
+unfolding Agrees landing keptAs isDecided
+lands-at s (asks w) h = h
+lands-at s (hears h) at-word = at-word
+lands-at s (decides outcome reason z) h = ap isDecided (h .waits)
+
+-- the machine reads the phase's own entry
+pub run-logged : (p : Phase) → run (logged p) (at p) ≡ some (landing p)
+unfolding run andOn logged landing
+run-logged (asks w) = ap (andOn (run [])) (takes-command w)
+run-logged (hears h) = refl
+run-logged (decides outcome reason z) = ap (andOn (run [])) (takes-decision outcome reason z)
+
+-- after an event and what it brings about, wherever the machine stood
+pub run-on : (es : List Entry) (σ : Machine) (e : Entry) (p : Phase) → run es (at opens) ≡ some σ → next σ e ≡ some (at p)
+    → run (es ++ (e ∷ logged p)) (at opens) ≡ some (landing p)
+unfolding run andOn
+run-on es σ e p h n =
+    run-append es (e ∷ logged p) (at opens)
+    ∙ (ap (andOn (run (e ∷ logged p))) h ∙ (ap (andOn (run (logged p))) n ∙ run-logged p))
+
+-- a step of the definition
+follows-as : (σ : Machine) (e : Entry) (p : Phase) (s : State) (buf : List ℕ) (m : Moved) → m ≡ moved p s buf → next σ e ≡ some (at p) → Fits p s
+    → Follows σ e p buf m
+unfolding moved
+follows-as σ e p s buf m same n f =
+    subst (Follows σ e p buf) (sym same) (record { taken = n; stands = fits-stands p s f; reply = refl; buffer = refl })
+
+pub fresh-stands : StandsAt fresh opens
+unfolding Knows heardBy speakerOf keptAs tvrOf tsiOf fresh stateAt
+fresh-stands = record { waits = refl; tvr = refl; tsi = refl; knows = refl }
+
+-- ---- an answer of the card's
+module _ (s : State) (w : Asked) (a buf : List ℕ) (stands : StandsAt s (asks w)) where
+  question-known : askedBy (questionOf w) s ≡ forgets w
+  unfolding Knows
+  question-known = stands .knows
+
+  pub answered-moved : step s a buf ≡ moved (turn w a) (keeping w a s) buf
+  unfolding step stepAt answerStep keptAs
+  answered-moved =
+      ap (λ (x : Waiting). stepAt x s a buf) (stands .waits)
+      ∙ (ap (λ (v : Asked). moved (turn v a) (keeping v a s) buf) question-known
+      ∙ sym (λ i. moved (turn-forgets w a i) (keeping-forgets w a s i) buf))
+
+  answer-fits : Fits (turn w a) (keeping w a s)
+  answer-fits =
+      subst (λ (p : Phase). Fits p (keeping w a s)) (sym (turn-forgets w a))
+      (subst (Fits (turn (forgets w) a)) (sym (keeping-forgets w a s))
+      (subst (λ (v : Asked). Fits (turn v a) (keeping v a s)) question-known (turn-fits (questionOf w) s a)))
+
+  pub answer-step : isPayload a ≡ true → Follows (owes w) (entry answer a) (turn w a) buf (step s a buf)
+  answer-step ok = follows-as (owes w) (entry answer a) (turn w a) (keeping w a s) buf (step s a buf) answered-moved (takes-answer w a ok) answer-fits
+
+-- ---- somebody else's word
+module _ (s : State) (h : Heard) (p buf : List ℕ) (stands : StandsAt s (hears h)) where
+  speaker-known : heardBy (speakerOf h) s ≡ h
+  unfolding Knows
+  speaker-known = stands .knows
+
+  pub heard-moved : step s p buf ≡ moved (after h p) (keepingWord (speakerOf h) p s) buf
+  unfolding step stepAt wordStep keptAs
+  heard-moved =
+      ap (λ (x : Waiting). stepAt x s p buf) (stands .waits)
+      ∙ ap (λ (x : Heard). moved (after x p) (keepingWord (speakerOf h) p s) buf) speaker-known
+
+  pub word-step : allowed h p ≡ true → isPayload p ≡ true → Follows (at (hears h)) (entry (dueKind h) p) (after h p) buf (step s p buf)
+  word-step fits ok =
+      follows-as (at (hears h)) (entry (dueKind h) p) (after h p) (keepingWord (speakerOf h) p s) buf (step s p buf) heard-moved (takes-heard h p fits ok)
+      (subst (λ (x : Heard). Fits (after x p) (keepingWord (speakerOf h) p s)) speaker-known
+      (word-fits (speakerOf h) s p (ap (λ (x : Heard). allowed x p) speaker-known ∙ fits)))

@@ -1,0 +1,44 @@
+// The commands that are filled from a list, and that of the next record.
+use answer_afl::cursor;
+use commands::write;
+use decide_requests::requests::Cryptogram;
+use decide_requests::requests::p1;
+use dol_values::Known;
+use session_state::State;
+use session_told::Run;
+use session_told::runs::bytes_of;
+use session_told::runs::size_of;
+ghost use mathlib.Core.Path.{_≡_};
+ghost use lib.ListN.{length};
+ghost use Rattle.slices.specs.Writing.{laid};
+ghost use Rattle.start_fields.specs.Reading.{readingOf};
+ghost use Rattle.dol_fill.specs.Filled.{filling};
+ghost use Rattle.decide_requests.specs.Requests.{p1Of};
+ghost use Rattle.answer_afl.specs.Cursor.{recordAt};
+ghost use Rattle.commands.specs.Commands.{recordCommand, cryptogramCommand, sizeIn};
+ghost use Rattle.session_told.specs.Runs.{inRun};
+
+// GENERATE AC, filled from an object list that a record told.
+pub fn generate(s: State, request: Cryptogram, list: Run, known: Known, buf: &mut [u8]) -> usize
+    ensures size { λ r. ⌜ r ≡ sizeIn (length (now (buf .entry))) (cryptogramCommand (p1Of request) (filling (readingOf (s .start)) known (inRun list))) ⌝ }
+    ensures buffer { λ _. ⌜ now (buf .exit) ≡ laid (cryptogramCommand (p1Of request) (filling (readingOf (s .start)) known (inRun list))) 0 (now (buf .entry)) ⌝ }
+{
+    let start = s.start;
+    let n = size_of(list);
+    let bytes = bytes_of(list);
+    write::cryptogram(p1(request), &bytes[..n], &start, known, buf)
+}
+
+// READ RECORD of the record at the cursor.
+pub fn read(s: State, buf: &mut [u8]) -> usize
+    ensures size { λ r. ⌜ r ≡ sizeIn (length (now (buf .entry))) (recordCommand (recordAt (inRun (s .locator)) (s .cursor) .0) (recordAt (inRun (s .locator)) (s .cursor) .1)) ⌝ }
+    ensures buffer { λ _. ⌜ now (buf .exit) ≡ laid (recordCommand (recordAt (inRun (s .locator)) (s .cursor) .0) (recordAt (inRun (s .locator)) (s .cursor) .1)) 0 (now (buf .entry)) ⌝ }
+{
+    let run = s.locator;
+    let place = s.cursor;
+    let n = size_of(run);
+    let bytes = bytes_of(run);
+    let number = cursor::record(&bytes[..n], place);
+    let file = cursor::file(&bytes[..n], place);
+    write::record(number as u8, file as u8, buf)
+}

@@ -1,0 +1,37 @@
+// A state that waits for what comes next.
+use crate::Step;
+use session_phase::Reply;
+use session_phase::Waiting;
+use session_state::State;
+use session_state::change::change;
+ghost use mathlib.Core.Path.{_≡_};
+ghost use Prim.Native.Nat.{_%_};
+ghost use Rattle.session_moves.specs.Moves.{waitingFor};
+ghost use Rattle.session_phase.specs.declared.Reply.the-variants.{Decided as DecidedReply};
+ghost use Rattle.session_phase.specs.declared.Waiting.the-variants.{Decided as DecidedKept};
+
+// The same state, but for what is waited for.
+pub fn wait(s: State, waiting: Waiting, reply: Reply) -> Step
+    ensures { λ r. ⌜ r ≡ waitingFor waiting reply s ⌝ }
+{
+    let tvr = s.tvr;
+    let tsi = s.tsi;
+    let cursor = s.cursor;
+    Step {
+        state: change(s, waiting, tvr, tsi, cursor),
+        reply,
+    }
+}
+
+pub fn decide(s: State, outcome: u8) -> Step
+    ensures { λ r. ⌜ r ≡ waitingFor (DecidedKept outcome 0) DecidedReply s ⌝ }
+{
+    wait(s, Waiting::Decided(outcome, 0), Reply::Decided)
+}
+
+// Terminated, for a reason: 01 has ten, and of a larger number the low byte is kept.
+pub fn end(s: State, reason: usize) -> Step
+    ensures { λ r. ⌜ r ≡ waitingFor (DecidedKept 3 (reason % 256)) DecidedReply s ⌝ }
+{
+    wait(s, Waiting::Decided(3, (reason % 256) as u8), Reply::Decided)
+}

@@ -1,0 +1,92 @@
+// After the first cryptogram: approved, declined, or the issuer is asked and then the card again.
+use decide_requests::reply::HostReply;
+use decide_requests::reply::response_code;
+use decide_requests::requests::Cryptogram;
+use decide_requests::requests::second_request;
+use dol_wanted::is_fillable;
+use session_moves::Step;
+use session_moves::command::generate;
+use session_moves::ends::decide;
+use session_moves::ends::end;
+use session_moves::ends::wait;
+use session_phase::Question;
+use session_phase::Reply;
+use session_phase::Speaker;
+use session_phase::Waiting;
+use session_readings::facts::codes;
+use session_readings::known::at_second;
+use session_state::State;
+use session_told::Run;
+use session_told::runs::bytes_of;
+use session_told::runs::size_of;
+use start_fields::fields;
+use tape_read::HOST;
+ghost use mathlib.Core.Path.{_≡_};
+ghost use Rattle.dol_wanted.specs.Wanted.{fillable};
+ghost use Rattle.decide_requests.specs.Requests.{secondRequest};
+ghost use Rattle.start_fields.specs.Reading.{readingOf};
+ghost use Rattle.rulebook.specs.Situation.{issuerCodes};
+ghost use Rattle.rulebook.specs.Turn.{replied, online as onlineTurn, byFirst};
+ghost use Rattle.session_state.specs.Reading.{late};
+ghost use Rattle.session_told.specs.Runs.{inRun};
+ghost use Rattle.session_moves.specs.Moves.{played, moved};
+
+fn can_fill(list: Run) -> bool
+    ensures { λ r. ⌜ r ≡ fillable (inRun list) ⌝ }
+{
+    let n = size_of(list);
+    let bytes = bytes_of(list);
+    is_fillable(&bytes[..n])
+}
+
+fn second(s: State, reply: HostReply) -> Cryptogram
+    ensures { λ r. ⌜ r ≡ secondRequest reply (readingOf (s .start)) (issuerCodes (late s)) (s .tvr) ⌝ }
+{
+    let start = s.start;
+    let tvr = s.tvr;
+    second_request(reply, &start, codes(s), tvr)
+}
+
+// The second request, once the issuer's reply is in.
+pub fn request_second(s: State, reply: HostReply, code: [u8; 2], buf: &mut [u8]) -> Step
+    ensures { λ r. ⌜ played r (now (buf .exit)) ≡ moved (replied (late s) reply code) s (now (buf .entry)) ⌝ }
+{
+    let told = s.told;
+    let list = told.second_list;
+    if can_fill(list) {
+        let request = second(s, reply);
+        let response = response_code(reply, request, code);
+        let n = generate(s, request, list, at_second(s, response), buf);
+        wait(
+            s,
+            Waiting::ForCard(Question::Second(request)),
+            Reply::Command(n),
+        )
+    } else {
+        end(s, 9)
+    }
+}
+
+// A terminal of type 0 goes on as unable.
+fn go_online(s: State, buf: &mut [u8]) -> Step
+    ensures { λ r. ⌜ played r (now (buf .exit)) ≡ moved (onlineTurn (late s)) s (now (buf .entry)) ⌝ }
+{
+    let start = s.start;
+    if fields::kind(&start) == 0 {
+        request_second(s, HostReply::Unable, [0, 0], buf)
+    } else {
+        wait(s, Waiting::ForWord(Speaker::Issuer), Reply::Due(HOST))
+    }
+}
+
+pub fn by_first(kind: usize, s: State, buf: &mut [u8]) -> Step
+    ensures { λ r. ⌜ played r (now (buf .exit)) ≡ moved (byFirst kind (late s)) s (now (buf .entry)) ⌝ }
+{
+    if kind == 1 {
+        return decide(s, 1);
+    }
+    if kind == 0 {
+        return decide(s, 2);
+    }
+    go_online(s, buf)
+}

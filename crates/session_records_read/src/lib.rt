@@ -1,0 +1,133 @@
+// From record to record, and after the last of them.
+use answer_afl::cursor;
+use answer_afl::cursor::Cursor;
+use answer_record::complete_reason;
+use decide_requests::requests::first_request;
+use decide_tvr::results::tsi_after_records;
+use decide_tvr::results::tvr_after_records;
+use session_moves::Step;
+use session_moves::command::generate;
+use session_moves::command::read;
+use session_moves::ends::end;
+use session_moves::ends::wait;
+use session_phase::Question;
+use session_phase::Reply;
+use session_phase::Waiting;
+use session_readings::facts::codes;
+use session_readings::facts::facts;
+use session_readings::facts::seen;
+use session_readings::known::at_first;
+use session_state::State;
+use session_state::change::change;
+use session_told::runs::bytes_of;
+use session_told::runs::size_of;
+ghost use mathlib.Core.Path.{_≡_};
+ghost use Prim.Native.Nat.{_<_};
+ghost use Rattle.answer_afl.specs.Cursor.{isLeft, stepped};
+ghost use Rattle.answer_record.specs.Records.{afterRecords};
+ghost use Rattle.rulebook.specs.Turn.{requested, allRead, readOn};
+ghost use Rattle.session_state.specs.Reading.{late, recordsLeft};
+ghost use Rattle.session_told.specs.Facts.{factsIn};
+ghost use Rattle.session_told.specs.Runs.{inRun};
+ghost use Rattle.session_moves.specs.Moves.{played, moved};
+ghost use Rattle.session_records_read.specs.Storing.{managedState};
+
+fn is_left(s: State) -> bool
+    ensures { λ r. ⌜ r ≡ isLeft (inRun (s .locator)) (s .cursor) ⌝ }
+{
+    let run = s.locator;
+    let place = s.cursor;
+    let n = size_of(run);
+    let bytes = bytes_of(run);
+    cursor::is_left(&bytes[..n], place)
+}
+
+fn next(s: State) -> Cursor
+    ensures { λ r. ⌜ r ≡ stepped (inRun (s .locator)) (s .cursor) ⌝ }
+{
+    let run = s.locator;
+    let place = s.cursor;
+    let n = size_of(run);
+    let bytes = bytes_of(run);
+    cursor::step(&bytes[..n], place)
+}
+
+// Reasons 8 and 9 over all that the records told.
+fn reason(s: State) -> usize
+    ensures { λ r. ⌜ r ≡ afterRecords (factsIn (s .told)) ⌝ }
+{
+    let told = s.told;
+    let list = told.first_list;
+    let n = size_of(list);
+    let bytes = bytes_of(list);
+    complete_reason(seen(told), &bytes[..n])
+}
+
+// The bits that the facts set.
+fn managed(s: State) -> State
+    ensures { λ r. ⌜ r ≡ managedState s ⌝ }
+{
+    let start = s.start;
+    let tvr = s.tvr;
+    let tsi = s.tsi;
+    let waiting = s.waiting;
+    let place = s.cursor;
+    let told = facts(s);
+    change(
+        s,
+        waiting,
+        tvr_after_records(&start, told, tvr),
+        tsi_after_records(told, tsi),
+        place,
+    )
+}
+
+// The first request, or the end where its list cannot be filled.
+fn request_first(s: State, why: usize, buf: &mut [u8]) -> Step
+    requires { ⌜ why < 256 ⌝ }
+    ensures { λ r. ⌜ played r (now (buf .exit)) ≡ moved (requested why (late s)) s (now (buf .entry)) ⌝ }
+{
+    if why != 0 {
+        return end(s, why);
+    }
+    let start = s.start;
+    let tvr = s.tvr;
+    let told = s.told;
+    let list = told.first_list;
+    let request = first_request(&start, codes(s), tvr);
+    let n = generate(s, request, list, at_first(s), buf);
+    wait(
+        s,
+        Waiting::ForCard(Question::First(request)),
+        Reply::Command(n),
+    )
+}
+
+// After the last record.
+fn all_read(s: State, buf: &mut [u8]) -> Step
+    ensures { λ r. ⌜ played r (now (buf .exit)) ≡ moved (allRead (late s)) s (now (buf .entry)) ⌝ }
+{
+    let why = reason(s);
+    if why == 8 {
+        return end(s, 8);
+    }
+    request_first(managed(s), why, buf)
+}
+
+// The next record, or the end of them.
+pub fn read_on(s: State, buf: &mut [u8]) -> Step
+    ensures { λ r. ⌜ played r (now (buf .exit)) ≡ moved (readOn (late s) (recordsLeft s)) s (now (buf .entry)) ⌝ }
+{
+    if is_left(s) {
+        let n = read(s, buf);
+        let tvr = s.tvr;
+        let tsi = s.tsi;
+        let place = next(s);
+        Step {
+            state: change(s, Waiting::ForCard(Question::Record), tvr, tsi, place),
+            reply: Reply::Command(n),
+        }
+    } else {
+        all_read(s, buf)
+    }
+}

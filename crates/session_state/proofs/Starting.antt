@@ -1,0 +1,78 @@
+-- A state that took START, the answer to GPO or a record is read as the rulebook's situation after it.
+-- Assumes nothing.
+use mathlib.Core.Path.{_≡_, refl, sym, ap, _∙_}
+use mathlib.Core.Bool.{Bool, true, false}
+use mathlib.Core.List.{List, [], _∷_, map}
+use mathlib.Core.Option.{Option, none, some, Option·getD}
+use Prim.Native.Nat.{ℕ, _≤_}
+use native.Mathlib.Omega.{arith}
+use lib.Dec.{eqb}
+use lib.ListN.{length}
+use Rattle.tlv_list.specs.Objects.{isSome}
+use Rattle.slices.specs.Choice.{pick}
+use Rattle.slices.specs.Writing.{zeros}
+use Rattle.slices.proofs.Choice.{pick-same}
+use Rattle.start_fields.specs.Layout.{startLength}
+use Rattle.start_fields.specs.Reading.{readingOf}
+use Rattle.slices.specs.Tables.{beside}
+use Rattle.dol_values.specs.Known.{held, nothing}
+use Rattle.answer_afl.specs.Entries.{toRead}
+use Rattle.answer_afl.specs.Cursor.{start, remaining}
+use Rattle.answer_afl.proofs.Walking.{all-remain}
+use Rattle.answer_record.specs.Records.{recordReason}
+use Rattle.answer_forms.specs.Options.{optionsReason, profileOf, locatorOf}
+use Rattle.answer_laws.proofs.AcceptedAnswers.{options-profile, locator-size}
+use Rattle.rulebook.specs.Situation.{begun as situationBegun}
+use Rattle.rulebook.specs.Turn.{withProfile, withRecord as recordAdded}
+use Rattle.session_state.specs.Reading.{situationWith, early, late, recordsLeft}
+use Rattle.session_told.specs.Facts.{toldLines, factsIn}
+use Rattle.session_told.specs.Runs.{noRun, runHeld, inRun}
+use Rattle.session_state.specs.Keeping.{withOptions, stateAt, begun, withTold}
+use Rattle.session_told.specs.Telling.{fixed, toldNothing, withRecord}
+use Rattle.session_state.specs.declared.State.{State}
+use Rattle.session_told.proofs.Telling.{fixed-all, run-kept, facts-told}
+
+-- a table in which nothing stands beside any name
+empty-beside : (tag : ℕ) (names : List ℕ) → beside {A = Option (List ℕ)} none tag (map (λ n. (n, none)) names) ≡ none
+unfolding beside
+empty-beside tag [] = refl
+empty-beside tag (n ∷ names) = ap (pick (eqb tag n) none) (empty-beside tag names) ∙ pick-same (eqb tag n) none
+
+nothing-told : factsIn toldNothing ≡ (λ tag. none)
+unfolding factsIn toldLines toldNothing held nothing runHeld noRun pick
+nothing-told = λ i tag. empty-beside tag (0x5A ∷ 0x5F24 ∷ 0x5F25 ∷ 0x9F08 ∷ 0x8C ∷ 0x8D ∷ 0x9F0D ∷ 0x9F0E ∷ 0x9F0F ∷ []) i
+
+pub early-begun : (b : List ℕ) → length b ≡ startLength → early (begun b) ≡ situationBegun (readingOf b)
+unfolding early situationWith begun stateAt situationBegun
+early-begun b e =
+    λ i. record { terminal = readingOf (fixed-all startLength b e i); profile = []; facts = nothing-told i; tvr = zeros 5; tsi = zeros 2 }
+
+module _ (s : State) (a : List ℕ) (good : optionsReason a ≡ 0) where
+  pub late-options : late (withOptions a s) ≡ withProfile (early s) (profileOf a)
+  unfolding late early situationWith withOptions withProfile
+  late-options =
+      λ i. record {
+        terminal = readingOf (s .start);
+        profile = fixed-all 2 (profileOf a) (options-profile a good) i;
+        facts = factsIn (s .told);
+        tvr = s .tvr;
+        tsi = s .tsi;
+      }
+
+  pub left-options : recordsLeft (withOptions a s) ≡ toRead (locatorOf a)
+  unfolding recordsLeft withOptions inRun
+  left-options =
+      ap (λ (v : List ℕ). remaining v start) (ap (λ (o : Option (List ℕ)). Option·getD o []) (run-kept (locatorOf a) (locator-size a)))
+      ∙ all-remain (locatorOf a)
+
+pub late-told : (s : State) (a : List ℕ) → recordReason (λ name. isSome (factsIn (s .told) name)) a ≡ 0
+    → late (withTold (withRecord a (s .told)) s) ≡ recordAdded (late s) a
+unfolding late situationWith withTold recordAdded
+late-told s a good =
+    λ i. record {
+      terminal = readingOf (s .start);
+      profile = s .profile;
+      facts = facts-told (s .told) a good i;
+      tvr = s .tvr;
+      tsi = s .tsi;
+    }

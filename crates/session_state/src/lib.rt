@@ -1,0 +1,23 @@
+// The state of a session: what it keeps, how it changes, and the outcome that it says.
+pub mod change;
+pub mod result;
+
+use answer_afl::cursor::Cursor;
+use session_phase::Waiting;
+use session_told::Run;
+use session_told::Told;
+use start_fields::fields::LENGTH;
+
+pub struct State {
+    pub waiting: Waiting,
+    // START's bytes
+    pub start: [u8; LENGTH],
+    pub tvr: [u8; 5],
+    pub tsi: [u8; 2],
+    // 82, once the answer to GPO told it
+    pub profile: [u8; 2],
+    // the AFL, and the place in it of the next record to ask for
+    pub locator: Run,
+    pub cursor: Cursor,
+    pub told: Told,
+}

@@ -1,0 +1,58 @@
+-- The reading of START by the fields' names: each field is the run of bytes, or the byte, at its place in the layout.
+-- Assumes nothing.
+use mathlib.Core.Path.{_≡_, refl}
+use mathlib.Core.List.{List}
+use Prim.Native.Nat.{ℕ, _+_, _≤_}
+use native.Mathlib.Omega.{arith}
+use lib.ListN.{length, length-take, length-drop}
+use Rattle.start_fields.specs.declared.fields.Field.{Field}
+use Rattle.start_fields.specs.declared.fields.Field.the-variants.{Amount, OtherAmount, Country, Currency, Date, TransactionType, Unpredictable, FloorLimit, Threshold, Version, Denial, Online, Default}
+use Rattle.start_fields.specs.declared.fields.Octet.{Octet}
+use Rattle.start_fields.specs.declared.fields.Octet.the-variants.{Kind, Random, Target, Maximum}
+use Rattle.start_fields.specs.Layout.{beginOf, sizeOf, startLength}
+use Rattle.start_fields.specs.Reading.{readingOf, bytesOf, octetOf, runIn, octetIn}
+
+pub bytes-read : (f : Field) (s : List ℕ) → bytesOf f (readingOf s) ≡ runIn f s
+unfolding readingOf
+bytes-read Amount s = refl
+bytes-read OtherAmount s = refl
+bytes-read Country s = refl
+bytes-read Currency s = refl
+bytes-read Date s = refl
+bytes-read TransactionType s = refl
+bytes-read Unpredictable s = refl
+bytes-read FloorLimit s = refl
+bytes-read Threshold s = refl
+bytes-read Version s = refl
+bytes-read Denial s = refl
+bytes-read Online s = refl
+bytes-read Default s = refl
+
+pub octet-read : (o : Octet) (s : List ℕ) → octetOf o (readingOf s) ≡ octetIn o s
+unfolding readingOf
+octet-read Kind s = refl
+octet-read Random s = refl
+octet-read Target s = refl
+octet-read Maximum s = refl
+
+-- every run of bytes has at most six bytes and lies within START
+within : (f : Field) → (sizeOf f ≤ 6) × (beginOf f + sizeOf f ≤ startLength)
+within Amount = omega arith
+within OtherAmount = omega arith
+within Country = omega arith
+within Currency = omega arith
+within Date = omega arith
+within TransactionType = omega arith
+within Unpredictable = omega arith
+within FloorLimit = omega arith
+within Threshold = omega arith
+within Version = omega arith
+within Denial = omega arith
+within Online = omega arith
+within Default = omega arith
+
+pub short-read : (f : Field) (s : List ℕ) → length (bytesOf f (readingOf s)) ≤ 6
+short-read f s = rw bytes-read (simp length-take (omega (arith, within f .0)))
+
+pub whole-read : (f : Field) (s : List ℕ) → length s ≡ startLength → length (bytesOf f (readingOf s)) ≡ sizeOf f
+whole-read f s e = rw bytes-read (simp (length-take, length-drop) (omega (arith, within f .1)))

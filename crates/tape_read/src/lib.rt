@@ -1,0 +1,49 @@
+// The tape: entries in blocks of 512 bytes, read from any bytes.
+mod read;
+
+pub use read::block_at;
+pub use read::code;
+pub use read::kind;
+pub use read::number;
+pub use read::payload;
+pub use read::session;
+ghost use mathlib.Core.Path.{_≡_};
+ghost use mathlib.Core.Bool.{not};
+ghost use Rattle.tape_read.specs.Entries.{isKind};
+
+// The kinds of entries.
+pub const START: u8 = 1;
+
+pub const COMMAND: u8 = 2;
+
+pub const ANSWER: u8 = 3;
+
+pub const SILENCE: u8 = 4;
+
+pub const HOST: u8 = 5;
+
+pub const DECISION: u8 = 6;
+
+// The limits: the bytes of a block, the blocks of a tape and its bytes, the bytes of a payload.
+pub const BLOCK: usize = 512;
+
+pub const BLOCKS: usize = 128;
+
+pub const TAPE: usize = BLOCKS * BLOCK;
+
+pub const PAYLOAD: usize = 496;
+
+// Where a block's payload starts, and its check.
+pub const PAYLOAD_AT: usize = 12;
+
+pub const CHECK_AT: usize = 508;
+
+// Whether a number is none of the kinds.
+pub fn no_kind(k: u8) -> bool
+    ensures { λ r. ⌜ r ≡ not (isKind k) ⌝ }
+{
+    if k < START {
+        return true;
+    }
+    DECISION < k
+}

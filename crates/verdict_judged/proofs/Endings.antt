@@ -1,0 +1,55 @@
+-- What a tape's last entries settle: a finished session with anything after it fails there, and since a session ends with its DECISION,
+-- a tape that ends with another entry is never a pass.
+-- Assumes nothing.
+use mathlib.Core.Path.{_≡_, refl, subst}
+use mathlib.Core.List.{List, [], _∷_, _++_}
+use mathlib.Core.Logic.{inl, inr}
+use Prim.Native.Nat.{ℕ}
+use native.Mathlib.Omega.{arith}
+use lib.ListN.{length}
+use Rattle.tape_read.specs.Entries.{Entry, command, silence, decision}
+use Rattle.tape_read.specs.Tapes.{entries, readTape}
+use Rattle.rulebook.specs.Session.{Session, Closed, Open, Lawful}
+use Rattle.rulebook.proofs.Breaks.{after-session, after-closed, break-here}
+use Rattle.rulebook.proofs.SeenErrors.{last-is-decision}
+use Rattle.verdict.specs.Saying.{says}
+use Rattle.verdict_judged.specs.Judged.{Judges, passes, undecided, fails, Judged, readable, damaged}
+use Rattle.verdict.specs.declared.Verdict.the-variants.{Pass, Fail}
+use Rattle.verdict.specs.declared.Answer.{Answer}
+
+-- ---- one entry too many
+
+module _ (es : List Entry) (e : Entry) (more : List Entry) where
+  -- whatever follows a lawful list that nothing may follow
+  pub one-too-many : Lawful es → (Lawful (es ++ (e ∷ [])) → ⊥) → Judges (es ++ (e ∷ more)) (says Fail (length es) 0)
+  one-too-many l never = fails (length es) (break-here es e more l never) refl
+
+  -- after a DECISION
+  pub after-decision : Session es → Judges (es ++ (e ∷ more)) (says Fail (length es) 0)
+  unfolding Lawful
+  after-decision s = one-too-many (inl s) (after-session es e [] s)
+
+  -- after a closing silence, another silence too
+  pub after-silence : Closed es → Judges (es ++ (e ∷ more)) (says Fail (length es) 0)
+  unfolding Lawful Open
+  after-silence c = one-too-many (inr (inr c)) (after-closed es e [] c)
+
+-- ---- the last entry
+
+module _ (t : List ℕ) (es : List Entry) (e : Entry) (r : readTape t ≡ entries (es ++ (e ∷ []))) where
+  -- a session ends with its DECISION, so a tape that ends with any other entry is no pass
+  pub no-pass : (a : Answer) → (e .kind ≡ decision → ⊥) → Judged t a → a .verdict ≡ Pass → ⊥
+  no-pass a other (readable fs q (passes s v)) p =
+      let same : fs ≡ es ++ (e ∷ []) = cc in
+      other (last-is-decision es e (subst Session same s))
+  no-pass a other (readable fs q (undecided o v)) p = let z : _≡_ {A = ℕ} 0 1 = cc in omega arith
+  no-pass a other (readable fs q (fails k b v)) p = let z : _≡_ {A = ℕ} 0 1 = cc in omega arith
+  no-pass a other (damaged place code q v) p = let z : _≡_ {A = ℕ} 0 1 = cc in omega arith
+
+  -- not one that ends after a COMMAND,
+  pub command-last : (a : Answer) → e .kind ≡ command → Judged t a → a .verdict ≡ Pass → ⊥
+  command-last a k = no-pass a (λ d. omega arith)
+
+  -- nor one that ends with a silence
+  pub silence-last : (a : Answer) → e .kind ≡ silence → Judged t a → a .verdict ≡ Pass → ⊥
+  silence-last a k = no-pass a (λ d. omega arith)

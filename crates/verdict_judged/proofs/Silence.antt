@@ -1,0 +1,103 @@
+-- What a silence does to a tape: one without payload, where the card owes an answer, leaves it inconclusive; any other breaks the rules
+-- there, since no state of the machine takes a silence.
+-- Assumes nothing.
+use mathlib.Core.Path.{_≡_, refl, sym, ap, _∙_}
+use mathlib.Core.List.{List, [], _∷_, _++_}
+use mathlib.Core.Logic.{inl, inr, ⊎-elim}
+use mathlib.Core.Option.{none, some}
+use Prim.Native.Nat.{ℕ, _+_}
+use native.Mathlib.Omega.{arith}
+use lib.ListN.{length, length-append}
+use Rattle.slices.proofs.Choice.{pick-no}
+use Rattle.tape_read.specs.Entries.{Entry, entry, start, command, answer, silence, host, decision}
+use Rattle.rulebook.specs.Phase.{Asked, terminal, opens, asks, hears, decides, dueKind}
+use Rattle.rulebook.specs.Session.{Session, Beginning, AwaitsCard, Closed, Open, Lawful}
+use Rattle.rulebook.proofs.Said.{other-kinds}
+use Rattle.rulebook.specs.Machine.{Machine, at, owes, done, due, sayable, next, run}
+use Rattle.rulebook.proofs.Running.{chosen, taken, no-state, session-run}
+use Rattle.rulebook.proofs.Reading.{other-kind, run-append, beginning-run, awaits-run}
+use Rattle.rulebook.proofs.Sorting.{run-awaits}
+use Rattle.rulebook.proofs.Ends.{finishes}
+use Rattle.rulebook.proofs.Breaks.{begins-empty, after-session, after-closed}
+use Rattle.rulebook.proofs.States.{refused-breaks}
+use Rattle.verdict.specs.Saying.{says}
+use Rattle.verdict_judged.specs.Judged.{Judges, undecided}
+use Rattle.verdict.specs.declared.Verdict.the-variants.{Fail, Inconclusive}
+use Rattle.verdict_judged.proofs.Taking.{not-due}
+use Rattle.verdict_judged.proofs.Endings.{one-too-many}
+
+-- one closing silence, where the card's answer is awaited; it is counted
+pub closing-silence : (es : List Entry) → AwaitsCard es → Judges (es ++ (entry silence [] ∷ [])) (says Inconclusive (length es + 1) 0)
+unfolding Open Closed
+closing-silence es a = undecided (inr (es, (a, refl))) (ap (λ (n : ℕ). says Inconclusive n 0) (sym (length-append es (entry silence [] ∷ []))))
+
+-- ---- any other silence
+
+silence-refused : (σ : Machine) (p : List ℕ) → next σ (entry silence p) ≡ none
+unfolding next
+silence-refused (at (asks w)) p = pick-no _ _ _ (not-due command silence _ p (λ e. omega arith))
+silence-refused (at (hears h)) p = pick-no _ _ _ (other-kind (dueKind h) silence _ p (other-kinds h .no-silence))
+silence-refused (at (decides outcome reason s)) p = pick-no _ _ _ (not-due decision silence _ p (λ e. omega arith))
+silence-refused (owes w) p = pick-no _ _ _ (not-due answer silence _ p (λ e. omega arith))
+silence-refused done p = refl
+
+module _ (es : List Entry) (p : List ℕ) (more : List Entry) where
+  -- it fails there, unless it has no payload and the card's answer is awaited
+  pub silence-fails : Lawful es → (p ≡ [] → AwaitsCard es → ⊥) → Judges (es ++ (entry silence p ∷ more)) (says Fail (length es) 0)
+  unfolding Lawful Open
+  silence-fails l other =
+      one-too-many es (entry silence p) more l
+      (⊎-elim (after-session es (entry silence p) [])
+      (λ o.
+      ⊎-elim
+      (λ b.
+      let r = beginning-run es b in
+      refused-breaks es (r .0) (entry silence p) (r .1 .0) (silence-refused (r .0) p)
+      (λ w there silent. other (ap (λ (x : Entry). x .payload) silent) (run-awaits finishes es w (r .1 .0 ∙ ap some there))))
+      (after-closed es (entry silence p) [])
+      o)
+      l)
+
+-- with a payload, wherever
+pub silence-with-payload : (es : List Entry) (b : ℕ) (p : List ℕ) (more : List Entry) → Lawful es
+    → Judges (es ++ (entry silence (b ∷ p) ∷ more)) (says Fail (length es) 0)
+silence-with-payload es b p more l = silence-fails es (b ∷ p) more l (λ e a. let z : _≡_ {A = ℕ} 0 1 = cc in omega arith)
+
+-- at the beginning
+pub silence-first : (p : List ℕ) (more : List Entry) → Judges (entry silence p ∷ more) (says Fail 0 0)
+unfolding Lawful Open run
+silence-first p more =
+    silence-fails [] p more (inr (inl begins-empty)) (λ e a. let w = awaits-run [] a in let z : _≡_ {A = ℕ} 0 1 = cc (w .1) in omega arith)
+
+-- right after START, before any command
+start-not-awaited : (b : List ℕ) → AwaitsCard (entry start b ∷ []) → ⊥
+unfolding run next
+start-not-awaited b a =
+    let w = awaits-run (entry start b ∷ []) a in
+    let t = taken (run []) (next (at opens) (entry start b)) (owes (w .0)) (w .1) in
+    let c = chosen (due (dueKind terminal) (sayable terminal b) (entry start b)) _ (owes (w .0)) (t .1 .0 ∙ t .1 .1) .1 in
+    let z : _≡_ {A = ℕ} 0 1 = cc in
+    omega arith
+
+pub silence-after-start : (b p : List ℕ) (more : List Entry) → Beginning (entry start b ∷ []) → Judges (entry start b ∷ entry silence p ∷ more) (says Fail 1 0)
+unfolding Lawful Open
+silence-after-start b p more begins = silence-fails (entry start b ∷ []) p more (inr (inl begins)) (λ e a. start-not-awaited b a)
+
+-- where the issuer's reply is due
+host-refused : (w : Asked) (p : List ℕ) → next (owes w) (entry host p) ≡ none
+unfolding next
+host-refused w p = pick-no _ _ _ (not-due answer host _ p (λ e. omega arith))
+
+host-not-awaited : (es : List Entry) (h : List ℕ) (rest : List Entry) → Session (es ++ (entry host h ∷ rest)) → AwaitsCard es → ⊥
+unfolding run
+host-not-awaited es h rest s a =
+    let w = awaits-run es a in
+    let t = taken (run (entry host h ∷ rest)) (run es (at opens)) done (sym (run-append es (entry host h ∷ rest) (at opens)) ∙ session-run _ s) in
+    let n = taken (run rest) (next (t .0) (entry host h)) done (t .1 .1) in
+    let here : t .0 ≡ owes (w .0) = cc (t .1 .0, w .1) in
+    no-state (n .0) (sym (host-refused (w .0) h) ∙ (ap (λ (σ : Machine). next σ (entry host h)) (sym here) ∙ n .1 .0))
+
+pub silence-for-host : (es : List Entry) (h : List ℕ) (rest : List Entry) (p : List ℕ) (more : List Entry) → Session (es ++ (entry host h ∷ rest))
+    → Judges (es ++ (entry silence p ∷ more)) (says Fail (length es) 0)
+unfolding Lawful Open Beginning
+silence-for-host es h rest p more s = silence-fails es p more (inr (inl (entry host h, (rest, s)))) (λ e a. host-not-awaited es h rest s a)

@@ -1,0 +1,140 @@
+-- What one entry does in each state of the machine, for a judge that goes by the entry's kind and payload: the one entry that is due
+-- leads on, a silence closes where the card owes an answer, and anything else breaks the rules there.
+-- Assumes nothing.
+use mathlib.Core.Path.{_≡_, refl, ap, ap₂, _∙_}
+use mathlib.Core.Bool.{Bool, true, false, _&&_}
+use mathlib.Core.List.{List, [], _∷_}
+use mathlib.Core.Option.{Option, none, some}
+use Prim.Native.Nat.{ℕ, _+_}
+use native.Mathlib.Omega.{arith}
+use lib.Dec.{eqb}
+use borrow.Author.Tests.{ne-eqb}
+use Rattle.slices.specs.Choice.{pick}
+use Rattle.slices.proofs.Choice.{pick-yes, pick-no, either, and-both}
+use Rattle.start_valid.specs.Start.{validStart}
+use Rattle.decide_requests.specs.Replies.{replyOf, isReply}
+use Rattle.tape_read.specs.Entries.{Entry, entry, start, command, answer, silence, host, decision}
+use Rattle.rulebook.specs.Situation.{Situation}
+use Rattle.rulebook.specs.Phase.{Asked, Heard, terminal, issuer, opens, asks, hears, decides, commandOf, dueKind, decisionOf}
+use Rattle.rulebook.specs.Turn.{opened, turn, allowed, heard, after}
+use Rattle.rulebook.specs.Session.{isPayload}
+use Rattle.slices.specs.Tests.{alike}
+use Rattle.slices.proofs.Comparing.{alike-same}
+use Rattle.rulebook.specs.Machine.{Machine, at, owes, done, due, sayable, next}
+use Rattle.rulebook.proofs.Running.{takes-command, takes-answer, takes-heard, takes-decision}
+use Rattle.rulebook.proofs.Named.{takes-reply}
+use Rattle.rulebook.proofs.Reading.{other-kind}
+use Rattle.verdict_judged.specs.Progress.{reached, closed, broken, empty, closes, onward, reads}
+
+-- ---- by what the machine does
+
+module _ (σ : Machine) (n : ℕ) (e : Entry) where
+  pub reads-taken : (τ : Machine) → next σ e ≡ some τ → reads (reached σ n) e ≡ reached τ (n + 1)
+  unfolding reads onward
+  reads-taken τ h = ap (onward σ n e) h
+
+  pub reads-refused : next σ e ≡ none → closes σ e ≡ false → reads (reached σ n) e ≡ broken n
+  unfolding reads onward
+  reads-refused h f = ap (onward σ n e) h ∙ pick-no _ _ _ f
+
+-- ---- by the entry
+
+-- an entry of another kind than the one due, and one of that kind with another payload
+pub not-due : (k j : ℕ) (test : Bool) (p : List ℕ) → (j ≡ k → ⊥) → due k test (entry j p) ≡ false
+not-due k j test p h = other-kind k j test p (ne-eqb j k h)
+
+not-passed : (k j : ℕ) (test : Bool) (p : List ℕ) → test ≡ false → due k test (entry j p) ≡ false
+unfolding due
+not-passed k j test p h = either (eqb j k) (λ y. ap₂ _&&_ y h) (λ n. ap (λ (b : Bool). b && test) n)
+
+module _ (n : ℕ) where
+  -- what somebody other than the card says
+  module _ (h : Heard) (p : List ℕ) where
+    pub reads-heard : allowed h p ≡ true → isPayload p ≡ true → reads (reached (at (hears h)) n) (entry (dueKind h) p) ≡ reached (at (after h p)) (n + 1)
+    reads-heard fits ok = reads-taken (at (hears h)) n (entry (dueKind h) p) (at (after h p)) (takes-heard h p fits ok)
+
+    pub heard-invalid : allowed h p ≡ false → reads (reached (at (hears h)) n) (entry (dueKind h) p) ≡ broken n
+    unfolding next closes sayable
+    heard-invalid f =
+        reads-refused (at (hears h)) n (entry (dueKind h) p)
+        (pick-no _ _ _ (not-passed (dueKind h) (dueKind h) _ p (ap (λ (b : Bool). b && isPayload p) f))) refl
+
+    pub heard-missing : (k : ℕ) → (k ≡ dueKind h → ⊥) → reads (reached (at (hears h)) n) (entry k p) ≡ broken n
+    unfolding next closes
+    heard-missing k other = reads-refused (at (hears h)) n (entry k p) (pick-no _ _ _ (not-due (dueKind h) k _ p other)) refl
+
+  -- a command
+  module _ (w : Asked) (p : List ℕ) where
+    pub reads-command : p ≡ commandOf w → reads (reached (at (asks w)) n) (entry command p) ≡ reached (owes w) (n + 1)
+    reads-command h =
+        ap (λ (c : List ℕ). reads (reached (at (asks w)) n) (entry command c)) h
+        ∙ reads-taken (at (asks w)) n (entry command (commandOf w)) (owes w) (takes-command w)
+
+    pub command-wrong : (k : ℕ) → (p ≡ commandOf w → ⊥) → reads (reached (at (asks w)) n) (entry k p) ≡ broken n
+    unfolding next closes
+    command-wrong k h =
+        reads-refused (at (asks w)) n (entry k p)
+        (pick-no _ _ _ (not-passed command k _ p (either (alike p (commandOf w)) (λ y. absurd (h (alike-same p (commandOf w) y))) (λ f. f)))) refl
+
+    pub command-missing : (k : ℕ) → (k ≡ command → ⊥) → reads (reached (at (asks w)) n) (entry k p) ≡ broken n
+    unfolding next closes
+    command-missing k h = reads-refused (at (asks w)) n (entry k p) (pick-no _ _ _ (not-due command k _ p h)) refl
+
+  -- an answer, or a closing silence
+  module _ (w : Asked) (p : List ℕ) where
+    pub reads-answer : isPayload p ≡ true → reads (reached (owes w) n) (entry answer p) ≡ reached (at (turn w p)) (n + 1)
+    reads-answer ok = reads-taken (owes w) n (entry answer p) (at (turn w p)) (takes-answer w p ok)
+
+    pub reads-silence : p ≡ [] → reads (reached (owes w) n) (entry silence p) ≡ closed (n + 1)
+    unfolding reads onward next closes empty
+    reads-silence h =
+        ap (onward (owes w) n (entry silence p)) (pick-no _ _ _ (not-due answer silence _ p (λ e. omega arith)))
+        ∙ pick-yes _ _ _ (and-both (eqb silence silence) (empty p) refl (ap empty h))
+
+    not-empty : (q : List ℕ) → (q ≡ [] → ⊥) → empty q ≡ false
+    unfolding empty
+    not-empty [] h = absurd (h refl)
+    not-empty (b ∷ q) h = refl
+
+    pub silence-wrong : (p ≡ [] → ⊥) → reads (reached (owes w) n) (entry silence p) ≡ broken n
+    unfolding next closes
+    silence-wrong h =
+        reads-refused (owes w) n (entry silence p) (pick-no _ _ _ (not-due answer silence _ p (λ e. omega arith))) (not-empty p h)
+
+    pub answer-missing : (k : ℕ) → (k ≡ answer → ⊥) → (k ≡ silence → ⊥) → reads (reached (owes w) n) (entry k p) ≡ broken n
+    unfolding next closes
+    answer-missing k h s =
+        reads-refused (owes w) n (entry k p) (pick-no _ _ _ (not-due answer k _ p h)) (ap (λ (b : Bool). b && empty p) (ne-eqb k silence s))
+
+  -- DECISION
+  module _ (outcome reason : ℕ) (s : Situation) (p : List ℕ) where
+    pub reads-decision : p ≡ decisionOf outcome reason s → reads (reached (at (decides outcome reason s)) n) (entry decision p) ≡ reached done (n + 1)
+    reads-decision h =
+        let d = decides outcome reason s in
+        ap (λ (x : List ℕ). reads (reached (at d) n) (entry decision x)) h
+        ∙ reads-taken (at d) n (entry decision (decisionOf outcome reason s)) done (takes-decision outcome reason s)
+
+    pub decision-wrong : (k : ℕ) → (p ≡ decisionOf outcome reason s → ⊥) → reads (reached (at (decides outcome reason s)) n) (entry k p) ≡ broken n
+    unfolding next closes
+    decision-wrong k h =
+        let d = decisionOf outcome reason s in
+        reads-refused (at (decides outcome reason s)) n (entry k p)
+        (pick-no _ _ _ (not-passed decision k _ p (either (alike p d) (λ y. absurd (h (alike-same p d y))) (λ f. f)))) refl
+
+    pub decision-missing : (k : ℕ) → (k ≡ decision → ⊥) → reads (reached (at (decides outcome reason s)) n) (entry k p) ≡ broken n
+    unfolding next closes
+    decision-missing k h = reads-refused (at (decides outcome reason s)) n (entry k p) (pick-no _ _ _ (not-due decision k _ p h)) refl
+
+  -- nothing follows the end, a closing silence or a break
+  module _ (e : Entry) where
+    pub reads-after-end : reads (reached done n) e ≡ broken n
+    unfolding next closes
+    reads-after-end = reads-refused done n e refl refl
+
+    pub reads-after-silence : reads (closed n) e ≡ broken n
+    unfolding reads
+    reads-after-silence = refl
+
+    pub reads-after-break : reads (broken n) e ≡ broken n
+    unfolding reads
+    reads-after-break = refl

@@ -1,0 +1,73 @@
+-- How the verdict is found: the entries of a tape read one by one by the rulebook's machine. What a verdict is stands in Judged, without
+-- it; that this finds the verdict of every tape is proved (Meaning), so nobody need believe it.
+-- Assumes nothing.
+use mathlib.Core.Bool.{Bool, true, false, _&&_}
+use mathlib.Core.List.{List, [], _∷_}
+use mathlib.Core.Option.{Option, none, some}
+use Prim.Native.Nat.{ℕ, _+_}
+use lib.Dec.{eqb}
+use Rattle.slices.specs.Choice.{pick}
+use Rattle.tape_read.specs.Entries.{Entry, silence}
+use Rattle.tape_read.specs.Tapes.{Reading, entries, unreadable, readTape}
+use Rattle.rulebook.specs.Phase.{opens}
+use Rattle.rulebook.specs.Machine.{Machine, at, owes, done, next}
+use Rattle.verdict.specs.Saying.{says}
+use Rattle.verdict.specs.declared.Verdict.the-variants.{Pass, Fail, Inconclusive, Unreadable}
+use Rattle.verdict.specs.declared.Answer.{Answer}
+
+pub data Progress : Type 0 where
+  -- no rule is broken: where the machine stands, and how many entries were read
+  reached : Machine → ℕ → Progress
+  -- the last of so many entries was a closing silence
+  closed : ℕ → Progress
+  -- the entry at which the rules were first broken
+  broken : ℕ → Progress
+
+-- before any entry
+abbrev pub begun : Progress
+begun = reached (at opens) 0
+
+unfoldable pub empty : List ℕ → Bool
+empty [] = true
+empty (b ∷ bs) = false
+
+-- a silence with no payload, where the card owes an answer
+unfoldable pub closes : Machine → Entry → Bool
+closes (at p) e = false
+closes (owes w) e = eqb (e .kind) silence && empty (e .payload)
+closes done e = false
+
+-- after an entry that the machine takes, or refuses
+unfoldable pub onward : Machine → ℕ → Entry → Option Machine → Progress
+onward σ n e (some τ) = reached τ (n + 1)
+onward σ n e none = pick (closes σ e) (closed (n + 1)) (broken n)
+
+-- one entry further: nothing may follow a closing silence, and what is broken stays broken
+unfoldable pub reads : Progress → Entry → Progress
+reads (reached σ n) e = onward σ n e (next σ e)
+reads (closed n) e = broken n
+reads (broken k) e = broken k
+
+unfoldable pub readsAll : Progress → List Entry → Progress
+readsAll m [] = m
+readsAll m (e ∷ es) = readsAll (reads m e) es
+
+abbrev pub progressOf : List Entry → Progress
+progressOf es = readsAll begun es
+
+-- what is said where the entries end
+unfoldable pub concluded : Progress → Answer
+concluded (reached (at p) n) = says Inconclusive n 0
+concluded (reached (owes w) n) = says Inconclusive n 0
+concluded (reached done n) = says Pass n 0
+concluded (closed n) = says Inconclusive n 0
+concluded (broken k) = says Fail k 0
+
+-- what is said in the end, where the rest of a tape reads as this
+unfoldable pub finally : Progress → Reading → Answer
+finally m (entries es) = concluded (readsAll m es)
+finally m (unreadable place code) = says Unreadable place code
+
+-- the verdict of a tape
+unfoldable pub verdictOf : List ℕ → Answer
+verdictOf t = finally begun (readTape t)
