@@ -67,7 +67,7 @@ fn repeat(t: &mut [u8], s: &[u8], times: usize) -> usize
 }
 
 fn read(t: &[u8]) {
-    if tape_write::BLOCKS * tape_read::BLOCK < t.len() {
+    if tape_read::TAPE < t.len() {
         bad(0, 1);
         return;
     }
