@@ -196,7 +196,7 @@ def rulebook():
 
 
 def other_pages():
-    for name in ("DECISIONS", "EXCEPTIONS", "GATE", "SPEED"):
+    for name in ("ARCHITECTURE", "DECISIONS", "EXCEPTIONS", "GATE", "PROVING", "SPEED"):
         for number, unit, _ in units((ROOT / "docs" / f"{name}.md").read_text()):
             for token, crates, _ in tokens(unit):
                 if not is_no_name(token) and not has(re.sub(r"\.antt$", "", token), crates or LISTED):
@@ -229,8 +229,8 @@ def selftest():
     expected = {"shown", "Kind", "built", "Facts", "field", "law", "taking"}
     cells = [("`File.one`, `two`; `three`", [("File.one", None), ("two", "File"), ("three", None)]),
              ("`a::b`, `c`", [("a::b", None), ("c", None)]),
-             ("`File.one`, over `two`, `three` of `lists`", [("two", None), ("three", None), ("File.one", None)]),
-             ("`File.one`, `two` of `lists`", [("two", None), ("File.one", None)])]
+             ("`File.one`, over `two`, `three` of `slices`", [("two", None), ("three", None), ("File.one", None)]),
+             ("`File.one`, `two` of `slices`", [("two", None), ("File.one", None)])]
     bad = [f"defined: {sorted(defined(text) ^ expected)}"] if defined(text) != expected else []
     bad += [cell for cell, wanted in cells if [(token, file) for token, _, file in tokens(cell)] != wanted]
     print("\n".join(bad + [f"{1 + len(cells)} tried, {len(bad)} wrong"]))

@@ -1,5 +1,5 @@
 #!/usr/bin/env python3
-"""Makes the tapes that judge_bench reads, and the lines that it must print.
+"""Makes the tapes that bench_judge reads, and the lines that it must print.
 
     tools/judge-vectors.py REFERENCE [TAPES EXPECTED]
 
@@ -11,7 +11,7 @@ lines for them, made by another independent program. Each tape stands behind its
 import os, subprocess, sys, tempfile
 
 reference = os.path.abspath(sys.argv[1])
-here = os.path.join(os.path.dirname(os.path.abspath(__file__)), "..", "crates", "judge_bench")
+here = os.path.join(os.path.dirname(os.path.abspath(__file__)), "..", "crates", "bench_judge")
 tapes = [(b"", "INCONCLUSIVE 0 0"), (b"\x00", "UNREADABLE 0 2")]  # 01, "Sessions on the bench"
 if len(sys.argv) > 3:
     for line in open(sys.argv[3]):

@@ -1,5 +1,5 @@
 #!/usr/bin/env python3
-"""Questions on data objects for the program objects_bench, and the answers it must give.
+"""Questions on data objects for the program bench_objects, and the answers it must give.
 
   objects-vectors.py --stdin     the questions, a line each: crates/bench_objects/stdin
   objects-vectors.py --stdout    the answers, a line each: crates/bench_objects/stdout
