@@ -1,5 +1,5 @@
 #!/usr/bin/env python3
-"""What crc_bench must write, by zlib's CRC-32: python3 expected.py > stdout"""
+"""What bench_crc must write, by zlib's CRC-32: python3 expected.py > stdout"""
 import zlib
 
 PATTERNS = {

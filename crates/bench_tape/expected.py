@@ -1,5 +1,5 @@
 #!/usr/bin/env python3
-"""Makes the tapes that tape_bench reads and what it must write about them, from document 01 and with zlib's CRC-32:
+"""Makes the tapes that bench_tape reads and what it must write about them, from document 01 and with zlib's CRC-32:
 python3 expected.py, in this folder, writes the files stdin and stdout."""
 import struct
 import zlib

@@ -1,4 +1,4 @@
--- A kernel session together with its tape: calls, one after the other from a fresh session, each recorded as `record` of `recorder`
+-- A kernel session together with its tape: calls, one after the other from a fresh session, each recorded as `record` of `kernel_record`
 -- records it, on a tape that nothing was written on. 01, "The tape"; demands 2 and 3.
 -- Assumes nothing.
 use mathlib.Core.List.{List, [], _∷_}
