@@ -1,7 +1,7 @@
 //! Verification bits, requests and answers (01, "From facts to a decision";
-//! 003, 7.4, 7.6, 7.7 and Annex A).
+//! 02, R-2; 003, 7.4, 7.6, 7.7 and Annex A).
 
-use crate::terminal::{number, Kind, Terminal};
+use crate::terminal::{day_number, Kind, Terminal};
 
 pub type Tvr = [u8; 5];
 pub type Tsi = [u8; 2];
@@ -100,12 +100,12 @@ pub fn judge_facts(terminal: &Terminal, facts: &Facts, tvr: &mut Tvr, tsi: &mut 
     if facts.version.is_some_and(|v| v != terminal.version()) {
         set(tvr, VERSIONS_DIFFER);
     }
-    // As six-digit numbers: 99 comes after 00, there are no centuries.
-    let today = number(terminal.date());
-    if number(facts.expiry) < today {
+    // Not as six digits but with the years of 02, R-2: 49 comes after 50.
+    let today = day_number(terminal.date());
+    if day_number(facts.expiry) < today {
         set(tvr, EXPIRED);
     }
-    if facts.effective.is_some_and(|d| number(d) > today) {
+    if facts.effective.is_some_and(|d| day_number(d) > today) {
         set(tvr, NOT_YET_EFFECTIVE);
     }
     if facts.aip[0] & RISK_WANTED != 0 {
@@ -252,6 +252,25 @@ mod tests {
         assert_eq!(bits(&t, 0, &BEFORE, Some(&BEFORE), None).0[1], 0x40);
         assert_eq!(bits(&t, 0, &AFTER, Some(&AFTER), None).0[1], 0x20);
         assert_eq!(bits(&t, 0, &DAY, None, Some(&[1, 3])).0[1], 0x80);
+    }
+
+    #[test]
+    fn the_year_50_rule() {
+        // Today, the card's date, and the bits it sets as 5F24 and as 5F25.
+        for (today, date, want) in [
+            ([0x50, 0x01, 0x01], [0x49, 0x12, 0x31], 0x20),
+            ([0x49, 0x12, 0x31], [0x50, 0x01, 0x01], 0x40),
+            ([0x20, 0x06, 0x01], [0x99, 0x12, 0x31], 0x40),
+            ([0x99, 0x12, 0x31], [0x00, 0x01, 0x01], 0x20),
+            ([0x00, 0x01, 0x01], [0x99, 0x12, 0x31], 0x40),
+            ([0x50, 0x01, 0x01], [0x50, 0x01, 0x01], 0x00),
+            ([0x49, 0x12, 0x30], [0x49, 0x12, 0x31], 0x20),
+            ([0x50, 0x01, 0x02], [0x50, 0x01, 0x01], 0x40),
+            ([0x23, 0x03, 0x01], [0x23, 0x02, 0x31], 0x40),
+        ] {
+            let t = terminal(&[(17, today[0]), (18, today[1]), (19, today[2])]);
+            assert_eq!(bits(&t, 0, &date, Some(&date), None).0[1], want, "{today:?} {date:?}");
+        }
     }
 
     #[test]

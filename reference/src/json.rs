@@ -1,5 +1,5 @@
-//! As much of JSON as call sequences need: objects, arrays, strings without
-//! escapes and whole numbers.
+//! As much of JSON as call sequences need: objects, arrays, strings (of the
+//! escapes only those of a single character) and whole numbers.
 
 #[derive(Debug, PartialEq, Eq)]
 pub enum Value {
@@ -95,12 +95,22 @@ fn items(rest: &mut &str) -> Option<Value> {
 
 fn text(rest: &mut &str) -> Option<String> {
     take(rest, '"')?;
-    let (inside, behind) = rest.split_once('"')?;
-    if inside.contains('\\') {
-        return None;
+    let mut inside = String::new();
+    let mut characters = rest.chars();
+    loop {
+        inside.push(match characters.next()? {
+            '"' => break,
+            '\\' => match characters.next()? {
+                mark @ ('"' | '\\' | '/') => mark,
+                'n' => '\n',
+                't' => '\t',
+                _ => return None,
+            },
+            other => other,
+        });
     }
-    *rest = behind;
-    Some(inside.to_string())
+    *rest = characters.as_str();
+    Some(inside)
 }
 
 fn number(rest: &mut &str) -> Option<Value> {
@@ -123,11 +133,12 @@ mod tests {
         assert_eq!(items[1].text(), Some("x"));
         assert_eq!(value.get("b"), Some(&Value::Array(vec![])));
         assert_eq!(value.get("c"), None);
+        assert_eq!(parse(r#""a\\b\"c""#).unwrap().text(), Some("a\\b\"c"));
     }
 
     #[test]
     fn not_read() {
-        for bad in ["", "{", "[1", "[1,]", "{\"a\"}", "\"a", "-1", "1 2", "\"\\n\""] {
+        for bad in ["", "{", "[1", "[1,]", "{\"a\"}", "\"a", "-1", "1 2", "\"\\u0041\"", "\"\\"] {
             assert_eq!(parse(bad), None, "{bad}");
         }
     }

@@ -35,6 +35,23 @@ pub fn is_date(bytes: &[u8]) -> bool {
         && (0x01..=0x31).contains(&bytes[2])
 }
 
+/// The year that two digits stand for (02, R-2): 00-49 are 2000 to 2049,
+/// 50-99 are 1950 to 1999.
+pub fn year(digits: u8) -> i64 {
+    let short = number(&[digits]);
+    if short < 50 {
+        2000 + short
+    } else {
+        1900 + short
+    }
+}
+
+/// A date as a number that grows from day to day: year, month, day. It need
+/// not exist; 230231 lies between 230228 and 230301.
+pub fn day_number(date: &[u8]) -> i64 {
+    year(date[0]) * 10_000 + number(&date[1..])
+}
+
 impl Terminal {
     /// Nothing where 01 has refusal 3.
     pub fn read(start: &[u8]) -> Option<Terminal> {
@@ -187,6 +204,14 @@ pub mod tests {
         ] {
             assert_eq!(with(&[(18, month), (19, day)]), good);
         }
+    }
+
+    #[test]
+    fn years() {
+        assert_eq!([0x00, 0x49, 0x50, 0x99].map(year), [2000, 2049, 1950, 1999]);
+        let order = [0x500101, 0x991231, 0x000101, 0x230228, 0x230231, 0x230301, 0x491231];
+        let days = order.map(|date: u32| day_number(&date.to_be_bytes()[1..]));
+        assert!(days.windows(2).all(|pair| pair[0] < pair[1]), "{days:?}");
     }
 
     #[test]

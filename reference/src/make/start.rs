@@ -38,9 +38,17 @@ pub fn digits(mut number: u64, size: usize) -> Vec<u8> {
     out
 }
 
-/// A date that START and the card's dates accept.
+/// The last and the first day of the years at the two turns there are in the
+/// years of 02, R-2: the end of their range and the end of the century.
+pub const BORDER_DAYS: [[u8; 3]; 4] =
+    [[0x49, 0x12, 0x31], [0x50, 0x01, 0x01], [0x99, 0x12, 0x31], [0x00, 0x01, 0x01]];
+
+/// A date that START and the card's dates accept, often one at a border.
 pub fn any_date(r: &mut Random) -> [u8; 3] {
-    let year = r.below(100) as u64;
+    if r.chance(20) {
+        return *r.pick(&BORDER_DAYS);
+    }
+    let year = if r.chance(30) { *r.pick(&[49, 50, 99, 0]) } else { r.below(100) as u64 };
     let month = r.between(1, 12) as u64;
     let day = r.between(1, 31) as u64;
     let text = digits(year * 10_000 + month * 100 + day, 3);
@@ -48,12 +56,14 @@ pub fn any_date(r: &mut Random) -> [u8; 3] {
 }
 
 /// The next later or earlier date there is, in the counting of the dates
-/// that are accepted; the same date at the ends.
+/// that are accepted, from 1950 to 2049; the same date at the ends.
 pub fn shifted(date: [u8; 3], later: bool) -> [u8; 3] {
     let pair = |b: u8| i64::from(b >> 4) * 10 + i64::from(b & 15);
-    let count = (pair(date[0]) * 12 + pair(date[1]) - 1) * 31 + pair(date[2]) - 1;
+    let year = (pair(date[0]) + 50) % 100;
+    let count = (year * 12 + pair(date[1]) - 1) * 31 + pair(date[2]) - 1;
     let moved = (count + if later { 1 } else { -1 }).clamp(0, 100 * 12 * 31 - 1) as u64;
-    let text = digits(moved / 372 * 10_000 + (moved / 31 % 12 + 1) * 100 + moved % 31 + 1, 3);
+    let year = (moved / 372 + 50) % 100;
+    let text = digits(year * 10_000 + (moved / 31 % 12 + 1) * 100 + moved % 31 + 1, 3);
     [text[0], text[1], text[2]]
 }
 
@@ -176,7 +186,9 @@ mod tests {
     fn neighbouring_dates() {
         assert_eq!(shifted([0x26, 0x12, 0x31], true), [0x27, 0x01, 0x01]);
         assert_eq!(shifted([0x26, 0x01, 0x01], false), [0x25, 0x12, 0x31]);
-        assert_eq!(shifted([0x99, 0x12, 0x31], true), [0x99, 0x12, 0x31]);
+        assert_eq!(shifted([0x99, 0x12, 0x31], true), [0x00, 0x01, 0x01]);
+        assert_eq!(shifted([0x49, 0x12, 0x31], true), [0x49, 0x12, 0x31]);
+        assert_eq!(shifted([0x50, 0x01, 0x01], false), [0x50, 0x01, 0x01]);
         assert_eq!(shifted([0x26, 0x07, 0x15], false), [0x26, 0x07, 0x14]);
     }
 }

@@ -2,7 +2,7 @@
 
 use super::card::{any_list, Card};
 use super::faults::bad_list;
-use super::start::{shifted, Start, MOST_AMOUNT};
+use super::start::{shifted, Start, BORDER_DAYS, MOST_AMOUNT};
 use crate::random::Random;
 use std::rc::Rc;
 
@@ -120,7 +120,8 @@ fn dates(label: &str, expiry: Option<bool>, effective: Option<bool>) -> Tweak {
 
 /// Dates, versions, locators and lists that stay good.
 pub fn good_edges() -> Vec<Tweak> {
-    [edges_of_dates(), optional_objects(), good_locators(), good_accounts()].concat()
+    [edges_of_dates(), borders_of_years(), optional_objects(), good_locators(), good_accounts()]
+        .concat()
 }
 
 fn edges_of_dates() -> Vec<Tweak> {
@@ -137,6 +138,30 @@ fn edges_of_dates() -> Vec<Tweak> {
         }),
         tweak(0, "day 31 of month 02", |_, card, r| card.set(0x5F24, vec![0x26, 0x02, 0x31], r)),
     ]
+}
+
+/// The days on both sides of the year 50 rule's borders (02, R-2) against each
+/// other, in both comparisons.
+fn borders_of_years() -> Vec<Tweak> {
+    let mut all = Vec::new();
+    for today in BORDER_DAYS {
+        for date in BORDER_DAYS {
+            let text = |day: [u8; 3]| crate::hex::text(&day);
+            let label = format!("today {}, expires {}", text(today), text(date));
+            all.push(tweak(0, &label, move |start, card, r| {
+                start.date = today;
+                card.set(0x5F24, date.to_vec(), r);
+                card.objects.remove(&0x5F25);
+            }));
+            let label = format!("today {}, effective {}", text(today), text(date));
+            all.push(tweak(0, &label, move |start, card, r| {
+                start.date = today;
+                card.set(0x5F24, today.to_vec(), r);
+                card.set(0x5F25, date.to_vec(), r);
+            }));
+        }
+    }
+    all
 }
 
 fn optional_objects() -> Vec<Tweak> {
