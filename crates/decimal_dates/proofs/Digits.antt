@@ -32,7 +32,7 @@ digits-split n m from s e =
     let both = every-both (map decimalByte front) (map decimalByte back) (ap every joined ∙ e) in
     (both .0, ap (λ (l : List ℕ). every (map decimalByte (take m l))) (sym (drop-drop n from s)) ∙ both .1)
 
-two-digits : (b : ℕ) → decimalByte b ≡ true → twoDigits b ≤ 99
+pub two-digits : (b : ℕ) → decimalByte b ≡ true → twoDigits b ≤ 99
 unfolding decimalByte
 two-digits b e =
     let h = first-held _ _ e in

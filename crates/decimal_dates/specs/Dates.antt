@@ -3,8 +3,9 @@
 use mathlib.Core.Bool.{Bool}
 use mathlib.Core.List.{List, [], _∷_}
 use Prim.Native.Nat.{ℕ, _+_, _*_}
-use lib.Dec.{eqb}
+use lib.Dec.{eqb, ltb}
 use lib.ListN.{length, getD}
+use Rattle.slices.specs.Choice.{pick}
 use Rattle.slices.specs.Tests.{every, between}
 use Rattle.decimal_dates.specs.Decimal.{twoDigits, digitsOnly}
 
@@ -17,9 +18,13 @@ month d = twoDigits (getD d 1 0)
 abbrev pub day : List ℕ → ℕ
 day d = twoDigits (getD d 2 0)
 
--- what dates are ordered by: today the six-digit number (01, "From facts to a decision")
+-- the whole year that two digits stand for: 00-49 are 2000-2049, 50-99 are 1950-1999 (02, R-2)
+abbrev pub wholeYear : ℕ → ℕ
+wholeYear y = pick (ltb y 50) (2000 + y) (1900 + y)
+
+-- what dates are ordered by: whole year, month and day (01, "From facts to a decision", as R-2 amends it)
 unfoldable pub dateKey : List ℕ → ℕ
-dateKey d = year d * 10000 + (month d * 100 + day d)
+dateKey d = wholeYear (year d) * 10000 + (month d * 100 + day d)
 
 -- month 01-12, day 01-31, whatever the month
 unfoldable pub monthAndDay : List ℕ → Bool

@@ -3,7 +3,7 @@ ghost use mathlib.Core.Path.{_≡_};
 ghost use Prim.Native.Nat.{_≤_};
 ghost use lib.ListN.{getD};
 ghost use Rattle.decimal_dates.specs.Decimal.{twoDigits};
-ghost use Rattle.decimal_dates.specs.Dates.{dateKey, monthAndDay, validStartDate, validCardDate};
+ghost use Rattle.decimal_dates.specs.Dates.{wholeYear, dateKey, monthAndDay, validStartDate, validCardDate};
 use super::decimal::digits_only;
 use super::decimal::two_digits;
 use super::limits::between;
@@ -15,11 +15,19 @@ fn pair(d: &[u8], i: usize) -> u64
     two_digits(slices::byte(d, i) as u64)
 }
 
+// The whole year that two digits stand for.
+fn whole_year(y: u64) -> u64
+    requires { ⌜ y ≤ 165 ⌝ }
+    ensures { λ r. ⌜ (r ≡ wholeYear y) × (r ≤ 2065) ⌝ }
+{
+    if y < 50 { 2000 + y } else { 1900 + y }
+}
+
 // What dates are ordered by.
 pub fn date_key(d: &[u8]) -> u64
     ensures { λ r. ⌜ r ≡ dateKey (now (d .entry)) ⌝ }
 {
-    pair(d, 0) * 10000 + (pair(d, 1) * 100 + pair(d, 2))
+    whole_year(pair(d, 0)) * 10000 + (pair(d, 1) * 100 + pair(d, 2))
 }
 
 fn month_and_day(d: &[u8]) -> bool

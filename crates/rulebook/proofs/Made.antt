@@ -19,17 +19,21 @@ use Rattle.rulebook.proofs.Breaks.{break-here}
 use Rattle.rulebook.proofs.States.{state-lawful, stopped-breaks}
 use Rattle.rulebook.proofs.Opening.{reached}
 
--- a terminal of a type with an amount, and with the first byte of its denial code: floor limit 10000, random number 40, target 10,
--- threshold 5000, maximum 70, date 250630, all other action codes zero, AID A000000003
-abbrev pub startWith : ℕ → List ℕ → ℕ → List ℕ
-startWith kind amount denial =
+-- a terminal of a type with an amount, the year of its date, and the first byte of its denial code: floor limit 10000, random number
+-- 40, target 10, threshold 5000, maximum 70, 30 June, all other action codes zero, AID A000000003
+abbrev pub startIn : ℕ → ℕ → List ℕ → ℕ → List ℕ
+startIn year kind amount denial =
     kind
     ∷ (amount
-    ++ (0 ∷ 0 ∷ 0 ∷ 0 ∷ 0 ∷ 0 ∷ 0x08 ∷ 0x26 ∷ 0x08 ∷ 0x26 ∷ 0x25 ∷ 0x06 ∷ 0x30 ∷ 0 ∷ 0x11 ∷ 0x22 ∷ 0x33 ∷ 0x44
+    ++ (0 ∷ 0 ∷ 0 ∷ 0 ∷ 0 ∷ 0 ∷ 0x08 ∷ 0x26 ∷ 0x08 ∷ 0x26 ∷ year ∷ 0x06 ∷ 0x30 ∷ 0 ∷ 0x11 ∷ 0x22 ∷ 0x33 ∷ 0x44
     ∷ 0 ∷ 0 ∷ 0 ∷ 1 ∷ 0 ∷ 0 ∷ 40 ∷ 10 ∷ 0 ∷ 0 ∷ 0 ∷ 0 ∷ 0x50 ∷ 0 ∷ 70 ∷ 0 ∷ 2
     ∷ denial ∷ 0 ∷ 0 ∷ 0 ∷ 0 ∷ 0 ∷ 0 ∷ 0 ∷ 0 ∷ 0 ∷ 0 ∷ 0 ∷ 0 ∷ 0 ∷ 0
     ∷ 5 ∷ 0xA0 ∷ 0 ∷ 0 ∷ 0 ∷ 3 ∷ 0 ∷ 0 ∷ 0 ∷ 0 ∷ 0 ∷ 0 ∷ 0 ∷ 0 ∷ 0 ∷ 0 ∷ 0
     ∷ []))
+
+-- in 2025
+abbrev pub startWith : ℕ → List ℕ → ℕ → List ℕ
+startWith kind amount denial = startIn 0x25 kind amount denial
 
 -- an amount below 10000, by its last two bytes
 abbrev pub amountOf : ℕ → ℕ → List ℕ
@@ -61,12 +65,15 @@ optioned first last = profiled 0x00 first last
 abbrev pub readOne : List ℕ
 readOne = 0x00 ∷ 0xB2 ∷ 0x01 ∷ 0x0C ∷ 0x00 ∷ []
 
-abbrev pub recordedWith : ℕ → List ℕ → List ℕ → List ℕ
-recordedWith size list second =
-    0x70 ∷ size ∷ 0x5A ∷ 0x02 ∷ 0x12 ∷ 0x34 ∷ 0x5F ∷ 0x24 ∷ 0x03 ∷ 0x30 ∷ 0x12 ∷ 0x31 ∷ 0x8C ∷ 0x03
+abbrev pub recordedIn : ℕ → ℕ → List ℕ → List ℕ → List ℕ
+recordedIn expiry size list second =
+    0x70 ∷ size ∷ 0x5A ∷ 0x02 ∷ 0x12 ∷ 0x34 ∷ 0x5F ∷ 0x24 ∷ 0x03 ∷ expiry ∷ 0x12 ∷ 0x31 ∷ 0x8C ∷ 0x03
     ∷ (list
     ++ (0x8D
     ∷ (second ++ (0x9F ∷ 0x0D ∷ 0x05 ∷ 0 ∷ 0 ∷ 0 ∷ 0 ∷ 0 ∷ 0x9F ∷ 0x0F ∷ 0x05 ∷ 0 ∷ 0 ∷ 0 ∷ 0 ∷ 0 ∷ 0x90 ∷ 0x00 ∷ []))))
+
+abbrev pub recordedWith : ℕ → List ℕ → List ℕ → List ℕ
+recordedWith size list second = recordedIn 0x30 size list second
 
 abbrev pub recorded : List ℕ → List ℕ
 recorded list = recordedWith 0x21 list (0x00 ∷ [])
@@ -74,6 +81,10 @@ recorded list = recordedWith 0x21 list (0x00 ∷ [])
 -- the unpredictable number is asked for
 abbrev pub number : List ℕ
 number = 0x9F ∷ 0x37 ∷ 0x04 ∷ []
+
+-- a record of a card that expires on 31 December of a year
+abbrev pub expiring : ℕ → List ℕ
+expiring year = recordedIn year 0x21 number (0x00 ∷ [])
 
 -- GENERATE AC, the first with the unpredictable number, the second with no data; and an answer with a cryptogram
 abbrev pub firstAsked : ℕ → List ℕ

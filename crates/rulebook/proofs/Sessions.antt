@@ -4,10 +4,10 @@
 use mathlib.Core.Path.{refl}
 use mathlib.Core.List.{List, [], _∷_, _++_}
 use Prim.Native.Nat.{ℕ}
-use Rattle.tape_read.specs.Entries.{Entry, entry, start, host}
+use Rattle.tape_read.specs.Entries.{Entry, entry, start, host, decision}
 use Rattle.rulebook.specs.Session.{Session}
 use Rattle.rulebook.proofs.Opening.{reached}
-use Rattle.rulebook.proofs.Made.{startOf, select, selected, options, optioned, readOne, recordedWith, recorded, number, firstAsked, secondAsked, given, aac, tc, arqc, decides, exchange, openingWith, opening, reads}
+use Rattle.rulebook.proofs.Made.{startIn, amountOf, startOf, select, selected, options, optioned, readOne, recordedWith, recorded, expiring, number, firstAsked, secondAsked, given, aac, tc, arqc, decides, exchange, openingWith, opening, reads}
 
 -- ---- decided sessions
 
@@ -107,3 +107,20 @@ pub other-list : Session
     ++ (exchange (0x80 ∷ 0xAE ∷ tc ∷ 0x00 ∷ 0x02 ∷ 0x75 ∷ 0x00 ∷ 0x00 ∷ []) (given tc) ++ decides 1 0 0x80 0x20)))))
 unfolding reached
 other-list = reads _ refl
+
+-- ---- dates (02, R-2)
+
+-- a session of 30 June in a year, and a card that expires on 31 December of another: the second byte of the TVR
+abbrev dated : ℕ → ℕ → ℕ → List Entry
+dated year expiry restrictions =
+    entry start (startIn year 2 (amountOf 0x75 0x00) 0)
+    ∷ (exchange select selected
+    ++ (exchange options (optioned 1 1)
+    ++ (exchange readOne (expiring expiry)
+    ++ (exchange (firstAsked tc) (given tc)
+    ++ (entry decision (1 ∷ 0 ∷ 0x80 ∷ restrictions ∷ 0 ∷ 0 ∷ 0 ∷ 0x20 ∷ 0 ∷ []) ∷ [])))))
+
+-- in 2020 a card of 991231 is expired (byte 2 b7); in 1999 it is not, and in 1950 one of 491231 is not either
+pub expired-in-1999 : Session (dated 0x20 0x99 0x40) × (Session (dated 0x99 0x99 0) × Session (dated 0x50 0x49 0))
+unfolding reached
+expired-in-1999 = (reads _ refl, (reads _ refl, reads _ refl))
