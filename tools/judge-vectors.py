@@ -1,22 +1,28 @@
 #!/usr/bin/env python3
 """Makes the tapes that bench_judge reads, and the lines that it must print.
 
-    tools/judge-vectors.py REFERENCE [TAPES EXPECTED]
+    tools/judge-vectors.py REFERENCE [FOLDER ..]
 
 REFERENCE is the reference program (reference/target/release/reference). Its generator's fixed table goes through every outcome, every way
 to spoil an answer, to cut or change the entries and to damage a block; every few of those tapes are taken, the smallest kinds of each
-label and some that are as long as a tape can be. TAPES is a folder of further tapes and EXPECTED a file of `NAME VERDICT place code`
-lines for them, made by another independent program. Each tape stands behind its length in four bytes, big-endian.
+label and some that are as long as a tape can be. A FOLDER has further tapes (tapes/) and `NAME VERDICT place code` lines for them
+(expected.txt), made by another independent program. The reference must say the same of the last FOLDER's; of earlier ones, made before
+a rule was amended, those are taken of which it does. Each tape stands behind its length in four bytes, big-endian.
 """
 import os, subprocess, sys, tempfile
 
 reference = os.path.abspath(sys.argv[1])
 here = os.path.join(os.path.dirname(os.path.abspath(__file__)), "..", "crates", "bench_judge")
 tapes = [(b"", "INCONCLUSIVE 0 0"), (b"\x00", "UNREADABLE 0 2")]  # 01, "Sessions on the bench"
-if len(sys.argv) > 3:
-    for line in open(sys.argv[3]):
+for folder in sys.argv[2:]:
+    for line in open(os.path.join(folder, "expected.txt")):
         name, said = line.rstrip("\n").split(" ", 1)
-        tapes.append((open(os.path.join(sys.argv[2], name), "rb").read(), said))
+        tape = open(os.path.join(folder, "tapes", name), "rb").read()
+        same = subprocess.run([reference, "judge"], input=tape, capture_output=True).stdout.decode() == said + "\n"
+        if same:
+            tapes.append((tape, said))
+        elif folder == sys.argv[-1]:
+            sys.exit(f"{folder}: the reference does not say {line}")
 with tempfile.TemporaryDirectory() as work:
     labels = os.path.join(work, "labels")
     lines = subprocess.run([reference, "make", work, "1600", "20", "--list", labels], check=True, capture_output=True, text=True).stdout
