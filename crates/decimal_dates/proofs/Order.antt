@@ -26,14 +26,15 @@ module _ (y m d y′ m′ d′ : ℕ) (few : m ≤ 99) (less : d ≤ 99) (few′
       (λ f.
       let ge = ltb-false y y′ f in
       let same : y ≡ y′ = omega (arith, h, ge) in
-      inr
-      (same,
-      either (ltb m m′)
-      (λ t. inl (ltb-true m m′ t))
-      (λ g.
-      let more = ltb-false m m′ g in
-      let months : m ≡ m′ = omega (arith, h, same, more) in
-      inr (months, omega (arith, h, same, months)))))
+      inr (
+        same,
+        either (ltb m m′)
+            (λ t. inl (ltb-true m m′ t))
+            (λ g.
+            let more = ltb-false m m′ g in
+            let months : m ≡ m′ = omega (arith, h, same, more) in
+            inr (months, omega (arith, h, same, months))),
+      ))
 
   in-places : (y < y′) ⊎ ((y ≡ y′) × ((m < m′) ⊎ ((m ≡ m′) × (d < d′)))) → y * 10000 + (m * 100 + d) < y′ * 10000 + (m′ * 100 + d′)
   in-places h =
