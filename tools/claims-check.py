@@ -20,7 +20,7 @@ ROOT = pathlib.Path(__file__).resolve().parent.parent
 SIGNED = re.compile(r"(?:(?:unfoldable|abbrev|pub|private|opaque)\s+)*(?:(?:record|data)\s+)?([^\s:(){}.]+)\s*(?:[({].*)?:(?:\s|$)")
 HOLDS = re.compile(r"(?:pub\s+)?(?:record|data|module)\b")
 # Words in the pages that name no definition.
-WORDS = {"requires", "ensures", "match", "code", "crates.txt", "omega", "cc", "rw", "ap", "sym", "refl", "search", "unfolding", "unfoldable",
+WORDS = {"requires", "ensures", "match", "const", "code", "crates.txt", "omega", "cc", "rw", "ap", "sym", "refl", "search", "unfolding", "unfoldable",
          "abbrev", "where", "let", "ghost", "return"}
 
 

@@ -1,5 +1,5 @@
 #!/usr/bin/env python3
-"""What bench_crc must write, by zlib's CRC-32: python3 expected.py > stdout"""
+"""What crc_bench must write, by zlib's CRC-32: python3 expected.py > stdout"""
 import zlib
 
 PATTERNS = {
@@ -24,3 +24,6 @@ for name in PATTERNS:
         line(name, n, pattern(name, n))
 for n in range(601):
     line("block", n, pattern("mixed", n)[:508])
+for n in range(601):
+    data = pattern("mixed", n)
+    print("cut", n, "%08x" % zlib.crc32(data[n % 7:], zlib.crc32(data[:n % 7])))

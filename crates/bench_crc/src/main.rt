@@ -4,7 +4,13 @@ use libc::STDOUT_FILENO;
 
 const LONGEST: usize = 600;
 
-// The runs by their numbers: in the last the mixed pattern is checked as a block.
+// In the run that takes a pattern in two parts: the first part has fewer bytes than this.
+const PARTS: usize = 7;
+
+// Where the register starts, and the last value's complement.
+const START: u32 = 0xFFFF_FFFF;
+
+// The runs by their numbers: in the last two the mixed pattern is checked as a block, and in two parts.
 const ZEROS: u8 = 0;
 
 const ONES: u8 = 1;
@@ -15,6 +21,8 @@ const MIXED: u8 = 3;
 
 const BLOCK: u8 = 4;
 
+const CUT: u8 = 5;
+
 fn main() {
     line(b"digits", 9, tape_crc::whole(b"123456789"));
     all_lengths(b"zeros", ZEROS);
@@ -22,6 +30,7 @@ fn main() {
     all_lengths(b"count", COUNT);
     all_lengths(b"mixed", MIXED);
     all_lengths(b"block", BLOCK);
+    all_lengths(b"cut", CUT);
 }
 
 fn all_lengths(name: &[u8], run: u8) {
@@ -52,11 +61,18 @@ fn pattern(run: u8, i: usize) -> u8 {
 }
 
 fn check(run: u8, s: &[u8]) -> u32 {
-    if run == BLOCK {
-        tape_crc::of_block(s)
-    } else {
-        tape_crc::whole(s)
+    match run {
+        BLOCK => tape_crc::of_block(s),
+        CUT => in_two_parts(s),
+        _ => tape_crc::whole(s),
     }
+}
+
+// The second part starts at any place from 0 to 6, and at another register each time.
+fn in_two_parts(s: &[u8]) -> u32 {
+    let n = s.len() % PARTS;
+    let r = tape_crc::running(START, &s[0..n]);
+    tape_crc::running(r, &s[n..]) ^ START
 }
 
 fn line(name: &[u8], n: usize, check: u32) {

@@ -2,8 +2,8 @@
 -- the low end only shift out. So a register is divided by its low bits alone, and its high bits move down past them.
 -- Assumes nothing.
 use mathlib.Core.Path.{_≡_, refl, sym, ap, ap₂, _∙_}
-use Prim.Native.Nat.{ℕ, zero, suc, _*_, _/_, _%_, _^_, _<_}
-use native.Mathlib.Nat.{mod-lt, zero-lt-suc, zero-mul, one-mul, mul-one}
+use Prim.Native.Nat.{ℕ, zero, suc, _+_, _*_, _/_, _%_, _^_, _<_}
+use native.Mathlib.Nat.{mod-lt, zero-lt-suc, zero-add, suc-add, zero-mul, one-mul, mul-one}
 use native.Mathlib.Omega.{arith}
 use lib.Bits.{bitXor, xor-comm, xor-zero-r, xor-lt, xor-shifted, shifted-half, shifted-even}
 use lib.Dec.{eqb}
@@ -47,6 +47,16 @@ divided-zeros (suc n) q =
     ∙ (ap₂ (λ (x y : ℕ). bitXor x (y * divisor)) (shifted-half q n) (shifted-even q n)
     ∙ (ap (bitXor (q * 2 ^ n)) (zero-mul divisor) ∙ xor-zero-r (q * 2 ^ n))))
     ∙ divided-zeros n q
+
+-- m bits and then n more
+pub divided-more : (m n x : ℕ) → divided (m + n) x ≡ divided n (divided m x)
+unfolding divided
+divided-more zero n x = ap (λ (k : ℕ). divided k x) (zero-add n)
+divided-more (suc m) n x = ap (λ (k : ℕ). divided k x) (suc-add m n) ∙ divided-more m n (shifted x)
+
+-- what is added after n bits might have been added before them, n bits higher
+pub divided-late : (n x y : ℕ) → bitXor (divided n x) y ≡ divided n (bitXor x (y * 2 ^ n))
+divided-late n x y = sym (divided-xor n x (y * 2 ^ n) ∙ ap (bitXor (divided n x)) (divided-zeros n y))
 
 -- the low n bits decide what is taken away, and the rest moves down
 pub divided-apart : (n x : ℕ) → divided n x ≡ bitXor (divided n (x % 2 ^ n)) (x / 2 ^ n)

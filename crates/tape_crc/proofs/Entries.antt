@@ -1,16 +1,12 @@
 -- A rule of a table: a test that is computed over all of its entries, one after the other, holds at each of them.
 -- Assumes nothing.
 use mathlib.Core.Path.{_≡_, _∙_, sym, subst}
-use mathlib.Core.Bool.{Bool, true, _&&_, and-eq-true-iff}
+use mathlib.Core.Bool.{Bool, true, and-eq-true-iff}
 use mathlib.Core.List.{List, [], _∷_}
 use Prim.Native.Nat.{ℕ, zero, suc, _+_, _<_}
 use native.Mathlib.Nat.{add-zero, zero-add, add-suc, suc-add, le-of-suc-le-suc, not-suc-le-zero}
 use lib.ListN.{length, getD}
-
--- the test passes at each entry and its place, counted from i
-abbrev pub every : (ℕ → ℕ → Bool) → ℕ → List ℕ → Bool
-every test i [] = true
-every test i (x ∷ xs) = test i x && every test (suc i) xs
+use Rattle.tape_crc.specs.Tables.{every}
 
 from : (test : ℕ → ℕ → Bool) (xs : List ℕ) (i : ℕ) → every test i xs ≡ true → (k : ℕ) → k < length xs → test (i + k) (getD xs k 0) ≡ true
 from test [] i e k h = absurd (not-suc-le-zero h)

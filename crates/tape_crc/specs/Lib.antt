@@ -1,2 +1,3 @@
--- CRC-32: what is computed, bit by bit.
+-- CRC-32: what is computed, bit by bit; and the rules of the stored tables.
 pub mod Check
+pub mod Tables

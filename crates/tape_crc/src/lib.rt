@@ -1,9 +1,19 @@
-// CRC-32 (IEEE 802.3), a byte at a time from a stored table of remainders.
+// CRC-32 (IEEE 802.3), four bytes at a time from stored tables of remainders.
 mod table;
+mod table_after_one;
+mod table_after_three;
+mod table_after_two;
 
 use table::REMAINDERS;
+use table_after_one::AFTER_ONE;
+use table_after_three::AFTER_THREE;
+use table_after_two::AFTER_TWO;
 ghost use mathlib.Core.Path.{_≡_};
+ghost use mathlib.Core.List.{[], _∷_};
+ghost use Prim.Native.Nat.{ℕ, _+_, _*_, _/_, _≤_};
+ghost use lib.ListN.{length, getD, drop};
 ghost use Rattle.tape_crc.specs.Check.{runningOf, checkOf, blockCheckOf};
+ghost use Rattle.tape_crc.specs.Tables.{Remainders, Tables};
 
 // Where the register starts, and the last value's complement.
 const ONES: u32 = 0xFFFF_FFFF;
@@ -11,12 +21,65 @@ const ONES: u32 = 0xFFFF_FFFF;
 // How many bytes of a block its check covers.
 const COVERED: usize = 508;
 
-// The register one slice further.
+// The register one slice further: by fours, and then the one to three bytes that are left.
 pub fn running(register: u32, s: &[u8]) -> u32
     ensures { λ r. ⌜ r ≡ runningOf register (now (s .entry)) ⌝ }
 {
-    // Taken once: in the loop the constant would be copied at each turn.
-    let remainders = REMAINDERS;
+    // Taken once and lent: a constant is copied wherever it is named.
+    let none = REMAINDERS;
+    let one = AFTER_ONE;
+    let two = AFTER_TWO;
+    let three = AFTER_THREE;
+    let r = by_fours(register, s, &none, &one, &two, &three);
+    let done = s.len() / 4 * 4;
+    by_bytes(r, &s[done..], &none)
+}
+
+// The register after as many fours as there are: the bytes that are left take it to where the slice ends.
+fn by_fours(
+    register: u32,
+    s: &[u8],
+    none: &[u32; 256],
+    one: &[u32; 256],
+    two: &[u32; 256],
+    three: &[u32; 256],
+) -> u32
+    requires { ⌜ Tables (now none) (now one ∷ now two ∷ now three ∷ []) ⌝ }
+    ensures { λ r. ⌜ runningOf r (drop (length (now (s .entry)) / 4 * 4) (now (s .entry))) ≡ runningOf register (now (s .entry)) ⌝ }
+{
+    let mut r = register;
+    let mut i = 0;
+    while 4 <= s.len() - i {
+        let x = r ^ word(s, i);
+        // A place that takes longer to find is looked up later, so that the joins do not wait for it.
+        let first = three[(x % 256) as usize];
+        let fourth = none[(x / 0x100_0000) as usize];
+        let third = one[(x / 0x1_0000 % 256) as usize];
+        let second = two[(x / 0x100 % 256) as usize];
+        r = first ^ fourth ^ third ^ second;
+        i += 4;
+    }
+    r
+}
+
+// Four bytes as a number, the first one lowest.
+fn word(s: &[u8], i: usize) -> u32
+    requires { ⌜ i + 4 ≤ length (now s) ⌝ }
+    ensures { λ r. let at : ℕ → ℕ = λ k. getD (now (s .entry)) k 0 in
+        ⌜ r ≡ at i + at (i + 1) * 0x100 + at (i + 2) * 0x1_0000 + at (i + 3) * 0x100_0000 ⌝ }
+{
+    let a = s[i] as u32;
+    let b = s[i + 1] as u32;
+    let c = s[i + 2] as u32;
+    let d = s[i + 3] as u32;
+    a + b * 0x100 + c * 0x1_0000 + d * 0x100_0000
+}
+
+// The register after each byte of a slice, one by one.
+fn by_bytes(register: u32, s: &[u8], remainders: &[u32; 256]) -> u32
+    requires { ⌜ Remainders (now remainders) ⌝ }
+    ensures { λ r. ⌜ r ≡ runningOf register (now (s .entry)) ⌝ }
+{
     let mut r = register;
     let mut i = 0;
     while i < s.len() {
