@@ -5,6 +5,7 @@ use crate::judge::{judge, Verdict};
 use crate::kernel::{Event, Reply, Session, LONGEST_COMMAND};
 use crate::lists::{fill, Known};
 use crate::objects;
+use crate::reset::{self, Reset};
 use crate::tape::{self, Entry, Writer, BLOCK, MOST_BLOCKS};
 use std::fs::File;
 use std::io::{self, BufRead, Read, Write};
@@ -208,6 +209,22 @@ pub fn fill_lists() -> Outcome {
     each_line(|line| fill_line(line).map(Some))
 }
 
+/// `COLD CAPTURE` or `WARM CAPTURE`: an answer to reset.
+fn reset_line(line: &str) -> Result<Option<String>, String> {
+    let (word, rest) = line.split_once(char::is_whitespace).unwrap_or((line, ""));
+    let reset = match word {
+        "" => return Ok(None),
+        "COLD" => Reset::Cold,
+        "WARM" => Reset::Warm,
+        _ => return Err(format!("unknown word: {word}")),
+    };
+    Ok(Some(reset::line(&bytes_of(rest.trim())?, reset)))
+}
+
+pub fn read_resets() -> Outcome {
+    each_line(reset_line)
+}
+
 #[cfg(test)]
 mod tests {
     use super::*;
@@ -240,6 +257,16 @@ mod tests {
         assert_eq!(fill_line("-").unwrap(), "-");
         assert_eq!(fill_line("00").unwrap(), "reason 9");
         assert_eq!(fill_line("5A03 5A=").unwrap(), "FFFFFF");
+    }
+
+    #[test]
+    fn reset_lines() {
+        assert_eq!(reset_line("COLD").unwrap().unwrap(), "REFUSED CUT:0");
+        assert_eq!(reset_line("COLD 3b00").unwrap().unwrap(), "REFUSED TB1-ABSENT:2");
+        let line = "ACCEPTED direct T=0 N=0 INTERVAL=12 TA2=no WI=10 HISTORICAL=-";
+        assert_eq!(reset_line("WARM 3B00").unwrap().unwrap(), line);
+        assert_eq!(reset_line(""), Ok(None));
+        assert!(reset_line("3B00").is_err());
     }
 
     #[test]

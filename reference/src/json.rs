@@ -1,5 +1,6 @@
-//! As much of JSON as call sequences need: objects, arrays, strings (of the
-//! escapes only those of a single character) and whole numbers.
+//! As much of JSON as call sequences and vectors need: objects, arrays,
+//! strings (of the escapes only those of a single character), whole numbers
+//! and the three words.
 
 #[derive(Debug, PartialEq, Eq)]
 pub enum Value {
@@ -7,6 +8,8 @@ pub enum Value {
     Array(Vec<Value>),
     Text(String),
     Number(u64),
+    Truth(bool),
+    Null,
 }
 
 impl Value {
@@ -37,6 +40,13 @@ impl Value {
             _ => None,
         }
     }
+
+    pub fn truth(&self) -> Option<bool> {
+        match self {
+            Value::Truth(truth) => Some(*truth),
+            _ => None,
+        }
+    }
 }
 
 /// The value a text consists of, with nothing behind it.
@@ -57,8 +67,16 @@ fn value(rest: &mut &str) -> Option<Value> {
         '{' => members(rest),
         '[' => items(rest),
         '"' => text(rest).map(Value::Text),
+        't' => word(rest, "true", Value::Truth(true)),
+        'f' => word(rest, "false", Value::Truth(false)),
+        'n' => word(rest, "null", Value::Null),
         _ => number(rest),
     }
+}
+
+fn word(rest: &mut &str, word: &str, value: Value) -> Option<Value> {
+    *rest = rest.trim_start().strip_prefix(word)?;
+    Some(value)
 }
 
 fn members(rest: &mut &str) -> Option<Value> {
@@ -133,6 +151,8 @@ mod tests {
         assert_eq!(items[1].text(), Some("x"));
         assert_eq!(value.get("b"), Some(&Value::Array(vec![])));
         assert_eq!(value.get("c"), None);
+        assert_eq!(parse("true").unwrap().truth(), Some(true));
+        assert_eq!(parse("[null]").unwrap().array(), Some(&[Value::Null][..]));
         assert_eq!(parse(r#""a\\b\"c""#).unwrap().text(), Some("a\\b\"c"));
     }
 

@@ -13,8 +13,10 @@ mod lists;
 mod make;
 mod objects;
 mod random;
+mod reset;
 mod tape;
 mod terminal;
+mod vectors;
 
 use commands::Outcome;
 use std::path::Path;
@@ -29,7 +31,10 @@ const USAGE: &str = "usage:
   reference answers
   reference make DIR COUNT SEED [--list FILE]
   reference make-calls COUNT SEED
-  reference calls FILE";
+  reference calls FILE
+  reference atr
+  reference make-atr COUNT SEED
+  reference check-atr FILE";
 
 /// Takes `--name VALUE` out of the arguments.
 fn option(arguments: &mut Vec<String>, name: &str) -> Result<Option<String>, String> {
@@ -81,6 +86,12 @@ fn run(mut arguments: Vec<String>) -> Outcome {
             Ok(())
         }
         ("calls", [file]) => calls::replay_file(file),
+        ("atr", []) => commands::read_resets(),
+        ("make-atr", [count, seed]) => {
+            make::make_resets(number(count)?, number(seed)?);
+            Ok(())
+        }
+        ("check-atr", [file]) => vectors::check_resets(file),
         _ => Err(USAGE.to_string()),
     }
 }

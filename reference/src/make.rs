@@ -7,11 +7,13 @@ mod endings;
 mod faults;
 mod nodes;
 mod plan;
+mod resets;
 mod scenarios;
 mod start;
 mod tweaks;
 
 pub use calls::make_calls;
+pub use resets::make_resets;
 
 use crate::judge::judge;
 use crate::random::Random;

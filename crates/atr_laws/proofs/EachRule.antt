@@ -1,0 +1,27 @@
+-- Each rule by name is broken by a capture of its own, and by that capture no other rule is; computed.
+-- Assumes nothing.
+use mathlib.Core.Path.{_≡_, refl}
+use mathlib.Core.Bool.{false}
+use mathlib.Core.List.{[], _∷_, map}
+use Prim.Native.Nat.{_-_, _^_}
+use Rattle.slices.specs.Choice.{pick}
+use Rattle.slices.specs.Tables.{anyOf}
+use Rattle.atr_table.specs.Turning.{opposite, turned}
+use Rattle.atr_characters.specs.Data.{dataByte, dataOf, joinedFrom}
+use Rattle.atr_characters.specs.Levels.{foundAt, levelOf, firstOf, afterOf, walked, interfaceOf}
+use Rattle.atr_characters.specs.Located.{historicalEnd, locatedOf}
+use Rattle.atr_rules.specs.Lines.{firstLines, secondLines, thirdLines, lastLines, linesOf, setOf, firstBroken}
+use Rattle.atr.specs.Reading.{isInverse, tsBroken, readingOf, rulesOf, readReset}
+use Rattle.atr.specs.declared.Reading.the-variants.{Refused}
+use Rattle.atr_laws.specs.Broken.{Breaking, eachRule}
+
+all-of-them : map (λ (b : Breaking). b .rule) eachRule
+    ≡ 1 ∷ 2 ∷ 3 ∷ 4 ∷ 5 ∷ 6 ∷ 7 ∷ 8 ∷ 9 ∷ 10 ∷ 11 ∷ 12 ∷ 13 ∷ 14 ∷ 15 ∷ 16 ∷ 17 ∷ 18 ∷ 19 ∷ 20 ∷ []
+all-of-them = refl
+
+-- the set has that rule's bit alone; it is the first, and its place is told
+each-alone : map (λ (b : Breaking). readReset (b .capture) false .reading) eachRule
+    ≡ map (λ (b : Breaking). Refused (record { rules = 2 ^ (b .rule - 1); first = b .rule; place = b .place })) eachRule
+unfolding opposite turned dataByte dataOf joinedFrom foundAt levelOf firstOf afterOf walked interfaceOf historicalEnd locatedOf
+    firstLines secondLines thirdLines lastLines linesOf setOf firstBroken isInverse tsBroken readingOf rulesOf readReset pick anyOf
+each-alone = refl

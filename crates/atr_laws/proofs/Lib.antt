@@ -1,0 +1,7 @@
+pub mod Accepting
+pub mod Conventions
+pub mod Complete
+pub mod Bits
+pub mod BasicLevels
+pub mod BasicAnswers
+mod EachRule

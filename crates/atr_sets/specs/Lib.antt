@@ -1,0 +1,2 @@
+-- Sets of rules, a bit for each.
+pub mod Sets

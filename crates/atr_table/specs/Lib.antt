@@ -1,0 +1,2 @@
+-- Line bytes and data bytes.
+pub mod Turning

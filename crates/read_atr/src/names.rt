@@ -1,0 +1,23 @@
+// The rules' names, by number.
+use slices::part;
+use text_lines::word_end;
+
+// What a name and the spaces behind it take.
+const WIDTH: usize = 11;
+
+pub fn print_name(rule: usize) {
+    if rule < 10 {
+        let names =
+            b"-          TS         TA1        TB1-ABSENT TB1        TD1        TA2        TB2        TC2        TD2        ";
+        print_word(names, rule);
+    } else {
+        let names =
+            b"TA3        TB3-ABSENT TB3-BWI    TB3-CWI    TB3-N      TC3        CUT        TCK-ABSENT TCK        EXTRA      LONG       ";
+        print_word(names, rule - 10);
+    }
+}
+
+fn print_word(words: &[u8], k: usize) {
+    let word = part(words, k % 16 * WIDTH, WIDTH);
+    text_print::text(part(word, 0, word_end(word, 0)));
+}

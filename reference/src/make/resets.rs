@@ -1,0 +1,359 @@
+//! Made answers to reset: good ones of every shape, each rule broken, cut,
+//! turned to the inverse convention, too long, and any bytes (02, R-1).
+
+use crate::hex;
+use crate::random::Random;
+use crate::reset::{turned, Reset, DIRECT, INVERSE};
+
+/// A group of interface characters: TAi, TBi, TCi. The bit map before it (T0
+/// or TD of the group before) also names a protocol; T0 does not.
+#[derive(Clone, Default)]
+struct Group {
+    protocol: u8,
+    characters: [Option<u8>; 3],
+}
+
+/// A capture before it is in bytes.
+#[derive(Clone)]
+struct Made {
+    reset: Reset,
+    groups: Vec<Group>,
+    historical: Vec<u8>,
+}
+
+const A: usize = 0;
+const B: usize = 1;
+const C: usize = 2;
+
+impl Made {
+    /// The map that announces a group.
+    fn map(&self, at: usize) -> u8 {
+        let bits = self.groups[at].characters.map(|c| u8::from(c.is_some()));
+        let more = u8::from(at + 1 < self.groups.len());
+        (bits[A] | bits[B] << 1 | bits[C] << 2 | more << 3) << 4
+    }
+
+    /// Data bytes without TS.
+    fn data(&self) -> Vec<u8> {
+        let mut out = vec![self.map(0) | self.historical.len() as u8];
+        for (at, group) in self.groups.iter().enumerate() {
+            out.extend(group.characters.iter().flatten());
+            if let Some(next) = self.groups.get(at + 1) {
+                out.push(self.map(at + 1) | next.protocol);
+            }
+        }
+        out.extend(&self.historical);
+        if self.groups[1..].iter().any(|g| g.protocol != 0) {
+            out.push(check_of(&out));
+        }
+        out
+    }
+
+    /// Group 2 or 3, put there if need be.
+    fn group(&mut self, number: usize) -> &mut Group {
+        while self.groups.len() < number {
+            let protocol = u8::from(self.groups.len() > 1);
+            self.groups.push(Group { protocol, ..Group::default() });
+        }
+        &mut self.groups[number - 1]
+    }
+}
+
+fn check_of(data: &[u8]) -> u8 {
+    data.iter().fold(0, |x, b| x ^ b)
+}
+
+fn maybe(percent: usize, value: u8, r: &mut Random) -> Option<u8> {
+    r.chance(percent).then_some(value)
+}
+
+/// TB3 that is good for the TC1 given, which is one that allows any.
+fn waiting(tc1: Option<u8>, r: &mut Random) -> u8 {
+    let least = match tc1 {
+        Some(0xFF) | None => 0,
+        Some(n) => (0..5).find(|&cwi| 1u16 << cwi > u16::from(n)).unwrap_or(5),
+    };
+    (r.below(5) * 16 + r.between(least, 5)) as u8
+}
+
+/// A group without rules.
+fn free_group(r: &mut Random) -> Group {
+    let protocol = *r.pick(&[0, 1, 2, 14, 15]);
+    Group { protocol, characters: [0; 3].map(|_: u8| r.chance(40).then(|| r.byte())) }
+}
+
+/// A capture that is accepted.
+fn good(r: &mut Random) -> Made {
+    let reset = if r.chance(50) { Reset::Cold } else { Reset::Warm };
+    let tb1 = match reset {
+        Reset::Cold => Some(0),
+        Reset::Warm => *r.pick(&[None, Some(0), Some(0x25), Some(0xFF)]),
+    };
+    // The protocols of TD1 and TD2.
+    const PROTOCOLS: [&[u8]; 7] = [&[], &[], &[0], &[0, 1], &[0, 14], &[1, 1], &[1, 1]];
+    let protocols = *r.pick(&PROTOCOLS);
+    let tc1 = if protocols.get(1) == Some(&1) {
+        *r.pick(&[None, Some(0), Some(1), Some(3), Some(15), Some(30), Some(31), Some(0xFF)])
+    } else {
+        let byte = r.byte();
+        *r.pick(&[None, Some(0), Some(0xFF), Some(0xFE), Some(31), Some(32), Some(byte)])
+    };
+    let mut groups = vec![Group { protocol: 0, characters: [maybe(30, 0x11, r), tb1, tc1] }];
+    if let Some(&protocol) = protocols.first() {
+        let ta2 = r.byte() & !0x10;
+        let characters = [maybe(25, ta2, r), None, maybe(30, 0x0A, r)];
+        groups.push(Group { protocol, characters });
+    }
+    match protocols.get(1) {
+        Some(1) => {
+            let size = *r.pick(&[0x10, 0x11, 0x20, 0x7F, 0x80, 0xFD, 0xFE]);
+            let characters = [maybe(70, size, r), Some(waiting(tc1, r)), maybe(20, 0x00, r)];
+            groups.push(Group { protocol: 1, characters });
+        }
+        Some(&protocol) => groups.push(Group { protocol, ..free_group(r) }),
+        None => (),
+    }
+    if protocols.len() == 2 && r.chance(30) {
+        for _ in 0..r.between(1, 3) {
+            groups.push(free_group(r));
+        }
+    }
+    let mut made = Made { reset, groups, historical: Vec::new() };
+    let most = (32 - made.data().len()).min(15);
+    let some = r.below(most + 1);
+    let count = *r.pick(&[0, 0, 1.min(most), some, most]);
+    made.historical = r.bytes(count);
+    made
+}
+
+/// Something that is put wrong in the characters, with the rule that breaks.
+type Break = (&'static str, fn(&mut Made, &mut Random));
+
+/// A byte that is none of those given.
+fn other_than(good: &[u8], r: &mut Random) -> u8 {
+    loop {
+        let byte = if r.chance(50) { r.byte() } else { *r.pick(&[0x00, 0x01, 0x0F, 0x10, 0xFF]) };
+        if !good.contains(&byte) {
+            return byte;
+        }
+    }
+}
+
+const BREAKS: [Break; 19] = [
+    ("TA1", |m, r| {
+        m.groups[0].characters[A] = Some(other_than(&[0x11], r));
+        if let Some(group) = m.groups.get_mut(1) {
+            group.characters[A] = group.characters[A].map(|ta2| ta2 & !0x10);
+        }
+    }),
+    // TA2 with b5 takes the rule off TA1.
+    ("TA2", |m, r| {
+        m.groups[0].characters[A] = Some(r.byte());
+        m.group(2).characters[A] = Some(r.byte() | 0x10);
+    }),
+    ("TB1", |m, r| {
+        m.reset = Reset::Cold;
+        m.groups[0].characters[B] = Some(other_than(&[0x00], r));
+    }),
+    ("TB1-ABSENT", |m, _| {
+        m.reset = Reset::Cold;
+        m.groups[0].characters[B] = None;
+    }),
+    ("TD1", |m, r| m.group(2).protocol = r.between(2, 15) as u8),
+    ("TA2", |m, r| m.group(2).characters[A] = Some(r.byte() | 0x10)),
+    ("TB2", |m, r| m.group(2).characters[B] = Some(other_than(&[], r))),
+    ("TC2", |m, r| m.group(2).characters[C] = Some(*r.pick(&[0, 1, 9, 11, 0x1A, 0xFF]))),
+    ("TD2", |m, r| m.group(3).protocol = *r.pick(&[0, 2, 3, 7, 13, 15])),
+    ("TD2", |m, _| {
+        m.group(2).protocol = 1;
+        m.group(3).protocol = 14;
+    }),
+    ("TA3", |m, r| {
+        m.group(3).protocol = 1;
+        m.group(3).characters[A] = Some(*r.pick(&[0x00, 0x01, 0x0F, 0x0A, 0xFF]));
+    }),
+    ("TB3-ABSENT", |m, _| {
+        m.group(3).protocol = 1;
+        m.group(3).characters[B] = None;
+    }),
+    ("TB3-ABSENT", |m, r| {
+        m.group(2).protocol = 1;
+        m.group(3).protocol = *r.pick(&[0, 2, 14]);
+        m.group(3).characters[B] = None;
+    }),
+    ("TB3-ABSENT", |m, _| {
+        m.group(2).protocol = 1;
+        m.groups.truncate(2);
+    }),
+    ("TB3-BWI", |m, r| {
+        m.group(3).protocol = 1;
+        m.group(3).characters[B] = Some((r.between(5, 15) * 16 + r.below(6)) as u8);
+    }),
+    ("TB3-CWI", |m, r| {
+        m.group(3).protocol = 1;
+        m.group(3).characters[B] = Some((r.below(5) * 16 + r.between(6, 15)) as u8);
+    }),
+    ("TB3-N", |m, r| {
+        let cwi = r.below(8) as u8;
+        let least = 1u16 << cwi;
+        let n = *r.pick(&[least, least + 1, 254]);
+        m.groups[0].characters[C] = Some(n.clamp(least, 254) as u8);
+        m.group(3).protocol = 1;
+        m.group(3).characters[B] = Some(r.below(5) as u8 * 16 + cwi);
+    }),
+    ("TC3", |m, r| {
+        m.group(3).protocol = 1;
+        m.group(3).characters[C] = Some(*r.pick(&[0x01, 0x02, 0x80, 0xFF]));
+    }),
+    // More characters are announced than may be sent, and they are there.
+    ("LONG", |m, r| {
+        m.group(3);
+        while m.data().len() < 33 + 15 {
+            m.groups.push(Group { characters: [Some(0); 3], ..free_group(r) });
+        }
+        let count = r.below(16);
+        m.historical = r.bytes(count);
+    }),
+];
+
+/// Something that is put wrong in the bytes behind TS.
+fn bend(data: &mut Vec<u8>, r: &mut Random) {
+    match r.below(8) {
+        // Cut anywhere, before T0 too.
+        0..=2 => data.truncate(r.below(data.len() + 1)),
+        3 => {
+            data.pop();
+        }
+        // The right check where none may be due, or anything.
+        4 => data.push(check_of(data)),
+        5 => {
+            let count = *r.pick(&[1, 2, 31, 32, 33, 40]);
+            data.extend(r.bytes(count));
+        }
+        // As many characters as there may be, and one more.
+        6 => data.resize(data.len().max(r.between(31, 34)), 0),
+        _ => {
+            let at = r.below(data.len());
+            data[at] ^= 1 << r.below(8);
+        }
+    }
+}
+
+/// TS and the other bytes as they stand on the line.
+fn capture(data: &[u8], r: &mut Random) -> Vec<u8> {
+    if r.chance(3) {
+        let initial = *r.pick(&[0x3F, 0xFC, 0x00, 0xFF, 0x3A, 0xB3, 0x23, 0xDC]);
+        return [&[initial], data].concat();
+    }
+    if r.chance(40) {
+        return [INVERSE].into_iter().chain(data.iter().map(|&b| turned(b))).collect();
+    }
+    [&[DIRECT], data].concat()
+}
+
+/// Bytes without any plan, most of them behind a good TS.
+fn random(r: &mut Random) -> (Reset, Vec<u8>) {
+    let size = *r.pick(&[0, 1, 2, 3, 5, 8, 13, 20, 33, 34, 60]);
+    let mut bytes = r.bytes(size);
+    if size > 0 && r.chance(95) {
+        bytes[0] = *r.pick(&[DIRECT, INVERSE]);
+    }
+    (if r.chance(50) { Reset::Cold } else { Reset::Warm }, bytes)
+}
+
+/// One capture; the kinds take turns.
+fn any(index: usize, r: &mut Random) -> (Reset, Vec<u8>) {
+    let mut made = good(r);
+    match index % 8 {
+        0 | 1 => (),
+        2..=4 => {
+            for round in 0..*r.pick(&[1, 1, 1, 2, 4]) {
+                let at = if round == 0 { index / 8 % BREAKS.len() } else { r.below(BREAKS.len()) };
+                BREAKS[at].1(&mut made, r);
+            }
+        }
+        5 => return random(r),
+        _ => {
+            if r.chance(30) {
+                r.pick(&BREAKS).1(&mut made, r);
+            }
+            let mut data = made.data();
+            bend(&mut data, r);
+            return (made.reset, capture(&data, r));
+        }
+    }
+    (made.reset, capture(&made.data(), r))
+}
+
+/// Prints `count` captures as lines that `atr` reads.
+pub fn make_resets(count: usize, seed: u64) {
+    for index in 0..count {
+        let (reset, bytes) = any(index, &mut Random::nth(seed, index as u64));
+        let word = if reset == Reset::Cold { "COLD" } else { "WARM" };
+        println!("{word} {}", hex::text_or_dash(&bytes));
+    }
+}
+
+#[cfg(test)]
+mod tests {
+    use super::*;
+    use crate::reset::read;
+    use std::collections::BTreeSet;
+
+    #[test]
+    fn good_captures_are_accepted() {
+        for index in 0..3000 {
+            let made = good(&mut Random::nth(1, index));
+            let bytes = [&[DIRECT], &made.data()[..]].concat();
+            let inverse: Vec<u8> =
+                [INVERSE].into_iter().chain(made.data().iter().map(|&b| turned(b))).collect();
+            let (one, two) = (read(&bytes, made.reset), read(&inverse, made.reset));
+            let (one, two) = (one.unwrap(), two.unwrap());
+            assert!(!one.inverse && two.inverse);
+            assert_eq!((one.protocol, one.historical), (two.protocol, two.historical));
+        }
+    }
+
+    #[test]
+    fn every_break_breaks_its_rule() {
+        for (index, (rule, apply)) in BREAKS.iter().enumerate() {
+            for round in 0..300 {
+                let mut r = Random::nth(round, index as u64);
+                let mut made = good(&mut r);
+                apply(&mut made, &mut r);
+                let bytes = [&[DIRECT], &made.data()[..]].concat();
+                let refusals = read(&bytes, made.reset).unwrap_err();
+                assert!(refusals.iter().any(|f| f.rule == *rule), "{rule} {bytes:02X?}");
+            }
+        }
+    }
+
+    #[test]
+    fn a_cut_is_the_last_refusal() {
+        for index in 0..500 {
+            let made = good(&mut Random::nth(2, index));
+            let bytes = [&[DIRECT], &made.data()[..]].concat();
+            for size in 0..bytes.len() {
+                let refusals = read(&bytes[..size], made.reset).unwrap_err();
+                let last = refusals.last().unwrap();
+                assert_eq!(last.place, size);
+                assert!(["CUT", "TCK-ABSENT"].contains(&last.rule));
+            }
+        }
+    }
+
+    #[test]
+    fn every_rule_occurs() {
+        let mut seen = BTreeSet::new();
+        let mut accepted = 0;
+        for index in 0..4000 {
+            let (reset, bytes) = any(index, &mut Random::nth(3, index as u64));
+            match read(&bytes, reset) {
+                Ok(_) => accepted += 1,
+                Err(refusals) => seen.extend(refusals.iter().map(|f| f.rule)),
+            }
+        }
+        assert!(accepted > 800, "{accepted}");
+        assert_eq!(seen.len(), 20, "{seen:?}");
+    }
+}
