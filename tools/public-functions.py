@@ -113,7 +113,7 @@ class Function:
             held = any(re.search(rf"\b{holder}\b", kind) for holder in holders)
             if held or MUTABLE.search(kind or name):
                 self.lent.append(name.split()[-1])
-        for variable, clause in re.findall(r"ensures[^{]*\{ λ (\w+)\. ⌜ (.*?) ⌝ \}", rest, re.S):
+        for variable, clause in re.findall(r"ensures[^{]*\{ λ (\w+)\.\s+⌜ (.*?) ⌝ \}", rest, re.S):
             clause = bare(" ".join(clause.split()))
             parts = [clause] if outside(clause, "→⊎∨") else split(clause, "×")
             self.facts += [(variable, bare(part)) for part in parts]
@@ -134,7 +134,8 @@ def seen(function, fields, joins):
     words, told, open_ = [], set(), set(function.lent) | ({"result"} if function.result else set())
     for variable, left, right in function.equations():
         lent = re.fullmatch(r"now \((\w+) \.exit\)", left)
-        joined = re.fullmatch(rf"(\w+) {variable} \(now \((\w+) \.exit\)\)", left)
+        joined = re.fullmatch(rf"(\w+) {variable}((?: \(now \(\w+ \.exit\)\))+)", left)
+        buffers = re.findall(r"now \((\w+) \.exit\)", joined.group(2)) if joined else []
         field = re.fullmatch(rf"{variable} \.(\w+)", left)
         if left == variable and function.result:
             words.append(f"result ≡ {named(right)}")
@@ -147,9 +148,10 @@ def seen(function, fields, joins):
         elif lent and lent.group(1) in function.lent:
             words.append(f"`{lent.group(1)}` afterwards ≡ {named(right)}")
             open_.discard(lent.group(1))
-        elif joined and joined.group(1) in joins and joined.group(2) in function.lent:
-            words.append(f"all that the call leaves, every field handed back and `{joined.group(2)}`, ≡ {named(right)}")
-            open_ -= {"result", joined.group(2)}
+        elif joined and joined.group(1) in joins and set(buffers) <= set(function.lent):
+            left_in = " and ".join(f"`{buffer}`" for buffer in buffers)
+            words.append(f"all that the call leaves, every field handed back and {left_in}, ≡ {named(right)}")
+            open_ -= {"result", *buffers}
         elif re.fullmatch(rf"\w+ {variable}", left):
             words.append(f"`{left.split()[0]}` of it ≡ {named(right)}")
     if told and fields and told >= set(fields):
@@ -184,25 +186,25 @@ def structs(crate):
 
 def fields_of(name, crate, text):
     """The fields of a struct as a source of a crate names it."""
-    home = re.search(rf"^use (\w+)::(?:\w+::)*(?:\{{[^}}]*\b{name}\b[^}}]*\}}|{name});", text, re.M)
+    home = re.search(rf"^(?:pub )?use (\w+)::(?:\w+::)*(?:\{{[^}}]*\b{name}\b[^}}]*\}}|{name});", text, re.M)
     home = home.group(1) if home and home.group(1) in crates() else crate
     return dict(structs(home)).get(name, {})
 
 
 def joins_in(text, crate, fields):
-    """The definitions that a source names, of the form `f r b = record {..}`, which hold all of r and all of b."""
+    """The definitions that a source names, of the form `f r b .. = record {..}`, which hold all of r and of each b."""
     for home, file, names in re.findall(r"^ghost use Rattle·(\w+?)(?:·specs)?\.specs\.(\w+)\.\{([^}]*)\}", text, re.M):
         path = ROOT / "crates" / home / "specs" / (file + ".antt")
         body = path.read_text() if path.exists() else ""
         for name in re.findall(r"\w+", names):
-            found = re.search(rf"^{name} (\w+) (\w+) = record \{{ (.*) \}}$", body, re.M)
-            if found and holds_all(found.group(3), found.group(1), found.group(2), fields):
+            found = re.search(rf"^{name} (\w+)((?: \w+)+) = record \{{ (.*) \}}$", body, re.M)
+            if found and holds_all(found.group(3), found.group(1), found.group(2).split(), fields):
                 yield name
 
 
-def holds_all(body, result, buffer, fields):
+def holds_all(body, result, buffers, fields):
     values = {part.partition("=")[2].strip() for part in body.split(";")}
-    return buffer in values and (result in values or (bool(fields) and {f"{result} .{field}" for field in fields} <= values))
+    return set(buffers) <= values and (result in values or (bool(fields) and {f"{result} .{field}" for field in fields} <= values))
 
 
 def reachable(lib):
@@ -283,6 +285,7 @@ MADE_UP = [
     ("pub fn f(buf: &mut [u8]) -> Step\n ensures { λ r. ⌜ played r (now (buf .exit)) ≡ moved s (now (buf .entry)) ⌝ }", set()),
     ("pub fn f(buf: &mut [u8]) -> Step\n ensures { λ r. ⌜ summed r (now (buf .exit)) ≡ moved s ⌝ }", {"buf", "result"}),
     ("pub fn f(a: &mut [u8], b: &mut [u8]) -> Step\n ensures { λ r. ⌜ played r (now (a .exit)) ≡ moved s ⌝ }", {"b"}),
+    ("pub fn f(a: &mut [u8], b: &mut [u8]) -> Step\n ensures { λ r. ⌜ played r (now (a .exit)) (now (b .exit)) ≡ moved s ⌝ }", set()),
     ("pub fn f(s: &[u8]) -> usize {", {"result"}),
 ]
 
@@ -298,7 +301,7 @@ def selftest():
     joins = [("state = r .state; due = r .due; buffer = out", True), ("answer = r; tape = out", True),
              ("state = r .state; buffer = out", False), ("state = r .state; due = r .due; buffer = length out", False)]
     for body, expected in joins:
-        if holds_all(body, "r", "out", fields) != expected:
+        if holds_all(body, "r", ["out"], fields) != expected:
             bad += 1
             print(f"{body}: should {'' if expected else 'not '}hold all")
     print(f"{len(MADE_UP) + len(joins)} tried, {bad} wrong")

@@ -6,6 +6,7 @@ use crate::kernel::{Event, Reply, Session, LONGEST_COMMAND};
 use crate::lists::{fill, Known};
 use crate::objects;
 use crate::reset::{self, Reset};
+use crate::t0;
 use crate::tape::{self, Entry, Writer, BLOCK, MOST_BLOCKS};
 use std::fs::File;
 use std::io::{self, BufRead, Read, Write};
@@ -225,6 +226,23 @@ pub fn read_resets() -> Outcome {
     each_line(reset_line)
 }
 
+/// `COMMAND hex` begins an exchange by T=0, `CARD hex` goes on with it.
+fn exchange_line(lines: &mut t0::Lines, line: &str) -> Result<Option<String>, String> {
+    let (word, rest) = line.split_once(char::is_whitespace).unwrap_or((line, ""));
+    let bytes = bytes_of(rest.trim())?;
+    match word {
+        "" => Ok(None),
+        "COMMAND" => Ok(Some(lines.command(&bytes))),
+        "CARD" => Ok(lines.card(&bytes)),
+        _ => Err(format!("unknown word: {word}")),
+    }
+}
+
+pub fn run_exchanges(short: bool) -> Outcome {
+    let mut lines = t0::Lines::new(short);
+    each_line(|line| exchange_line(&mut lines, line))
+}
+
 #[cfg(test)]
 mod tests {
     use super::*;
@@ -267,6 +285,29 @@ mod tests {
         assert_eq!(reset_line("WARM 3B00").unwrap().unwrap(), line);
         assert_eq!(reset_line(""), Ok(None));
         assert!(reset_line("3B00").is_err());
+    }
+
+    #[test]
+    fn exchange_lines() {
+        let mut lines = t0::Lines::new(false);
+        let mut say = |line: &str| exchange_line(&mut lines, line).unwrap().unwrap_or_default();
+        assert_eq!(say("CARD 90"), "");
+        assert_eq!(say("COMMAND 00b2010c01"), "SEND 00B2010C01\nWAIT procedure");
+        assert_eq!(say("CARD"), "WAIT procedure");
+        assert_eq!(say("CARD B2"), "WAIT data 1");
+        assert_eq!(say("CARD 07900000"), "ANSWER 079000");
+        assert_eq!(say("CARD 90"), "");
+        assert_eq!(say("COMMAND 00"), "REFUSED COMMAND");
+        assert_eq!(say("CARD 90"), "");
+        let longer = |short| {
+            let mut lines = t0::Lines::new(short);
+            let data = "00".repeat(256);
+            exchange_line(&mut lines, "COMMAND 00B2010C00").unwrap();
+            let card = format!("CARD B2{data}6100C0{data}9000");
+            exchange_line(&mut lines, &card).unwrap().unwrap()
+        };
+        assert_eq!(longer(false).len(), "SEND 00C0000000 ANSWER ".len() + 2 * 514);
+        assert_eq!(longer(true).len(), "SEND 00C0000000 ANSWER ".len() + 2 * 259);
     }
 
     #[test]

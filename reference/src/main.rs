@@ -14,6 +14,7 @@ mod make;
 mod objects;
 mod random;
 mod reset;
+mod t0;
 mod tape;
 mod terminal;
 mod vectors;
@@ -34,7 +35,10 @@ const USAGE: &str = "usage:
   reference calls FILE
   reference atr
   reference make-atr COUNT SEED
-  reference check-atr FILE";
+  reference check-atr FILE
+  reference t0 [handed]
+  reference make-t0 COUNT SEED
+  reference check-t0 FILE";
 
 /// Takes `--name VALUE` out of the arguments.
 fn option(arguments: &mut Vec<String>, name: &str) -> Result<Option<String>, String> {
@@ -92,6 +96,13 @@ fn run(mut arguments: Vec<String>) -> Outcome {
             Ok(())
         }
         ("check-atr", [file]) => vectors::check_resets(file),
+        ("t0", []) => commands::run_exchanges(false),
+        ("t0", ["handed"]) => commands::run_exchanges(true),
+        ("make-t0", [count, seed]) => {
+            make::make_exchanges(number(count)?, number(seed)?);
+            Ok(())
+        }
+        ("check-t0", [file]) => vectors::check_exchanges(file),
         _ => Err(USAGE.to_string()),
     }
 }

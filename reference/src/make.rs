@@ -4,6 +4,7 @@ mod calls;
 mod card;
 mod damage;
 mod endings;
+mod exchanges;
 mod faults;
 mod nodes;
 mod plan;
@@ -13,6 +14,7 @@ mod start;
 mod tweaks;
 
 pub use calls::make_calls;
+pub use exchanges::make_exchanges;
 pub use resets::make_resets;
 
 use crate::judge::judge;

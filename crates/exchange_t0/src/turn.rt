@@ -1,0 +1,65 @@
+// One line: a command, or bytes of the card's.
+use crate::say::is_last;
+use crate::say::reply;
+use text_hex::unhex;
+use slices::part;
+use t0_begin::begin;
+use t0_pieces::takes;
+use t0_state::State;
+
+// No exchange yet.
+pub fn none(out: &mut [u8; 255]) -> State {
+    let begun = begin(b"", out);
+    begun.state
+}
+
+pub fn command(s: State, digits: &[u8], out: &mut [u8; 255]) -> State {
+    let mut bytes = [0u8; 16384];
+    let n = unhex(digits, &mut bytes);
+    if digits.len() != 2 * n {
+        text_print::text(b"ERROR not hexadecimal\n");
+        return s;
+    }
+    begin_with(&bytes[0..n], out)
+}
+
+fn begin_with(command: &[u8], out: &mut [u8; 255]) -> State {
+    let begun = begin(command, out);
+    let said = begun.reply;
+    reply(said, out, b"");
+    begun.state
+}
+
+pub fn card(s: State, digits: &[u8], out: &mut [u8; 255], answer: &mut [u8; 4354]) -> State {
+    let mut bytes = [0u8; 16384];
+    let n = unhex(digits, &mut bytes);
+    if digits.len() != 2 * n {
+        text_print::text(b"ERROR not hexadecimal\n");
+        return s;
+    }
+    take_all(s, &bytes[0..n], out, answer)
+}
+
+// Piece by piece, each up to the next byte that brings something to send or ends the exchange.
+fn take_all(s: State, piece: &[u8], out: &mut [u8; 255], answer: &mut [u8; 4354]) -> State {
+    let mut state = s;
+    let mut rest = piece;
+    let mut left = piece.len() + 1;
+    while 0 < left {
+        let t = takes(state, rest, out, answer);
+        let said = t.reply;
+        let taken = t.taken;
+        state = t.state;
+        reply(said, out, answer);
+        if is_last(said) {
+            return state;
+        }
+        if rest.len() <= taken {
+            return state;
+        }
+        let more = part(rest, taken, left);
+        rest = more;
+        left -= 1;
+    }
+    state
+}

@@ -1,0 +1,1 @@
+// What a session is handed of an answer: laws only, see proofs/.

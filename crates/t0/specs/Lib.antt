@@ -1,0 +1,2 @@
+-- The exchange over the lent buffers: one byte.
+pub mod Steps

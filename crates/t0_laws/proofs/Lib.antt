@@ -1,0 +1,17 @@
+pub mod Cases
+pub mod Cutting
+pub mod Quiet
+pub mod Calls
+pub mod Headers
+pub mod Progress
+pub mod Ends
+pub mod Beginning
+pub mod Longest
+pub mod Apart
+pub mod Given
+pub mod Whole
+pub mod Received
+pub mod Annex
+pub mod Answered
+pub mod Within
+pub mod Collide

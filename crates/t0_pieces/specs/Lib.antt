@@ -1,0 +1,2 @@
+-- A capture taken in pieces.
+pub mod Pieces

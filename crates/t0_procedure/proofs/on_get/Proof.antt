@@ -1,0 +1,43 @@
+-- `on_get` meets its contract: first the count, then the place. Assumes nothing.
+use mathlib.Core.Path.{sym, ap, _∙_}
+use borrow.Author.Tests.{le-leb, lt-leb}
+use Rattle.slices.proofs.Choice.{pick-yes, pick-no}
+use Rattle.t0_procedure.specs.Procedure.{onward, onGet}
+use Rattle.t0_state.specs.declared.Phase.the-variants.{Length61}
+use borrow.Author.Needs.{needs}
+use Rattle.t0_procedure.proofs.on_get.Statement.{statement}
+use Rattle.t0_procedure.proofs.on_get.Tie as tie
+
+returns : tie.Need-returns
+unfolding onGet
+returns c = c .refuse .ensures ∙ sym (pick-yes _ _ _ (le-leb _ _ (c .before .if1 .taken)))
+
+returns-2 : tie.Need-returns-2
+unfolding onGet
+returns-2 c =
+    let asked = c .before .before .before in
+    c .onward-to .ensures
+    ∙ (ap (onward Length61) (c .before .with-counts .ensures)
+    ∙ sym (pick-no _ _ _ (lt-leb _ _ (asked .before .if1 .left))
+    ∙ pick-yes _ _ _ (sym (asked .may-get .ensures) ∙ c .before .before .if2 .taken)))
+
+returns-3 : tie.Need-returns-3
+unfolding onGet
+returns-3 c =
+    let asked = c .before .before in
+    c .refuse2 .ensures
+    ∙ sym (pick-no _ _ _ (lt-leb _ _ (asked .before .if1 .left)) ∙ pick-no _ _ _ (sym (asked .may-get .ensures) ∙ c .before .if2 .left))
+
+pub on-get-spec : {M : Type 1} → statement M
+on-get-spec =
+    tie.close
+    (tie.spec
+    (λ c κs. search needs)
+    returns
+    (λ c κs. search needs)
+    (λ c. search needs)
+    (λ c κs. search needs)
+    (λ c κs. search needs)
+    returns-2
+    (λ c κs. search needs)
+    returns-3)

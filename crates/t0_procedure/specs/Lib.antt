@@ -1,0 +1,2 @@
+-- Procedure bytes: 000, Table I-20.
+pub mod Procedure
