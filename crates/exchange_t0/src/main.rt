@@ -15,11 +15,11 @@
 mod say;
 mod turn;
 
-use text_input::Line;
-use text_input::read_line;
 use slices::alike;
 use slices::part;
 use t0_state::State;
+use text_input::Line;
+use text_input::read_line;
 use text_lines::after_word;
 use text_lines::word_end;
 

@@ -1,11 +1,11 @@
 // One line: a command, or bytes of the card's.
 use crate::say::is_last;
 use crate::say::reply;
-use text_hex::unhex;
 use slices::part;
 use t0_begin::begin;
 use t0_pieces::takes;
 use t0_state::State;
+use text_hex::unhex;
 
 // No exchange yet.
 pub fn none(out: &mut [u8; 255]) -> State {
