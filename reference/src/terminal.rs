@@ -27,7 +27,8 @@ pub fn number(bytes: &[u8]) -> i64 {
     bytes.iter().fold(0, |n, b| n * 100 + i64::from(b >> 4) * 10 + i64::from(b & 0x0F))
 }
 
-/// YYMMDD with month 01-12 and day 01-31; the calendar is not consulted.
+/// YYMMDD with month 01-12 and day 01-31; the calendar is not consulted. For
+/// the card's dates this is the whole test (02, R-5).
 pub fn is_date(bytes: &[u8]) -> bool {
     bytes.len() == 3
         && is_decimal(bytes)
@@ -44,6 +45,22 @@ pub fn year(digits: u8) -> i64 {
     } else {
         1900 + short
     }
+}
+
+/// How many days a month has, in the years of 02, R-2. Of these every fourth
+/// is a leap year, 2000 as well.
+fn days_in(year: i64, month: i64) -> i64 {
+    match month {
+        2 if year % 4 == 0 => 29,
+        2 => 28,
+        4 | 6 | 9 | 11 => 30,
+        _ => 31,
+    }
+}
+
+/// Whether the calendar has the day (02, R-5). Asked of START alone.
+fn exists(date: &[u8]) -> bool {
+    is_date(date) && number(&date[2..3]) <= days_in(year(date[0]), number(&date[1..2]))
 }
 
 /// A date as a number that grows from day to day: year, month, day. It need
@@ -66,7 +83,7 @@ impl Terminal {
         terminal.is_valid().then_some(terminal)
     }
 
-    /// All of 01's conditions but that on the type.
+    /// All of 01's conditions but that on the type, with 02, R-5 for the date.
     fn is_valid(&self) -> bool {
         let b = &self.bytes;
         let digits = is_decimal(&b[1..21]) && is_decimal(&b[25..31]) && is_decimal(&b[33..39]);
@@ -74,7 +91,7 @@ impl Terminal {
         let threshold = self.threshold() == 0 || self.threshold() < self.floor();
         let size = usize::from(b[57]);
         let aid = (5..=16).contains(&size) && b[58 + size..].iter().all(|&z| z == 0);
-        digits && is_date(self.date()) && percents && threshold && aid
+        digits && exists(self.date()) && percents && threshold && aid
     }
 
     pub fn amount(&self) -> i64 {
@@ -196,13 +213,33 @@ pub mod tests {
         for (month, day, good) in [
             (0x01, 0x01, true),
             (0x12, 0x31, true),
-            (0x02, 0x31, true),
+            (0x02, 0x31, false),
             (0x00, 0x01, false),
             (0x13, 0x01, false),
             (0x01, 0x00, false),
             (0x01, 0x32, false),
         ] {
             assert_eq!(with(&[(18, month), (19, day)]), good);
+        }
+    }
+
+    #[test]
+    fn days_that_exist() {
+        let on = |d: u32| with(&[(17, (d >> 16) as u8), (18, (d >> 8) as u8), (19, d as u8)]);
+        for good in [0x000229, 0x520229, 0x960229, 0x480229, 0x230228, 0x991231, 0x230430] {
+            assert!(on(good), "{good:06X}");
+        }
+        for bad in [0x500229, 0x490229, 0x010229, 0x990229, 0x230230, 0x000230, 0x230431] {
+            assert!(!on(bad), "{bad:06X}");
+        }
+        for (month, days) in
+            [31, 28, 31, 30, 31, 30, 31, 31, 30, 31, 30, 31].into_iter().enumerate()
+        {
+            let month = (month + 1) as u32;
+            let day =
+                |d: u32| 0x230000 | (month / 10 * 16 + month % 10) << 8 | (d / 10 * 16 + d % 10);
+            assert!(on(day(days)) && !on(day(days + 1)), "{month}");
+            assert!(days == 31 || is_date(&day(31).to_be_bytes()[1..]), "{month}");
         }
     }
 

@@ -3,7 +3,7 @@
 
 use super::plan::{Place, Players};
 use super::scenarios::by_chance;
-use super::start::Start;
+use super::start::{Start, NO_DAYS};
 use crate::calls::{session_line, Call, ANSWER, HOST, SILENCE, START};
 use crate::kernel::{Reply, Session};
 use crate::random::Random;
@@ -20,13 +20,15 @@ fn small_room(r: &mut Random) -> usize {
 /// A START that is good, or just about not.
 fn any_start(r: &mut Random) -> Vec<u8> {
     let mut bytes = Start::any(r).bytes();
-    match r.below(8) {
+    match r.below(10) {
         0 => bytes.clear(),
         1 => bytes.truncate(73),
         2 => bytes.push(0),
         3 => bytes[0] = 3,
         4 => bytes[31] = *r.pick(&[0, 100]),
         5 => bytes[18] = 0x13,
+        6 => bytes[17..20].copy_from_slice(&r.pick::<[u8; 3]>(&NO_DAYS)[..]),
+        7 => bytes[19] = *r.pick(&[0x28, 0x29, 0x30, 0x31]),
         _ => (),
     }
     bytes

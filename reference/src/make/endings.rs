@@ -1,6 +1,7 @@
 //! Ways to change the entries of a session that has been played.
 
 use super::plan::Item;
+use super::start::{any_date, NO_DAYS};
 use crate::random::Random;
 use crate::tape::{ANSWER, COMMAND, DECISION, HOST, MOST_BLOCKS, SILENCE, START};
 use std::rc::Rc;
@@ -242,7 +243,13 @@ fn starts() -> Vec<Ending> {
             on_payload(START, &format!("START byte {at} is {value:02X}"), move |p, _| p[at] = value)
         })
         .collect();
+    all.extend(NO_DAYS.map(|date| {
+        let label = format!("START on {}", crate::hex::text(&date));
+        on_payload(START, &label, move |p, _| p[17..20].copy_from_slice(&date))
+    }));
     all.extend([
+        on_payload(START, "START on any date", |p, r| p[17..20].copy_from_slice(&any_date(r))),
+        on_payload(START, "START late in a month", |p, r| p[19] = *r.pick(&[0x29, 0x30, 0x31])),
         on_payload(START, "START empty", |p, _| p.clear()),
         on_payload(START, "START of 73 bytes", |p, _| p.truncate(73)),
         on_payload(START, "START of 75 bytes", |p, _| p.push(0)),

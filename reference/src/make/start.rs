@@ -43,7 +43,8 @@ pub fn digits(mut number: u64, size: usize) -> Vec<u8> {
 pub const BORDER_DAYS: [[u8; 3]; 4] =
     [[0x49, 0x12, 0x31], [0x50, 0x01, 0x01], [0x99, 0x12, 0x31], [0x00, 0x01, 0x01]];
 
-/// A date that START and the card's dates accept, often one at a border.
+/// A date that the card's dates accept, often one at a border. It need not
+/// exist.
 pub fn any_date(r: &mut Random) -> [u8; 3] {
     if r.chance(20) {
         return *r.pick(&BORDER_DAYS);
@@ -54,6 +55,42 @@ pub fn any_date(r: &mut Random) -> [u8; 3] {
     let text = digits(year * 10_000 + month * 100 + day, 3);
     [text[0], text[1], text[2]]
 }
+
+/// The last day of a month (02, R-5), both given as numbers.
+pub fn month_end(year: u64, month: u64) -> [u8; 3] {
+    let days = match month {
+        2 if year.is_multiple_of(4) => 29,
+        2 => 28,
+        4 | 6 | 9 | 11 => 30,
+        _ => 31,
+    };
+    let text = digits(year * 10_000 + month * 100 + days, 3);
+    [text[0], text[1], text[2]]
+}
+
+/// A date that exists, as START must have it; often the last of its month.
+pub fn any_day(r: &mut Random) -> [u8; 3] {
+    let mut date = any_date(r);
+    let number = |b: u8| u64::from(b >> 4) * 10 + u64::from(b & 15);
+    if r.chance(10) {
+        date[1] = 0x02;
+    }
+    let last = month_end(number(date[0]), number(date[1]));
+    if date[2] > last[2] || r.chance(20) {
+        date = last;
+    }
+    date
+}
+
+/// Days that no calendar has, though they pass the test for the card's dates:
+/// 29 February of common years, 30 and 31 February, and 31 of short months.
+#[rustfmt::skip]
+pub const NO_DAYS: [[u8; 3]; 16] = [
+    [0x01, 0x02, 0x29], [0x23, 0x02, 0x29], [0x49, 0x02, 0x29], [0x50, 0x02, 0x29],
+    [0x90, 0x02, 0x29], [0x99, 0x02, 0x29], [0x00, 0x02, 0x30], [0x23, 0x02, 0x30],
+    [0x52, 0x02, 0x30], [0x96, 0x02, 0x31], [0x23, 0x02, 0x31], [0x23, 0x04, 0x31],
+    [0x24, 0x06, 0x31], [0x49, 0x09, 0x31], [0x50, 0x11, 0x31], [0x00, 0x04, 0x31],
+];
 
 /// The next later or earlier date there is, in the counting of the dates
 /// that are accepted, from 1950 to 2049; the same date at the ends.
@@ -80,7 +117,7 @@ impl Start {
             other: *r.pick(&[0, 0, 1, 4711, MOST_AMOUNT]),
             country: r.below(10_000) as u64,
             currency: r.below(10_000) as u64,
-            date: any_date(r),
+            date: any_day(r),
             transaction: r.below(100) as u64,
             number: r.next().to_be_bytes()[..4].try_into().unwrap_or_default(),
             floor,
@@ -179,6 +216,15 @@ mod tests {
         for index in 0..5000 {
             let start = Start::any(&mut Random::nth(9, index)).bytes();
             assert!(Terminal::read(&start).is_some(), "{index}");
+        }
+    }
+
+    #[test]
+    fn days_that_are_none() {
+        let mut start = Start::any(&mut Random::nth(9, 1));
+        for date in NO_DAYS {
+            start.date = date;
+            assert!(Terminal::read(&start.bytes()).is_none(), "{date:?}");
         }
     }
 

@@ -2,7 +2,7 @@
 
 use super::card::{any_list, Card};
 use super::faults::bad_list;
-use super::start::{shifted, Start, BORDER_DAYS, MOST_AMOUNT};
+use super::start::{month_end, shifted, Start, BORDER_DAYS, MOST_AMOUNT, NO_DAYS};
 use crate::random::Random;
 use std::rc::Rc;
 
@@ -120,8 +120,8 @@ fn dates(label: &str, expiry: Option<bool>, effective: Option<bool>) -> Tweak {
 
 /// Dates, versions, locators and lists that stay good.
 pub fn good_edges() -> Vec<Tweak> {
-    [edges_of_dates(), borders_of_years(), optional_objects(), good_locators(), good_accounts()]
-        .concat()
+    let dates = [edges_of_dates(), borders_of_years(), ends_of_months(), days_of_cards()].concat();
+    [dates, optional_objects(), good_locators(), good_accounts()].concat()
 }
 
 fn edges_of_dates() -> Vec<Tweak> {
@@ -159,6 +159,34 @@ fn borders_of_years() -> Vec<Tweak> {
                 card.set(0x5F24, today.to_vec(), r);
                 card.set(0x5F25, date.to_vec(), r);
             }));
+        }
+    }
+    all
+}
+
+/// The last day of every month as today, and of February in leap and common
+/// years (02, R-5).
+fn ends_of_months() -> Vec<Tweak> {
+    let months = (1..=12).map(|month| (23, month));
+    let februaries = [0, 1, 4, 48, 49, 50, 51, 52, 72, 96, 99].map(|year| (year, 2));
+    months
+        .chain(februaries)
+        .map(|(year, month)| {
+            let today = month_end(year, month);
+            let label = format!("today {}", crate::hex::text(&today));
+            tweak(0, &label, move |start, _, _| start.date = today)
+        })
+        .collect()
+}
+
+/// Days that START may not have, as the card's dates, which keep the old test
+/// (02, R-5).
+fn days_of_cards() -> Vec<Tweak> {
+    let mut all = Vec::new();
+    for date in NO_DAYS {
+        for tag in [0x5F24, 0x5F25] {
+            let label = format!("{tag:X} is {}", crate::hex::text(&date));
+            all.push(tweak(0, &label, move |_, card, r| card.set(tag, date.to_vec(), r)));
         }
     }
     all
