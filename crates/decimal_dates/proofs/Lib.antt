@@ -1,3 +1,4 @@
 pub mod Digits
 pub mod Order
+pub mod Calendar
 mod DatesWorked

@@ -2,3 +2,4 @@
 pub mod Decimal
 pub mod Dates
 pub mod Order
+pub mod Calendar

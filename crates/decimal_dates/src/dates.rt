@@ -3,7 +3,7 @@ ghost use mathlib.Core.Path.{_≡_};
 ghost use Prim.Native.Nat.{_≤_};
 ghost use lib.ListN.{getD};
 ghost use Rattle.decimal_dates.specs.Decimal.{twoDigits};
-ghost use Rattle.decimal_dates.specs.Dates.{wholeYear, dateKey, monthAndDay, validStartDate, validCardDate};
+ghost use Rattle.decimal_dates.specs.Dates.{wholeYear, dateKey, monthAndDay, leapYear, thirtyDays, daysIn, validStartDate, validCardDate};
 use super::decimal::digits_only;
 use super::decimal::two_digits;
 use super::limits::between;
@@ -36,10 +36,32 @@ fn month_and_day(d: &[u8]) -> bool
     between(1, 12, pair(d, 1)) && between(1, 31, pair(d, 2))
 }
 
+fn leap_year(y: u64) -> bool
+    ensures { λ r. ⌜ r ≡ leapYear y ⌝ }
+{
+    (y % 4 == 0) & ((y % 100 != 0) | (y % 400 == 0))
+}
+
+fn thirty_days(m: u64) -> bool
+    ensures { λ r. ⌜ r ≡ thirtyDays m ⌝ }
+{
+    ((m == 4) | (m == 6)) | ((m == 9) | (m == 11))
+}
+
+fn days_in(y: u64, m: u64) -> u64
+    ensures { λ r. ⌜ r ≡ daysIn y m ⌝ }
+{
+    if m == 2 {
+        return if leap_year(y) { 29 } else { 28 };
+    }
+    if thirty_days(m) { 30 } else { 31 }
+}
+
 pub fn valid_start_date(d: &[u8]) -> bool
     ensures { λ r. ⌜ r ≡ validStartDate (now (d .entry)) ⌝ }
 {
-    month_and_day(d)
+    let month = pair(d, 1);
+    between(1, 12, month) && between(1, days_in(whole_year(pair(d, 0)), month), pair(d, 2))
 }
 
 pub fn valid_card_date(d: &[u8]) -> bool

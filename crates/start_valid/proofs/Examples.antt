@@ -29,8 +29,10 @@ rows =
     ∷ ((17, 0x0A) ∷ [], false) ∷ ((19, 0x1A) ∷ [], false) ∷ ((20, 0xFF) ∷ [], false) ∷ ((21, 0xFF) ∷ [], true) ∷ ((24, 0xFF) ∷ [], true)
     ∷ ((25, 0x0A) ∷ [], false) ∷ ((30, 0xA0) ∷ [], false) ∷ ((33, 0x0A) ∷ (25, 0x99) ∷ [], false) ∷ ((38, 0x0A) ∷ [], false)
     ∷ ((40, 0xFF) ∷ [], true) ∷ ((42, 0xFF) ∷ [], true) ∷ ((56, 0xAA) ∷ [], true)
-    -- month and day, whatever the month
-    ∷ ((18, 0) ∷ [], false) ∷ ((18, 1) ∷ [], true) ∷ ((18, 2) ∷ [], true) ∷ ((18, 0x12) ∷ [], true) ∷ ((18, 0x13) ∷ [], false)
+    -- month, and a day that it has
+    ∷ ((18, 0) ∷ [], false) ∷ ((18, 1) ∷ [], true) ∷ ((18, 2) ∷ [], false) ∷ ((18, 0x12) ∷ [], true) ∷ ((18, 0x13) ∷ [], false)
+    ∷ ((18, 4) ∷ [], false) ∷ ((18, 4) ∷ (19, 0x30) ∷ [], true)
+    ∷ ((18, 2) ∷ (19, 0x29) ∷ [], false) ∷ ((17, 0x24) ∷ (18, 2) ∷ (19, 0x29) ∷ [], true)
     ∷ ((19, 0) ∷ [], false) ∷ ((19, 1) ∷ [], true) ∷ ((19, 0x31) ∷ [], true) ∷ ((19, 0x32) ∷ [], false)
     -- random number
     ∷ ((31, 0) ∷ [], false) ∷ ((31, 1) ∷ [], true) ∷ ((31, 99) ∷ [], true) ∷ ((31, 100) ∷ [], false)
