@@ -21,13 +21,12 @@ MUTABLE = re.compile(r"&(?:'\w+ )?mut\b")
 # Promises that are not an equation of the whole answer: why they fit one answer all the same.
 OTHERWISE = {
     "tlv_write write": "`one-answer` in `crates/tlv_write/proofs/Refusals.antt`: refusal and size together are the answer",
-    "session_told runs::size_of": "the first r of the run's 252 bytes are what it holds, and r is at most 252, so r is how many that are",
+    "session_records runs::size_of": "the first r of the run's 252 bytes are what it holds, and r is at most 252, so r is how many that are",
     "judge judge": "`judged-once` in `crates/verdict_judged/proofs/Once.antt`: no tape has two answers",
 }
 
 # Those that fit more than one answer: docs/EXCEPTIONS.md names each and says why.
 EXCEPTIONS = {
-    "dol_values supply::value_for": "the bytes behind the value's length, and all of them where no value is there",
     "text_input read_line": "all: of what comes from standard input no contract can speak",
 }
 

@@ -2,7 +2,7 @@
 -- tag is named at two places with two rules.
 -- Assumes nothing.
 use mathlib.Core.Bool.{Bool, true, false}
-use mathlib.Core.List.{List, [], _∷_}
+use mathlib.Core.List.{List, [], _∷_, _++_, map}
 use Prim.Native.Nat.{ℕ}
 use lib.ListN.{length}
 use Rattle.slices.specs.Tests.{between}
@@ -12,6 +12,8 @@ use Rattle.slices.specs.Tables.{beside}
 use Rattle.answer_common.specs.CardNumber.{cardNumber}
 use Rattle.answer_common.specs.declared.content.Rule.{Rule}
 use Rattle.answer_common.specs.declared.content.Rule.the-variants.{Sizes, Entries, Number, Date, Anything}
+use Rattle.answer_common.specs.declared.content.Format.{Format}
+use Rattle.answer_common.specs.declared.content.Format.the-variants.{Numeric, CardNumber, Other, Unknown}
 
 unfoldable pub meets : Rule → List ℕ → Bool
 meets (Sizes fewest most) v = between fewest most (length v)
@@ -19,6 +21,56 @@ meets Entries v = wholeEntries v
 meets Number v = cardNumber v
 meets Date v = validCardDate v
 meets Anything v = true
+
+-- the tag of a record's one object
+abbrev pub recordTag : ℕ
+recordTag = 0x70
+
+-- an object that records name: the rule of its value, whether some record must tell it, and its format in object lists (01,
+-- "The commands": the lists themselves are not known there)
+pub record Row : Type 0 where
+  pub tag : ℕ
+  pub rule : Rule
+  pub mandatory : Bool
+  pub format : Format
+
+abbrev row : ℕ → Rule → Bool → Format → Row
+row tag rule mandatory format = record { tag = tag; rule = rule; mandatory = mandatory; format = format }
+
+-- the one table of what records name: card number, expiry, effective date, version, the object lists for the first and the
+-- second GENERATE AC, and the action codes default, denial and online
+abbrev pub recordTable : List Row
+recordTable =
+    row 0x5A Number true CardNumber
+    ∷ row 0x5F24 Date true Numeric
+    ∷ row 0x5F25 Date false Numeric
+    ∷ row 0x9F08 (Sizes 2 2) false Other
+    ∷ row 0x8C (Sizes 0 252) true Unknown
+    ∷ row 0x8D (Sizes 0 252) true Unknown
+    ∷ row 0x9F0D (Sizes 5 5) false Other
+    ∷ row 0x9F0E (Sizes 5 5) false Other
+    ∷ row 0x9F0F (Sizes 5 5) false Other
+    ∷ []
+
+-- its tags
+abbrev pub recordNames : List ℕ
+recordNames = map (λ r. r .tag) recordTable
+
+-- those that some record must tell
+abbrev onlyNeeded : Bool → ℕ → List ℕ → List ℕ
+onlyNeeded true tag tags = tag ∷ tags
+onlyNeeded false tag tags = tags
+
+abbrev neededIn : List Row → List ℕ
+neededIn [] = []
+neededIn (r ∷ rows) = onlyNeeded (r .mandatory) (r .tag) (neededIn rows)
+
+abbrev pub mandatory : List ℕ
+mandatory = neededIn recordTable
+
+-- the format of each in object lists
+abbrev pub recordFormats : List (ℕ × Format)
+recordFormats = map (λ r. (r .tag, r .format)) recordTable
 
 unfoldable pub rules : List (ℕ × Rule)
 rules =
@@ -29,21 +81,13 @@ rules =
     ∷ (0x82, Sizes 2 2)
     ∷ (0x94, Entries)
     -- records
-    ∷ (0x5A, Number)
-    ∷ (0x5F24, Date)
-    ∷ (0x5F25, Date)
-    ∷ (0x9F08, Sizes 2 2)
-    ∷ (0x8C, Sizes 0 252)
-    ∷ (0x8D, Sizes 0 252)
-    ∷ (0x9F0D, Sizes 5 5)
-    ∷ (0x9F0E, Sizes 5 5)
-    ∷ (0x9F0F, Sizes 5 5)
+    ∷ (map (λ r. (r .tag, r .rule)) recordTable
     -- GENERATE AC
-    ∷ (0x9F27, Sizes 1 1)
+    ++ ((0x9F27, Sizes 1 1)
     ∷ (0x9F36, Sizes 2 2)
     ∷ (0x9F26, Sizes 8 8)
     ∷ (0x9F10, Sizes 0 32)
-    ∷ []
+    ∷ []))
 
 unfoldable pub ruleFor : ℕ → Rule
 ruleFor tag = beside Anything tag rules

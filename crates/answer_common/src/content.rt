@@ -5,6 +5,32 @@ use decimal_dates::dates::valid_card_date;
 ghost use mathlib.Core.Path.{_≡_};
 ghost use Rattle.answer_common.specs.Content.{ruleFor, rightValue};
 
+// The tag of a record's one object.
+pub const RECORD: usize = 0x70;
+
+// The names in records, and those of them that some record must tell: the rows of the definitions' table, in its order.
+pub const NAMES: [usize; 9] = [
+    0x5A,
+    0x5F24,
+    0x5F25,
+    0x9F08,
+    0x8C,
+    0x8D,
+    0x9F0D,
+    0x9F0E,
+    0x9F0F,
+];
+
+pub const MANDATORY: [usize; 4] = [0x5A, 0x5F24, 0x8C, 0x8D];
+
+// How a value is cut or filled to the room that an object list gives it; what lists do not know is all zeros.
+pub enum Format {
+    Numeric,
+    CardNumber,
+    Other,
+    Unknown,
+}
+
 // The rules for values.
 pub enum Rule {
     // A number of bytes between two limits.
@@ -18,7 +44,7 @@ pub enum Rule {
     Anything,
 }
 
-fn rule_for(tag: usize) -> Rule
+pub fn rule_for(tag: usize) -> Rule
     ensures { λ r. ⌜ r ≡ ruleFor tag ⌝ }
 {
     match tag {

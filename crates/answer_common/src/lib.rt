@@ -1,5 +1,5 @@
 // What every answer of the card is asked: its size, its status and its one object, and the named objects in that.
 pub mod answer;
-mod content;
+pub mod content;
 pub mod named;
 mod number;

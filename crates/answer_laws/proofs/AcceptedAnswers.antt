@@ -16,7 +16,7 @@ use Rattle.slices.proofs.Tests.{first-held}
 use Rattle.dol_wanted.specs.Wanted.{fillable}
 use Rattle.answer_afl.specs.Entries.{mostRecords, wholeEntries, entriesRight, recordCount, tooMany}
 use Rattle.slices.specs.Tables.{anyOf, beside}
-use Rattle.answer_common.specs.Content.{rules, ruleFor, rightValue, meets}
+use Rattle.answer_common.specs.Content.{rules, ruleFor, rightValue, meets, recordTag, recordNames, mandatory}
 use Rattle.answer_common.specs.Answer.{isOne, inside, frame}
 use Rattle.answer_common.specs.Named.{listed, direct, times, told, valueOf, anyTimes, anyWrong}
 use Rattle.slices.proofs.Tables.{and-yes}
@@ -27,7 +27,7 @@ use Rattle.answer_common.proofs.Members.{inside-size, direct-size, inner-size}
 use Rattle.answer_forms.specs.Forms.{template, joined, bothForms, lacks}
 use Rattle.answer_select.specs.Select.{selectTag, selectNames, innerNames, inner, pdolOf, begins, nameWrong, selectTwice, selectWrong, selectLines, selectReason}
 use Rattle.answer_forms.specs.Options.{optionNames, profileOf, locatorOf, optionsWrong, optionsLines, optionsReason}
-use Rattle.answer_record.specs.Records.{recordTag, recordNames, mandatory, again, anyAgain, recordTwice, recordLines, recordReason, valueIn, incomplete, completeReason}
+use Rattle.answer_record.specs.Records.{again, anyAgain, recordTwice, recordLines, recordReason, valueIn, incomplete, completeReason}
 use Rattle.answer_forms.specs.Cryptogram.{cryptogramOf, cryptogramLines, cryptogramReason}
 
 -- the first lines pass, and so do the others

@@ -17,7 +17,7 @@ use Rattle.slices.specs.Tests.{between}
 use Rattle.dol_wanted.specs.Wanted.{fillable}
 use Rattle.answer_afl.specs.Entries.{wholeEntries, entriesRight, tooMany}
 use Rattle.slices.specs.Tables.{anyOf, beside}
-use Rattle.answer_common.specs.Content.{meets, rules, ruleFor, rightValue}
+use Rattle.answer_common.specs.Content.{meets, rules, ruleFor, rightValue, recordTag, recordNames}
 use Rattle.answer_common.specs.Answer.{isOne, inside}
 use Rattle.answer_common.specs.Named.{membersIn, listed, named, among, direct, times, told, valueOf, wrongValue, anyTimes, anyWrong}
 use Rattle.answer_common.proofs.Lines.{one-more}
@@ -25,7 +25,7 @@ use Rattle.answer_common.proofs.Alike.{any-alike, times-alike, wrong-alike, nam
 use Rattle.answer_forms.specs.Forms.{template, joined, bothForms, lacks}
 use Rattle.answer_select.specs.Select.{selectTag, selectNames, innerNames, inner, pdolOf, nameWrong, selectTwice, selectWrong, selectLines, selectReason}
 use Rattle.answer_forms.specs.Options.{optionNames, profileOf, locatorOf, optionsWrong, optionsLines, optionsReason}
-use Rattle.answer_record.specs.Records.{recordTag, recordNames, again, anyAgain, recordTwice, recordLines, recordReason, valueIn}
+use Rattle.answer_record.specs.Records.{again, anyAgain, recordTwice, recordLines, recordReason, valueIn}
 use Rattle.answer_forms.specs.Cryptogram.{mandatoryNames, cryptogramNames, informationOf, cryptogramOf, cryptogramWrong, cryptogramLines, cryptogramReason}
 
 -- the same named members, in the same order, in two runs of bytes

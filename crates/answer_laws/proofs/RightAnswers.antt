@@ -12,7 +12,7 @@ use Rattle.tlv_list.specs.Lookup.{Lookup, once}
 use Rattle.start_fields.specs.Reading.{Terminal}
 use Rattle.dol_wanted.specs.Wanted.{wantedStep, entriesOf, total, fits, fillable}
 use Rattle.slices.specs.Tables.{anyOf, beside}
-use Rattle.answer_common.specs.Content.{meets, rules, ruleFor, rightValue}
+use Rattle.answer_common.specs.Content.{meets, rules, ruleFor, rightValue, recordTag, recordNames, mandatory}
 use Rattle.answer_common.specs.Answer.{frame}
 use Rattle.answer_common.specs.Named.{listed, direct, times, told, valueOf, anyTimes, anyWrong}
 use Rattle.slices.proofs.Tables.{or-no, and-no}
@@ -20,7 +20,7 @@ use Rattle.answer_common.proofs.Sizes.{sized}
 use Rattle.answer_common.proofs.Accepted.{AllClear, no-reason, or-clear, any-none, Framed, frame-right}
 use Rattle.answer_common.proofs.Present.{There, MayBe, Right, Sized, of-size, there-so, may-be-so, may-be, none-twice, none-wrong, none-missing, by-name}
 use Rattle.answer_select.specs.Select.{selectTag, selectNames, innerNames, inner, pdolOf, begins, nameWrong, selectTwice, selectWrong, selectLines, selectReason}
-use Rattle.answer_record.specs.Records.{recordTag, recordNames, mandatory, again, anyAgain, recordTwice, recordLines, recordReason, valueIn, incomplete, completeReason}
+use Rattle.answer_record.specs.Records.{again, anyAgain, recordTwice, recordLines, recordReason, valueIn, incomplete, completeReason}
 use Rattle.answer_laws.proofs.AcceptedAnswers.{select-clear, select-framed, select-name, select-inner, select-list, record-clear, record-framed, record-told, complete-told, complete-list}
 
 -- no line applies, the first three neither

@@ -8,7 +8,7 @@ use Rattle.tlv_head.specs.Head.{firstByte, constructed}
 use Rattle.answer_common.specs.Answer.{inside}
 use Rattle.answer_common.specs.Named.{direct, standing}
 use Rattle.answer_common.proofs.Members.{direct-standing}
-use Rattle.answer_record.specs.Records.{recordTag}
+use Rattle.answer_common.specs.Content.{recordTag}
 
 module _ (a : List ℕ) {s : List ℕ} where
   pub record-found : s ≡ inside recordTag a → standing s ≡ direct recordTag a

@@ -9,22 +9,10 @@ use Rattle.slices.specs.Choice.{pick, firstOf}
 use Rattle.tlv_list.specs.Objects.{isSome}
 use Rattle.tlv_list.specs.Lookup.{Lookup}
 use Rattle.dol_wanted.specs.Wanted.{fillable}
-use Rattle.slices.specs.Tables.{anyOf, beside}
+use Rattle.slices.specs.Tables.{anyOf}
 use Rattle.answer_common.specs.Answer.{frame}
+use Rattle.answer_common.specs.Content.{recordTag, recordNames, mandatory}
 use Rattle.answer_common.specs.Named.{listed, direct, times, told, anyTwice, anyWrong}
-use Rattle.answer_record.specs.declared.Seen.{Seen}
-
-abbrev pub recordTag : ℕ
-recordTag = 0x70
-
--- card number, expiry, effective date, version, the object lists for the first and the second GENERATE AC, and the action
--- codes default, denial and online
-abbrev pub recordNames : List ℕ
-recordNames = 0x5A ∷ 0x5F24 ∷ 0x5F25 ∷ 0x9F08 ∷ 0x8C ∷ 0x8D ∷ 0x9F0D ∷ 0x9F0E ∷ 0x9F0F ∷ []
-
--- those that some record must tell
-abbrev pub mandatory : List ℕ
-mandatory = 0x5A ∷ 0x5F24 ∷ 0x8C ∷ 0x8D ∷ []
 
 -- a name is there, and earlier records told it
 unfoldable pub again : Bool → Lookup → Bool
@@ -62,18 +50,3 @@ completeReason there list = firstOf ((incomplete there, 8) ∷ (not (fillable li
 -- the same over all that the records told
 unfoldable pub afterRecords : (ℕ → Option (List ℕ)) → ℕ
 afterRecords facts = completeReason (λ name. isSome (facts name)) (Option·getD (facts 0x8C) [])
-
--- which names were told, as flags
-unfoldable pub toldBy : Seen → ℕ → Bool
-toldBy s name =
-    beside false name
-    ((0x5A, s .number)
-    ∷ (0x5F24, s .expiry)
-    ∷ (0x5F25, s .effective)
-    ∷ (0x9F08, s .version)
-    ∷ (0x8C, s .«first_list»)
-    ∷ (0x8D, s .«second_list»)
-    ∷ (0x9F0D, s .default)
-    ∷ (0x9F0E, s .denial)
-    ∷ (0x9F0F, s .online)
-    ∷ [])

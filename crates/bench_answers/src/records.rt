@@ -1,50 +1,41 @@
 // Answers to READ RECORD, one after the other.
-use answer_record::Seen;
+use answer_common::content::NAMES;
 use answer_record::complete_reason;
 use answer_record::has_value;
 use answer_record::record_reason;
 use answer_record::record_value;
+use session_records::Store;
+use session_records::records::bytes_of;
+use session_records::records::nothing;
+use session_records::records::with_record;
 use text_hex::unhex;
 use text_lines::after_word;
 
-const NAMES: [usize; 9] = [
-    0x5A,
-    0x5F24,
-    0x5F25,
-    0x9F08,
-    0x8C,
-    0x8D,
-    0x9F0D,
-    0x9F0E,
-    0x9F0F,
-];
-
-const FIRST_LIST: usize = 0x8C;
-
 // Each word is one answer.
 pub fn answer(words: &[u8]) {
-    let mut seen = none_seen();
+    let mut store = nothing();
     let mut left = words;
     while 0 < left.len() {
-        if print_word(seen, left) != 0 {
+        if print_word(store, left) != 0 {
             return;
         }
-        seen = seen_after(seen, left);
+        store = store_after(store, left);
         let others = after_word(left);
         left = others;
     }
-    text_print::number(after_last(seen, words));
+    print_last(store);
 }
 
-fn print_word(seen: Seen, word: &[u8]) -> usize {
+fn print_word(store: Store, word: &[u8]) -> usize {
     let mut bytes = [0u8; 500];
     let n = unhex(word, &mut bytes);
-    print_answer(seen, &bytes[0..n])
+    print_answer(store, &bytes[0..n])
 }
 
 // Prints one record's reason and values, and answers the reason.
-fn print_answer(seen: Seen, answer: &[u8]) -> usize {
-    let why = record_reason(seen, answer);
+fn print_answer(store: Store, answer: &[u8]) -> usize {
+    let told = bytes_of(store);
+    let why = record_reason(&told, answer);
     text_print::number(why);
     if why == 0 {
         print_values(answer);
@@ -71,66 +62,14 @@ fn print_value(answer: &[u8], name: usize) {
     }
 }
 
-// The reason after the last record; 8C is looked for once more.
-fn after_last(seen: Seen, words: &[u8]) -> usize {
-    let mut left = words;
-    while 0 < left.len() {
-        if has_list(left) {
-            return reason_with_list(seen, left);
-        }
-        let others = after_word(left);
-        left = others;
-    }
-    complete_reason(seen, b"")
+// The reason after the last record.
+fn print_last(store: Store) {
+    let told = bytes_of(store);
+    text_print::number(complete_reason(&told));
 }
 
-fn has_list(word: &[u8]) -> bool {
+fn store_after(store: Store, word: &[u8]) -> Store {
     let mut bytes = [0u8; 500];
     let n = unhex(word, &mut bytes);
-    has_value(&bytes[0..n], FIRST_LIST)
-}
-
-fn reason_with_list(seen: Seen, word: &[u8]) -> usize {
-    let mut bytes = [0u8; 500];
-    let n = unhex(word, &mut bytes);
-    complete_reason(seen, record_value(&bytes[0..n], FIRST_LIST))
-}
-
-fn none_seen() -> Seen {
-    Seen {
-        number: false,
-        expiry: false,
-        effective: false,
-        version: false,
-        first_list: false,
-        second_list: false,
-        default: false,
-        denial: false,
-        online: false,
-    }
-}
-
-fn seen_after(seen: Seen, word: &[u8]) -> Seen {
-    let mut bytes = [0u8; 500];
-    let n = unhex(word, &mut bytes);
-    seen_with(seen, &bytes[0..n])
-}
-
-// What was told before, and what a further record tells.
-fn seen_with(seen: Seen, answer: &[u8]) -> Seen {
-    Seen {
-        number: told(seen.number, answer, 0x5A),
-        expiry: told(seen.expiry, answer, 0x5F24),
-        effective: told(seen.effective, answer, 0x5F25),
-        version: told(seen.version, answer, 0x9F08),
-        first_list: told(seen.first_list, answer, FIRST_LIST),
-        second_list: told(seen.second_list, answer, 0x8D),
-        default: told(seen.default, answer, 0x9F0D),
-        denial: told(seen.denial, answer, 0x9F0E),
-        online: told(seen.online, answer, 0x9F0F),
-    }
-}
-
-fn told(before: bool, answer: &[u8], name: usize) -> bool {
-    before || has_value(answer, name)
+    with_record(store, &bytes[0..n])
 }

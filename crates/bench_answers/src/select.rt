@@ -3,9 +3,8 @@ use answer_select::pdol;
 use answer_select::select_reason;
 use commands::write::LONGEST;
 use commands::write::options;
-use dol_values::Known;
-use dol_values::keeping::absent;
-use dol_values::keeping::keep;
+use session_records::END;
+use session_records::slots::keep;
 use slices::part;
 use start_fields::fields::LENGTH;
 use text_hex::unhex;
@@ -30,25 +29,12 @@ fn print_answer(start: &[u8], answer: &[u8]) {
     }
 }
 
+// From a TVR and a TSI of zeros, and nothing of the card's.
 fn print_command(start: &[u8], list: &[u8]) {
+    let mut known = [0u8; END];
+    keep(&mut known, 0x95, b"\x00\x00\x00\x00\x00");
+    keep(&mut known, 0x9B, b"\x00\x00");
     let mut buf = [0u8; LONGEST];
-    let n = options(list, start, known_at_first(), &mut buf);
+    let n = options(list, start, &known, &mut buf);
     text_print::bytes(part(&buf, 0, n));
-}
-
-// A TVR and a TSI of zeros, and nothing of the card's.
-fn known_at_first() -> Known {
-    Known {
-        tvr: keep(b"\x00\x00\x00\x00\x00"),
-        tsi: keep(b"\x00\x00"),
-        response: absent(),
-        profile: absent(),
-        number: absent(),
-        expiry: absent(),
-        effective: absent(),
-        version: absent(),
-        default: absent(),
-        denial: absent(),
-        online: absent(),
-    }
 }

@@ -16,7 +16,7 @@ use Rattle.slices.proofs.Writing.{put-length, put-step, laid-fits, laid-short}
 use Rattle.start_fields.specs.Reading.{Terminal}
 use Rattle.dol_wanted.specs.Wanted.{tally, fillable, totalOf, most}
 use Rattle.dol_fill.specs.Filled.{filling, filledList}
-use Rattle.dol_values.specs.declared.Known.{Known}
+use Rattle.session_records.specs.Slots.{Facts}
 use Rattle.dol_wanted.proofs.Entries.{tally-fillable}
 use Rattle.dol_fill.proofs.Filling.{list-length}
 use Rattle.commands.specs.Commands.{dataSize, sizeIn}
@@ -36,7 +36,7 @@ module _ (list : List ℕ) where
   unfolding dataSize
   size-none h = pick-no _ _ _ (cannot h)
 
-pub data-length : (t : Terminal) (k : Known) (list : List ℕ) → length (filling t k list) ≡ dataSize list
+pub data-length : (t : Terminal) (k : Facts) (list : List ℕ) → length (filling t k list) ≡ dataSize list
 unfolding filling dataSize
 data-length t k list =
     pick-ap length (fillable list) (filledList t k list) []

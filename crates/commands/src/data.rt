@@ -1,6 +1,5 @@
 // The data of a command, and the byte that ends it.
 use dol_fill::fill::fill;
-use dol_values::Known;
 use dol_wanted::total;
 use slices::lay;
 ghost use mathlib.Core.Path.{_≡_};
@@ -9,6 +8,7 @@ ghost use Prim.Native.Nat.{_+_, _≤_};
 ghost use lib.ListN.{length};
 ghost use Rattle.slices.specs.Writing.{put};
 ghost use Rattle.start_fields.specs.Reading.{readingOf};
+ghost use Rattle.session_records.specs.Slots.{toldIn};
 ghost use Rattle.dol_fill.specs.Filled.{filling};
 ghost use Rattle.commands.specs.Commands.{dataSize};
 
@@ -21,9 +21,9 @@ pub fn data_size(list: &[u8]) -> usize
 }
 
 // The list filled from a place on, and '00' after it.
-pub fn lay_data(list: &[u8], start: &[u8], known: Known, buf: &mut [u8], at: usize)
+pub fn lay_data(list: &[u8], start: &[u8], known: &[u8], buf: &mut [u8], at: usize)
     requires { ⌜ at + (dataSize (now list) + 1) ≤ length (now buf) ⌝ }
-    ensures { λ _. ⌜ now (buf .exit) ≡ put (filling (readingOf (now (start .entry))) known (now (list .entry)) ++ (0 ∷ [])) at (now (buf .entry)) ⌝ }
+    ensures { λ _. ⌜ now (buf .exit) ≡ put (filling (readingOf (now (start .entry))) (toldIn (now (known .entry))) (now (list .entry)) ++ (0 ∷ [])) at (now (buf .entry)) ⌝ }
 {
     let end = at + data_size(list);
     fill(list, start, known, buf, at);

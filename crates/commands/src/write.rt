@@ -1,13 +1,13 @@
 // The commands.
 use crate::data::data_size;
 use crate::data::lay_data;
-use dol_values::Known;
 use slices::lay;
 use start_fields::fields::aid;
 ghost use mathlib.Core.Path.{_≡_};
 ghost use lib.ListN.{length};
 ghost use Rattle.slices.specs.Writing.{laid};
 ghost use Rattle.start_fields.specs.Reading.{readingOf};
+ghost use Rattle.session_records.specs.Slots.{toldIn};
 ghost use Rattle.dol_fill.specs.Filled.{filling};
 ghost use Rattle.commands.specs.Commands.{selectCommand, optionsCommand, recordCommand, cryptogramCommand, sizeIn};
 
@@ -30,9 +30,9 @@ pub fn select(start: &[u8], buf: &mut [u8]) -> usize
     n + 6
 }
 
-pub fn options(list: &[u8], start: &[u8], known: Known, buf: &mut [u8]) -> usize
-    ensures size { λ r. ⌜ r ≡ sizeIn (length (now (buf .entry))) (optionsCommand (filling (readingOf (now (start .entry))) known (now (list .entry)))) ⌝ }
-    ensures buffer { λ _. ⌜ now (buf .exit) ≡ laid (optionsCommand (filling (readingOf (now (start .entry))) known (now (list .entry)))) 0 (now (buf .entry)) ⌝ }
+pub fn options(list: &[u8], start: &[u8], known: &[u8], buf: &mut [u8]) -> usize
+    ensures size { λ r. ⌜ r ≡ sizeIn (length (now (buf .entry))) (optionsCommand (filling (readingOf (now (start .entry))) (toldIn (now (known .entry))) (now (list .entry)))) ⌝ }
+    ensures buffer { λ _. ⌜ now (buf .exit) ≡ laid (optionsCommand (filling (readingOf (now (start .entry))) (toldIn (now (known .entry))) (now (list .entry)))) 0 (now (buf .entry)) ⌝ }
 {
     let n = data_size(list);
     if n < 0x80 {
@@ -66,9 +66,9 @@ pub fn record(number: u8, file: u8, buf: &mut [u8]) -> usize
     5
 }
 
-pub fn cryptogram(request: u8, list: &[u8], start: &[u8], known: Known, buf: &mut [u8]) -> usize
-    ensures size { λ r. ⌜ r ≡ sizeIn (length (now (buf .entry))) (cryptogramCommand request (filling (readingOf (now (start .entry))) known (now (list .entry)))) ⌝ }
-    ensures buffer { λ _. ⌜ now (buf .exit) ≡ laid (cryptogramCommand request (filling (readingOf (now (start .entry))) known (now (list .entry)))) 0 (now (buf .entry)) ⌝ }
+pub fn cryptogram(request: u8, list: &[u8], start: &[u8], known: &[u8], buf: &mut [u8]) -> usize
+    ensures size { λ r. ⌜ r ≡ sizeIn (length (now (buf .entry))) (cryptogramCommand request (filling (readingOf (now (start .entry))) (toldIn (now (known .entry))) (now (list .entry)))) ⌝ }
+    ensures buffer { λ _. ⌜ now (buf .exit) ≡ laid (cryptogramCommand request (filling (readingOf (now (start .entry))) (toldIn (now (known .entry))) (now (list .entry)))) 0 (now (buf .entry)) ⌝ }
 {
     let n = data_size(list);
     if n == 0 {

@@ -19,7 +19,8 @@ use Rattle.decide_requests.specs.declared.requests.Cryptogram.the-varian
 use Rattle.decide_requests.specs.declared.requests.Given.{Given}
 use Rattle.decide_requests.specs.declared.requests.Given.the-variants.{Of, Reserved}
 use Rattle.decide_tvr.specs.Bits.{joined, meet}
-use Rattle.decide_requests.specs.Codes.{IssuerCodes}
+use Rattle.slices.specs.Tables.{beside}
+use Rattle.session_records.specs.Slots.{Facts}
 use Rattle.decide_requests.specs.Requests.{issuerCode, codeMatch, byType, firstRequest, whenUnable, secondRequest, p1Of, givenBy, firstAllowed, secondAllowed}
 use Rattle.decide_requests.specs.Replies.{codeIn, saidBy, replyOf, responseCode}
 
@@ -35,17 +36,17 @@ first-bit = 0x80 ∷ 0 ∷ 0 ∷ 0 ∷ 0 ∷ []
 abbrev plain : ℕ → Terminal
 plain kind = bare kind none-set none-set none-set
 
-abbrev codes : Option (List ℕ) → Option (List ℕ) → Option (List ℕ) → IssuerCodes
-codes denial online default = record { denial = denial; online = online; default = default }
+abbrev codes : Option (List ℕ) → Option (List ℕ) → Option (List ℕ) → Facts
+codes denial online default tag = beside none tag ((0x9F0E, denial) ∷ (0x9F0F, online) ∷ (0x9F0D, default) ∷ [])
 
-abbrev zero-codes : IssuerCodes
+abbrev zero-codes : Facts
 zero-codes = codes (some none-set) (some none-set) (some none-set)
 
-abbrev no-codes : IssuerCodes
+abbrev no-codes : Facts
 no-codes = codes none none none
 
 -- terminal, issuer codes and TVR, and the first request
-abbrev firsts : List (Terminal × IssuerCodes × List ℕ × Cryptogram)
+abbrev firsts : List (Terminal × Facts × List ℕ × Cryptogram)
 firsts =
     -- case L: all codes zero
     (plain 0, zero-codes, first-bit, Tc) ∷ (plain 1, zero-codes, first-bit, Arqc) ∷ (plain 2, zero-codes, first-bit, Tc)
@@ -64,11 +65,11 @@ firsts =
     ∷ []
 
 firsts-right : map (λ row. firstRequest (row .0) (row .1) (row .2)) firsts ≡ map (λ row. row .3) firsts
-unfolding firstRequest byType codeMatch issuerCode joined meet pick
+unfolding firstRequest byType codeMatch issuerCode joined meet beside pick
 firsts-right = refl
 
 -- reply, terminal, issuer codes and TVR, and the second request
-abbrev seconds : List (HostReply × Terminal × IssuerCodes × List ℕ × Cryptogram)
+abbrev seconds : List (HostReply × Terminal × Facts × List ℕ × Cryptogram)
 seconds =
     (Approve, plain 2, no-codes, first-bit, Tc) ∷ (Decline, plain 2, zero-codes, first-bit, Aac)
     ∷ (Unable, plain 1, zero-codes, first-bit, Aac) ∷ (Unable, plain 1, zero-codes, none-set, Aac)
@@ -78,7 +79,7 @@ seconds =
     ∷ []
 
 seconds-right : map (λ row. secondRequest (row .0) (row .1) (row .2) (row .3)) seconds ≡ map (λ row. row .4) seconds
-unfolding secondRequest whenUnable codeMatch issuerCode joined meet pick
+unfolding secondRequest whenUnable codeMatch issuerCode joined meet beside pick
 seconds-right = refl
 
 p1s : map p1Of (Aac ∷ Tc ∷ Arqc ∷ []) ≡ 0x00 ∷ 0x40 ∷ 0x80 ∷ []

@@ -15,7 +15,7 @@ use Rattle.decide_requests.specs.declared.requests.Cryptogram.the-varian
 use Rattle.decide_requests.specs.declared.requests.Given.{Given}
 use Rattle.decide_requests.specs.declared.requests.Given.the-variants.{Of, Reserved}
 use Rattle.decide_tvr.specs.Bits.{joined, meet}
-use Rattle.decide_requests.specs.Codes.{IssuerCodes}
+use Rattle.session_records.specs.Slots.{Facts}
 
 -- the codes that the card gave, or five bytes of what stands for absent ones
 unfoldable pub issuerCode : ℕ → Option (List ℕ) → List ℕ
@@ -26,17 +26,17 @@ issuerCode absent (some code) = code
 unfoldable pub codeMatch : ℕ → Option (List ℕ) → List ℕ → List ℕ → Bool
 codeMatch absent issuer terminal tvr = meet (joined (issuerCode absent issuer) terminal) tvr
 
--- absent: all zeros
-abbrev pub denialMatch : Terminal → IssuerCodes → List ℕ → Bool
-denialMatch t c tvr = codeMatch 0x00 (c .denial) (t .denial) tvr
+-- 9F0E of what the records told; absent: all zeros
+abbrev pub denialMatch : Terminal → Facts → List ℕ → Bool
+denialMatch t told tvr = codeMatch 0x00 (told 0x9F0E) (t .denial) tvr
 
--- absent: all ones
-abbrev pub onlineMatch : Terminal → IssuerCodes → List ℕ → Bool
-onlineMatch t c tvr = codeMatch 0xFF (c .online) (t .online) tvr
+-- 9F0F; absent: all ones
+abbrev pub onlineMatch : Terminal → Facts → List ℕ → Bool
+onlineMatch t told tvr = codeMatch 0xFF (told 0x9F0F) (t .online) tvr
 
--- absent: all ones
-abbrev pub defaultMatch : Terminal → IssuerCodes → List ℕ → Bool
-defaultMatch t c tvr = codeMatch 0xFF (c .default) (t .default) tvr
+-- 9F0D; absent: all ones
+abbrev pub defaultMatch : Terminal → Facts → List ℕ → Bool
+defaultMatch t told tvr = codeMatch 0xFF (told 0x9F0D) (t .default) tvr
 
 -- the first request by the terminal's type and by whether its default and its online codes match: type 0 never goes
 -- online, type 1 always does, type 2 where an online code says so
@@ -47,17 +47,17 @@ byType kind default online =
     (pick (eqb kind 2) (pick online Arqc Tc) Tc))
 
 -- a denial comes before all that
-unfoldable pub firstRequest : Terminal → IssuerCodes → List ℕ → Cryptogram
-firstRequest t c tvr = pick (denialMatch t c tvr) Aac (byType (t .kind) (defaultMatch t c tvr) (onlineMatch t c tvr))
+unfoldable pub firstRequest : Terminal → Facts → List ℕ → Cryptogram
+firstRequest t told tvr = pick (denialMatch t told tvr) Aac (byType (t .kind) (defaultMatch t told tvr) (onlineMatch t told tvr))
 
 -- the second request where the issuer could not be reached, by type and by whether a default code matches
 unfoldable pub whenUnable : ℕ → Bool → Cryptogram
 whenUnable kind default = pick (eqb kind 1) Aac (pick default Aac Tc)
 
-unfoldable pub secondRequest : HostReply → Terminal → IssuerCodes → List ℕ → Cryptogram
-secondRequest Approve t c tvr = Tc
-secondRequest Decline t c tvr = Aac
-secondRequest Unable t c tvr = whenUnable (t .kind) (defaultMatch t c tvr)
+unfoldable pub secondRequest : HostReply → Terminal → Facts → List ℕ → Cryptogram
+secondRequest Approve t told tvr = Tc
+secondRequest Decline t told tvr = Aac
+secondRequest Unable t told tvr = whenUnable (t .kind) (defaultMatch t told tvr)
 
 -- P1 of GENERATE AC: 01, "The commands"
 abbrev pub p1Of : Cryptogram → ℕ

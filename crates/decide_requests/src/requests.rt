@@ -1,11 +1,13 @@
 // What the terminal asks of the card, and which answers a request allows.
 ghost use mathlib.Core.Path.{_≡_};
 ghost use Rattle.start_fields.specs.Reading.{readingOf, bytesOf};
-ghost use Rattle.decide_tvr.specs.Card.{given};
-ghost use Rattle.decide_requests.specs.Codes.{codesOf};
+ghost use Rattle.session_records.specs.Slots.{toldIn};
+ghost use Rattle.decide_tvr.specs.Bits.{meet};
 ghost use Rattle.decide_requests.specs.Requests.{issuerCode, codeMatch, denialMatch, onlineMatch, defaultMatch, byType, firstRequest, whenUnable, secondRequest, p1Of, givenBy, answersFirst, firstAllowed, answersSecond, secondAllowed};
 use super::reply::HostReply;
 use decide_tvr::bits;
+use session_records::slots::has;
+use session_records::slots::value;
 use start_fields::fields;
 use start_fields::fields::Field;
 
@@ -22,57 +24,41 @@ pub enum Given {
     Reserved,
 }
 
-// An action code of the issuer's, where the card gave it.
-pub struct Code {
-    pub present: bool,
-    pub bytes: [u8; 5],
-}
-
-// 9F0E, 9F0F and 9F0D.
-pub struct Codes {
-    pub denial: Code,
-    pub online: Code,
-    pub default: Code,
-}
-
-fn issuer_code(code: Code, absent: u8) -> [u8; 5]
-    ensures { λ r. ⌜ r ≡ issuerCode absent (given (code .present) (code .bytes)) ⌝ }
+// Whether the TVR has a bit of the issuer's code, as the records told it; one that is absent is five bytes of `absent`.
+fn issuer_match(told: &[u8], tag: usize, absent: u8, tvr: [u8; 5]) -> bool
+    ensures { λ r. ⌜ r ≡ meet (issuerCode absent (toldIn (now (told .entry)) tag)) tvr ⌝ }
 {
-    if code.present {
-        let bytes = code.bytes;
-        bytes
+    if has(told, tag) {
+        bits::in_both(value(told, tag), &tvr)
     } else {
-        [absent; 5]
+        let none = [absent; 5];
+        bits::in_both(&none, &tvr)
     }
 }
 
 // Whether the TVR has a bit of the issuer's code or of the terminal's.
-fn code_match(issuer: Code, absent: u8, start: &[u8], which: Field, tvr: [u8; 5]) -> bool
-    ensures { λ r. ⌜ r ≡ codeMatch absent (given (issuer .present) (issuer .bytes)) (bytesOf which (readingOf (now (start .entry)))) tvr ⌝ }
+fn code_match(told: &[u8], tag: usize, absent: u8, start: &[u8], which: Field, tvr: [u8; 5]) -> bool
+    ensures { λ r. ⌜ r ≡ codeMatch absent (toldIn (now (told .entry)) tag) (bytesOf which (readingOf (now (start .entry)))) tvr ⌝ }
 {
-    let code = issuer_code(issuer, absent);
-    bits::in_both(&code, &tvr) || bits::in_both(fields::bytes(start, which), &tvr)
+    issuer_match(told, tag, absent, tvr) || bits::in_both(fields::bytes(start, which), &tvr)
 }
 
-fn denial_match(start: &[u8], issuer: Codes, tvr: [u8; 5]) -> bool
-    ensures { λ r. ⌜ r ≡ denialMatch (readingOf (now (start .entry))) (codesOf issuer) tvr ⌝ }
+fn denial_match(start: &[u8], told: &[u8], tvr: [u8; 5]) -> bool
+    ensures { λ r. ⌜ r ≡ denialMatch (readingOf (now (start .entry))) (toldIn (now (told .entry))) tvr ⌝ }
 {
-    let code = issuer.denial;
-    code_match(code, 0x00, start, Field::Denial, tvr)
+    code_match(told, 0x9F0E, 0x00, start, Field::Denial, tvr)
 }
 
-fn online_match(start: &[u8], issuer: Codes, tvr: [u8; 5]) -> bool
-    ensures { λ r. ⌜ r ≡ onlineMatch (readingOf (now (start .entry))) (codesOf issuer) tvr ⌝ }
+fn online_match(start: &[u8], told: &[u8], tvr: [u8; 5]) -> bool
+    ensures { λ r. ⌜ r ≡ onlineMatch (readingOf (now (start .entry))) (toldIn (now (told .entry))) tvr ⌝ }
 {
-    let code = issuer.online;
-    code_match(code, 0xFF, start, Field::Online, tvr)
+    code_match(told, 0x9F0F, 0xFF, start, Field::Online, tvr)
 }
 
-fn default_match(start: &[u8], issuer: Codes, tvr: [u8; 5]) -> bool
-    ensures { λ r. ⌜ r ≡ defaultMatch (readingOf (now (start .entry))) (codesOf issuer) tvr ⌝ }
+fn default_match(start: &[u8], told: &[u8], tvr: [u8; 5]) -> bool
+    ensures { λ r. ⌜ r ≡ defaultMatch (readingOf (now (start .entry))) (toldIn (now (told .entry))) tvr ⌝ }
 {
-    let code = issuer.default;
-    code_match(code, 0xFF, start, Field::Default, tvr)
+    code_match(told, 0x9F0D, 0xFF, start, Field::Default, tvr)
 }
 
 // The first request by the terminal's type, where no code denies.
@@ -99,14 +85,14 @@ fn by_type(kind: u8, default: bool, online: bool) -> Cryptogram
     }
 }
 
-pub fn first_request(start: &[u8], issuer: Codes, tvr: [u8; 5]) -> Cryptogram
-    ensures { λ r. ⌜ r ≡ firstRequest (readingOf (now (start .entry))) (codesOf issuer) tvr ⌝ }
+pub fn first_request(start: &[u8], told: &[u8], tvr: [u8; 5]) -> Cryptogram
+    ensures { λ r. ⌜ r ≡ firstRequest (readingOf (now (start .entry))) (toldIn (now (told .entry))) tvr ⌝ }
 {
-    if denial_match(start, issuer, tvr) {
+    if denial_match(start, told, tvr) {
         return Cryptogram::Aac;
     }
-    let default = default_match(start, issuer, tvr);
-    let online = online_match(start, issuer, tvr);
+    let default = default_match(start, told, tvr);
+    let online = online_match(start, told, tvr);
     by_type(fields::kind(start), default, online)
 }
 
@@ -123,14 +109,14 @@ fn when_unable(kind: u8, default: bool) -> Cryptogram
     }
 }
 
-pub fn second_request(reply: HostReply, start: &[u8], issuer: Codes, tvr: [u8; 5]) -> Cryptogram
-    ensures { λ r. ⌜ r ≡ secondRequest reply (readingOf (now (start .entry))) (codesOf issuer) tvr ⌝ }
+pub fn second_request(reply: HostReply, start: &[u8], told: &[u8], tvr: [u8; 5]) -> Cryptogram
+    ensures { λ r. ⌜ r ≡ secondRequest reply (readingOf (now (start .entry))) (toldIn (now (told .entry))) tvr ⌝ }
 {
     match reply {
         HostReply::Approve => Cryptogram::Tc,
         HostReply::Decline => Cryptogram::Aac,
         HostReply::Unable => {
-            let default = default_match(start, issuer, tvr);
+            let default = default_match(start, told, tvr);
             when_unable(fields::kind(start), default)
         }
     }

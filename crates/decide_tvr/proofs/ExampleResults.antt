@@ -12,7 +12,8 @@ use Rattle.decimal_dates.specs.Decimal.{decimal, decimalFrom}
 use Rattle.decimal_dates.specs.Dates.{dateKey}
 use Rattle.start_fields.specs.Reading.{Terminal}
 use Rattle.decide_tvr.specs.Bits.{joined, flag}
-use Rattle.decide_tvr.specs.Card.{CardFacts}
+use Rattle.slices.specs.Tables.{beside}
+use Rattle.session_records.specs.Slots.{Facts}
 use Rattle.decide_tvr.specs.Selection.{biased, chosen, selected}
 use Rattle.decide_tvr.specs.Results.{differentVersions, expired, notYetEffective, riskManaged, atFloorLimit, drawn, restrictions, risks, tvrAfterRecords, tsiAfterRecords, tsiAfterFirstAnswer}
 
@@ -67,15 +68,15 @@ at kind amount =
     }
 
 -- a card with or without risk management, a version, an expiry day in June 2025, and a first day in June 2025
-abbrev card : ℕ → Option (List ℕ) → ℕ → Option (List ℕ) → CardFacts
+abbrev card : ℕ → Option (List ℕ) → ℕ → Option (List ℕ) → List ℕ × Facts
 card aip version expiry effective =
-    record { aip = aip ∷ 0 ∷ []; version = version; expiry = 0x25 ∷ 0x06 ∷ expiry ∷ []; effective = effective }
+    (aip ∷ 0 ∷ [], λ tag. beside none tag ((0x9F08, version) ∷ (0x5F24, some (0x25 ∷ 0x06 ∷ expiry ∷ [])) ∷ (0x5F25, effective) ∷ []))
 
 abbrev june : ℕ → Option (List ℕ)
 june day = some (0x25 ∷ 0x06 ∷ day ∷ [])
 
 -- terminal, card, and the TVR that follows from zeros
-abbrev facts : List (Terminal × CardFacts × List ℕ)
+abbrev facts : List (Terminal × (List ℕ × Facts) × List ℕ)
 facts =
     -- data authentication was not performed; the day itself is neither before nor after the date, and nothing else is set
     (at 0 0x10, card 0 none 0x30 none, 0x80 ∷ 0 ∷ 0 ∷ 0 ∷ 0 ∷ [])
@@ -96,16 +97,16 @@ facts =
     ∷ (at 1 0x59, card 0x08 none 0x30 none, 0x80 ∷ 0 ∷ 0 ∷ 0 ∷ 0 ∷ [])
     ∷ []
 
-facts-right : map (λ row. tvrAfterRecords (row .0) (row .1) (0 ∷ 0 ∷ 0 ∷ 0 ∷ 0 ∷ [])) facts ≡ map (λ row. row .2) facts
-unfolding tvrAfterRecords joined restrictions risks flag differentVersions alike expired notYetEffective dateKey riskManaged atFloorLimit drawn every selected chosen biased decimal decimalFrom pick
+facts-right : map (λ row. tvrAfterRecords (row .0) (row .1 .0) (row .1 .1) (0 ∷ 0 ∷ 0 ∷ 0 ∷ 0 ∷ [])) facts ≡ map (λ row. row .2) facts
+unfolding tvrAfterRecords joined restrictions risks flag differentVersions alike expired notYetEffective dateKey riskManaged atFloorLimit drawn every selected chosen biased decimal decimalFrom beside pick
 facts-right = refl
 
 -- bits that stand are left standing
-tvr-left-standing : tvrAfterRecords (at 0 0x10) (card 0 none 0x29 none) (0x41 ∷ 0xFF ∷ 0x24 ∷ 0x08 ∷ 0x01 ∷ []) ≡ 0xC1 ∷ 0xFF ∷ 0x24 ∷ 0x08 ∷ 0x01 ∷ []
-unfolding tvrAfterRecords joined restrictions risks flag differentVersions expired notYetEffective dateKey riskManaged pick
+tvr-left-standing : tvrAfterRecords (at 0 0x10) (0 ∷ 0 ∷ []) (card 0 none 0x29 none .1) (0x41 ∷ 0xFF ∷ 0x24 ∷ 0x08 ∷ 0x01 ∷ []) ≡ 0xC1 ∷ 0xFF ∷ 0x24 ∷ 0x08 ∷ 0x01 ∷ []
+unfolding tvrAfterRecords joined restrictions risks flag differentVersions expired notYetEffective dateKey riskManaged beside pick
 tvr-left-standing = refl
 
-tsi-right : map (λ aip. tsiAfterRecords (card aip none 0x30 none) (0 ∷ 0 ∷ [])) (0x08 ∷ 0xF7 ∷ []) ≡ (0x08 ∷ 0 ∷ []) ∷ (0 ∷ 0 ∷ []) ∷ []
+tsi-right : map (λ aip. tsiAfterRecords (aip ∷ 0 ∷ []) (0 ∷ 0 ∷ [])) (0x08 ∷ 0xF7 ∷ []) ≡ (0x08 ∷ 0 ∷ []) ∷ (0 ∷ 0 ∷ []) ∷ []
 unfolding tsiAfterRecords joined flag riskManaged pick
 tsi-right = refl
 

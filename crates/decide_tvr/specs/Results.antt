@@ -3,7 +3,7 @@
 -- Assumes nothing.
 use mathlib.Core.Bool.{Bool, false, not}
 use mathlib.Core.List.{List, [], _∷_}
-use mathlib.Core.Option.{Option, some, none}
+use mathlib.Core.Option.{Option, some, none, Option·getD}
 use Prim.Native.Nat.{ℕ, _+_}
 use lib.Bits.{bitAnd}
 use lib.Dec.{leb, ltb, eqb}
@@ -13,7 +13,7 @@ use Rattle.slices.specs.Tests.{every, alike}
 use Rattle.decimal_dates.specs.Dates.{dateKey}
 use Rattle.start_fields.specs.Reading.{Terminal, amountOf, floorLimitOf}
 use Rattle.decide_tvr.specs.Bits.{joined, flag}
-use Rattle.decide_tvr.specs.Card.{CardFacts}
+use Rattle.session_records.specs.Slots.{Facts}
 use Rattle.decide_tvr.specs.Selection.{selected}
 
 -- 9F08 is there and differs from the terminal's version (003, 7.4.1)
@@ -47,20 +47,22 @@ abbrev pub authentication : ℕ
 authentication = 0x80
 
 -- byte 2: b8 different versions, b7 expired, b6 not yet effective
-unfoldable pub restrictions : Terminal → CardFacts → ℕ
-restrictions t f = flag (differentVersions t (f .version)) 0x80 + (flag (expired t (f .expiry)) 0x40 + flag (notYetEffective t (f .effective)) 0x20)
+unfoldable pub restrictions : Terminal → Facts → ℕ
+restrictions t told =
+    flag (differentVersions t (told 0x9F08)) 0x80
+    + (flag (expired t (Option·getD (told 0x5F24) [])) 0x40 + flag (notYetEffective t (told 0x5F25)) 0x20)
 
 -- byte 4: b8 floor limit, b5 selected at random
-unfoldable pub risks : Terminal → CardFacts → ℕ
-risks t f = pick (riskManaged (f .aip)) (flag (atFloorLimit t) 0x80 + flag (drawn t) 0x10) 0
+unfoldable pub risks : Terminal → List ℕ → ℕ
+risks t aip = pick (riskManaged aip) (flag (atFloorLimit t) 0x80 + flag (drawn t) 0x10) 0
 
--- after the last record
-unfoldable pub tvrAfterRecords : Terminal → CardFacts → List ℕ → List ℕ
-tvrAfterRecords t f tvr = joined tvr (authentication ∷ restrictions t f ∷ 0 ∷ risks t f ∷ 0 ∷ [])
+-- after the last record, given the AIP and what the records told
+unfoldable pub tvrAfterRecords : Terminal → List ℕ → Facts → List ℕ → List ℕ
+tvrAfterRecords t aip told tvr = joined tvr (authentication ∷ restrictions t told ∷ 0 ∷ risks t aip ∷ 0 ∷ [])
 
 -- byte 1: b4, terminal risk management was performed
-unfoldable pub tsiAfterRecords : CardFacts → List ℕ → List ℕ
-tsiAfterRecords f tsi = joined tsi (flag (riskManaged (f .aip)) 0x08 ∷ 0 ∷ [])
+unfoldable pub tsiAfterRecords : List ℕ → List ℕ → List ℕ
+tsiAfterRecords aip tsi = joined tsi (flag (riskManaged aip) 0x08 ∷ 0 ∷ [])
 
 -- byte 1: b6, card risk management was performed; an allowed first answer sets it
 unfoldable pub tsiAfterFirstAnswer : List ℕ → List ℕ

@@ -1,57 +1,39 @@
 // The TVR and the TSI after the last record, and after the first answer.
 ghost use mathlib.Core.Path.{_≡_};
 ghost use Rattle.start_fields.specs.Reading.{readingOf};
-ghost use Rattle.decide_tvr.specs.Card.{factsOf, given};
+ghost use mathlib.Core.List.{[]};
+ghost use mathlib.Core.Option.{Option·getD};
+ghost use Rattle.session_records.specs.Slots.{toldIn};
 ghost use Rattle.decide_tvr.specs.Results.{differentVersions, expired as expiredOf, notYetEffective, riskManaged, atFloorLimit, drawn as drawnOf, restrictions as restrictionsOf, risks as risksOf, tvrAfterRecords, tsiAfterRecords, tsiAfterFirstAnswer};
 use super::bits;
 use super::selection::selected;
 use decimal_dates::dates::date_key;
+use session_records::slots::has;
+use session_records::slots::value;
 use start_fields::fields;
 use start_fields::fields::Field;
 
-// 9F08, where the card gave it.
-pub struct Version {
-    pub present: bool,
-    pub bytes: [u8; 2],
-}
-
-// 5F25, where the card gave it.
-pub struct Date {
-    pub present: bool,
-    pub bytes: [u8; 3],
-}
-
-// What the card has told that the TVR and the TSI depend on.
-pub struct Facts {
-    pub aip: [u8; 2],
-    pub version: Version,
-    pub expiry: [u8; 3],
-    pub effective: Date,
-}
-
-fn different_versions(start: &[u8], version: Version) -> bool
-    ensures { λ r. ⌜ r ≡ differentVersions (readingOf (now (start .entry))) (given (version .present) (version .bytes)) ⌝ }
+fn different_versions(start: &[u8], told: &[u8]) -> bool
+    ensures { λ r. ⌜ r ≡ differentVersions (readingOf (now (start .entry))) (toldIn (now (told .entry)) 0x9F08) ⌝ }
 {
-    if version.present {
-        let told = version.bytes;
-        !slices::alike(&told, fields::bytes(start, Field::Version))
+    if has(told, 0x9F08) {
+        !slices::alike(value(told, 0x9F08), fields::bytes(start, Field::Version))
     } else {
         false
     }
 }
 
-fn expired(start: &[u8], expiry: [u8; 3]) -> bool
-    ensures { λ r. ⌜ r ≡ expiredOf (readingOf (now (start .entry))) expiry ⌝ }
+fn expired(start: &[u8], told: &[u8]) -> bool
+    ensures { λ r. ⌜ r ≡ expiredOf (readingOf (now (start .entry))) (Option·getD (toldIn (now (told .entry)) 0x5F24) []) ⌝ }
 {
-    date_key(&expiry) < date_key(fields::bytes(start, Field::Date))
+    date_key(value(told, 0x5F24)) < date_key(fields::bytes(start, Field::Date))
 }
 
-fn not_yet_effective(start: &[u8], effective: Date) -> bool
-    ensures { λ r. ⌜ r ≡ notYetEffective (readingOf (now (start .entry))) (given (effective .present) (effective .bytes)) ⌝ }
+fn not_yet_effective(start: &[u8], told: &[u8]) -> bool
+    ensures { λ r. ⌜ r ≡ notYetEffective (readingOf (now (start .entry))) (toldIn (now (told .entry)) 0x5F25) ⌝ }
 {
-    if effective.present {
-        let told = effective.bytes;
-        date_key(fields::bytes(start, Field::Date)) < date_key(&told)
+    if has(told, 0x5F25) {
+        date_key(fields::bytes(start, Field::Date)) < date_key(value(told, 0x5F25))
     } else {
         false
     }
@@ -78,21 +60,17 @@ fn drawn(start: &[u8]) -> bool
     fields::amount(start) < fields::floor_limit(start) && selected(start)
 }
 
-fn restrictions(start: &[u8], facts: Facts) -> u8
-    ensures { λ r. ⌜ r ≡ restrictionsOf (readingOf (now (start .entry))) (factsOf facts) ⌝ }
+fn restrictions(start: &[u8], told: &[u8]) -> u8
+    ensures { λ r. ⌜ r ≡ restrictionsOf (readingOf (now (start .entry))) (toldIn (now (told .entry))) ⌝ }
 {
-    let version = facts.version;
-    let expiry = facts.expiry;
-    let effective = facts.effective;
-    bits::flag(different_versions(start, version), 0x80)
-        + (bits::flag(expired(start, expiry), 0x40)
-            + bits::flag(not_yet_effective(start, effective), 0x20))
+    bits::flag(different_versions(start, told), 0x80)
+        + (bits::flag(expired(start, told), 0x40)
+            + bits::flag(not_yet_effective(start, told), 0x20))
 }
 
-fn risks(start: &[u8], facts: Facts) -> u8
-    ensures { λ r. ⌜ r ≡ risksOf (readingOf (now (start .entry))) (factsOf facts) ⌝ }
+fn risks(start: &[u8], aip: [u8; 2]) -> u8
+    ensures { λ r. ⌜ r ≡ risksOf (readingOf (now (start .entry))) aip ⌝ }
 {
-    let aip = facts.aip;
     if risk_managed(aip) {
         bits::flag(at_floor_limit(start), 0x80) + bits::flag(drawn(start), 0x10)
     } else {
@@ -100,17 +78,17 @@ fn risks(start: &[u8], facts: Facts) -> u8
     }
 }
 
-pub fn tvr_after_records(start: &[u8], facts: Facts, tvr: [u8; 5]) -> [u8; 5]
-    ensures { λ r. ⌜ r ≡ tvrAfterRecords (readingOf (now (start .entry))) (factsOf facts) tvr ⌝ }
+// Given START, the AIP and the slots of what the records told.
+pub fn tvr_after_records(start: &[u8], aip: [u8; 2], told: &[u8], tvr: [u8; 5]) -> [u8; 5]
+    ensures { λ r. ⌜ r ≡ tvrAfterRecords (readingOf (now (start .entry))) aip (toldIn (now (told .entry))) tvr ⌝ }
 {
-    let set = [0x80, restrictions(start, facts), 0, risks(start, facts), 0];
+    let set = [0x80, restrictions(start, told), 0, risks(start, aip), 0];
     bits::join5(tvr, set)
 }
 
-pub fn tsi_after_records(facts: Facts, tsi: [u8; 2]) -> [u8; 2]
-    ensures { λ r. ⌜ r ≡ tsiAfterRecords (factsOf facts) tsi ⌝ }
+pub fn tsi_after_records(aip: [u8; 2], tsi: [u8; 2]) -> [u8; 2]
+    ensures { λ r. ⌜ r ≡ tsiAfterRecords aip tsi ⌝ }
 {
-    let aip = facts.aip;
     let set = [bits::flag(risk_managed(aip), 0x08), 0];
     bits::join2(tsi, set)
 }

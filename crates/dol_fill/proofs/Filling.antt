@@ -20,19 +20,19 @@ use Rattle.dol_wanted.specs.Wanted.{Wanted, andThen, sizeAt, firstWanted, entri
 use Rattle.dol_fill.specs.Filled.{entryBytes, firstBytes, filled, filledBy, filledList, filling}
 use Rattle.dol_values.specs.Known.{supplied}
 use Rattle.dol_values.specs.Shape.{shaped}
-use Rattle.dol_values.specs.declared.Known.{Known}
-use Rattle.dol_values.specs.declared.Format.{Format}
-use Rattle.dol_values.specs.declared.Format.the-variants.{Numeric, CardNumber, Other}
+use Rattle.session_records.specs.Slots.{Facts}
+use Rattle.answer_common.specs.declared.content.Format.{Format}
+use Rattle.answer_common.specs.declared.content.Format.the-variants.{Numeric, CardNumber, Other, Unknown}
 use Rattle.dol_wanted.proofs.Entries.{entries-more, asked, turn-some, tally-fillable}
 
 -- the entry at the front of a well-formed list, and the rest
-filled-then : (w : Wanted) (t : Terminal) (k : Known) (o : Option (List Wanted)) → isSome o ≡ true
+filled-then : (w : Wanted) (t : Terminal) (k : Facts) (o : Option (List Wanted)) → isSome o ≡ true
     → filledBy t k (andThen w o) ≡ entryBytes (w .size) (supplied t k (w .tag)) ++ filledBy t k o
 unfolding isSome andThen filledBy filled
 filled-then w t k none e = absurd (false≢true e)
 filled-then w t k (some ws) e = refl
 
-turn-filled : (r : List ℕ) (some-bytes : 0 < length r) (right : isSome (entriesOf r) ≡ true) (t : Terminal) (k : Known)
+turn-filled : (r : List ℕ) (some-bytes : 0 < length r) (right : isSome (entriesOf r) ≡ true) (t : Terminal) (k : Facts)
     → filledBy t k (entriesOf r) ≡ firstBytes t k r ++ filledBy t k (entriesOf (drop (tagSize r + 1) r))
 unfolding firstWanted firstBytes
 turn-filled r some-bytes right t k =
@@ -50,29 +50,30 @@ shaped-length CardNumber n v =
 shaped-length Other n v =
     length-append (take n v) (zeros (n - length v))
     ∙ (ap₂ _+_ (length-take n v) (zeros-length (n - length v)) ∙ (let e : min n (length v) + (n - length v) ≡ n = omega arith in e))
+shaped-length Unknown n v = zeros-length n
 
 pub entry-length : (n : ℕ) (o : Option (Format × List ℕ)) → length (entryBytes n o) ≡ n
 unfolding entryBytes
 entry-length n none = zeros-length n
 entry-length n (some v) = shaped-length (v .0) n (v .1)
 
-pub first-length : (t : Terminal) (k : Known) (r : List ℕ) → length (firstBytes t k r) ≡ sizeAt r
+pub first-length : (t : Terminal) (k : Facts) (r : List ℕ) → length (firstBytes t k r) ≡ sizeAt r
 unfolding firstBytes
 first-length t k r = entry-length (sizeAt r) (supplied t k (tagOf r))
 
-filled-length : (t : Terminal) (k : Known) (ws : List Wanted) → length (filled t k ws) ≡ total ws
+filled-length : (t : Terminal) (k : Facts) (ws : List Wanted) → length (filled t k ws) ≡ total ws
 unfolding filled total
 filled-length t k [] = refl
 filled-length t k (w ∷ ws) =
     length-append (entryBytes (w .size) (supplied t k (w .tag))) (filled t k ws)
     ∙ ap₂ _+_ (entry-length (w .size) (supplied t k (w .tag))) (filled-length t k ws)
 
-filled-by-length : (t : Terminal) (k : Known) (o : Option (List Wanted)) → length (filledBy t k o) ≡ totalBy o
+filled-by-length : (t : Terminal) (k : Facts) (o : Option (List Wanted)) → length (filledBy t k o) ≡ totalBy o
 unfolding filledBy totalBy
 filled-by-length t k none = refl
 filled-by-length t k (some ws) = filled-length t k ws
 
-pub list-length : (t : Terminal) (k : Known) (list : List ℕ) → length (filledList t k list) ≡ totalOf list
+pub list-length : (t : Terminal) (k : Facts) (list : List ℕ) → length (filledList t k list) ≡ totalOf list
 unfolding filledList totalOf
 list-length t k list = filled-by-length t k (entriesOf list)
 
@@ -83,7 +84,7 @@ place-length buf p n h =
     length-take (p + n - p) (drop p buf) ∙ (let e : min (p + n - p) (length (drop p buf)) ≡ n = omega arith in e)
 
 -- a list that can be filled, and one that cannot
-module _ (t : Terminal) (k : Known) (list : List ℕ) where
+module _ (t : Terminal) (k : Facts) (list : List ℕ) where
   pub filling-yes : tally list ≤ most → (fillable list ≡ true) × (tally list ≡ totalOf list) × (filling t k list ≡ filledList t k list)
   unfolding filling tally
   filling-yes h =
@@ -95,7 +96,7 @@ module _ (t : Terminal) (k : Known) (list : List ℕ) where
   filling-no h = pick-no _ _ _ (sym (tally-fillable list) ∙ lt-leb (tally list) most h)
 
 -- writing the entry at the front and then the rest is writing all of it
-pub turn-put : (t : Terminal) (k : Known) (r buf : List ℕ) (p : ℕ) → 0 < length r → isSome (entriesOf r) ≡ true → p + sizeAt r ≤ length buf
+pub turn-put : (t : Terminal) (k : Facts) (r buf : List ℕ) (p : ℕ) → 0 < length r → isSome (entriesOf r) ≡ true → p + sizeAt r ≤ length buf
     → put (filledBy t k (entriesOf (drop (tagSize r + 1) r))) (p + sizeAt r) (put (firstBytes t k r) p buf) ≡ put (filledBy t k (entriesOf r)) p buf
 turn-put t k r buf p h right fits′ =
     let x = firstBytes t k r in

@@ -1,3 +1,2 @@
 pub mod Shaping
-pub mod Tables
 pub mod Pinned

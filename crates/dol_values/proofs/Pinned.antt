@@ -3,9 +3,10 @@
 use mathlib.Core.Path.{_≡_, refl}
 use mathlib.Core.List.{[], _∷_}
 use Rattle.slices.specs.Choice.{pick}
+use Rattle.slices.specs.Tables.{beside}
 use Rattle.slices.specs.Writing.{zeros}
-use Rattle.dol_values.specs.Shape.{shaped, numeric, formatOf}
-use Rattle.dol_values.specs.declared.Format.the-variants.{Numeric, CardNumber, Other}
+use Rattle.dol_values.specs.Shape.{shaped, formatOf}
+use Rattle.answer_common.specs.declared.content.Format.the-variants.{Numeric, CardNumber, Other, Unknown}
 
 -- numeric: cut and filled on the left
 numeric-shapes :
@@ -28,6 +29,6 @@ other-shapes = (refl, refl)
 formats :
     (formatOf 0x9F02 ≡ Numeric) × (formatOf 0x9F03 ≡ Numeric) × (formatOf 0x9F1A ≡ Numeric) × (formatOf 0x5F2A ≡ Numeric) × (formatOf 0x9A ≡ Numeric)
     × (formatOf 0x9C ≡ Numeric) × (formatOf 0x5F24 ≡ Numeric) × (formatOf 0x5F25 ≡ Numeric) × (formatOf 0x5A ≡ CardNumber) × (formatOf 0x9F37 ≡ Other)
-    × (formatOf 0x95 ≡ Other) × (formatOf 0x8A ≡ Other) × (formatOf 0x9F0D ≡ Other)
-unfolding formatOf numeric pick
-formats = (refl, refl, refl, refl, refl, refl, refl, refl, refl, refl, refl, refl, refl)
+    × (formatOf 0x95 ≡ Other) × (formatOf 0x8A ≡ Other) × (formatOf 0x9F0D ≡ Other) × (formatOf 0x8C ≡ Unknown) × (formatOf 0x9F27 ≡ Unknown)
+unfolding formatOf beside pick
+formats = (refl, refl, refl, refl, refl, refl, refl, refl, refl, refl, refl, refl, refl, refl, refl)

@@ -10,8 +10,8 @@ use lib.Seq.{take-at, drop-at, take-all, take-length}
 use Rattle.slices.specs.Writing.{put, laid, zeros}
 use Rattle.slices.proofs.Writing.{laid-fits, put-start}
 use Rattle.dol_values.specs.Shape.{shaped}
-use Rattle.dol_values.specs.declared.Format.{Format}
-use Rattle.dol_values.specs.declared.Format.the-variants.{Numeric, CardNumber, Other}
+use Rattle.answer_common.specs.declared.content.Format.{Format}
+use Rattle.answer_common.specs.declared.content.Format.the-variants.{Numeric, CardNumber, Other}
 
 module _ (n k a : ℕ) (h : k ≤ n) where
   parted : replicate n a ≡ replicate k a ++ replicate (n - k) a

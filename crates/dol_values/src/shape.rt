@@ -1,5 +1,5 @@
 // A value in the room that a list entry gives it.
-use crate::Format;
+use answer_common::content::Format;
 use slices::blank;
 use slices::lay;
 ghost use mathlib.Core.Path.{_≡_};
@@ -42,5 +42,6 @@ pub fn shape(part: &mut [u8], format: Format, v: &[u8])
         Format::Numeric => at_right_end(part, v),
         Format::CardNumber => at_left_end(part, v, 0xFF),
         Format::Other => at_left_end(part, v, 0),
+        Format::Unknown => blank(part, 0),
     }
 }

@@ -24,7 +24,7 @@ use Rattle.decide_requests.specs.declared.reply.HostReply.{HostReply}
 use Rattle.decide_requests.specs.declared.reply.HostReply.the-variants.{Unable}
 use Rattle.decide_tvr.proofs.Rows.{joined-self, kept-on}
 use Rattle.decide_tvr.proofs.Laws.{tvr-kept, tsi-kept, tsi-kept-on}
-use Rattle.rulebook.specs.Situation.{Situation, begun, cardFacts, issuerCodes, listIn}
+use Rattle.rulebook.specs.Situation.{Situation, begun, listIn}
 use Rattle.rulebook.specs.Phase.{Asked, selecting, optioning, reading, first, second, Heard, terminal, issuer, Phase, asks, hears, decides, situationOf, decided, ended, terminated, tvrOf, tsiOf}
 use Rattle.rulebook.specs.Turn.{goesOn, opened, selected, managed, requested, allRead, readOn, withProfile, optioned, withRecord, recorded, answered, replied, online, byFirst, firstAllows, secondAllows, firstAnswered, secondAnswered, turn, heard as issuerHeard, after}
 use Rattle.rulebook.specs.Session.{Plays, exchanged, heard, decided as settled, phasesOf, Reads}
@@ -58,12 +58,12 @@ module _ (s : Situation) where
 
   requested-kept : (reason : ℕ) → Reaches s (requested reason s)
   unfolding requested situationOf
-  requested-kept reason = goes-kept reason _ (asks-kept (first s (firstRequest (s .terminal) (issuerCodes s) (s .tvr))))
+  requested-kept reason = goes-kept reason _ (asks-kept (first s (firstRequest (s .terminal) (s .facts) (s .tvr))))
 
   replied-kept : (reply : HostReply) (code : List ℕ) → Reaches s (replied s reply code)
   unfolding replied ended situationOf
   replied-kept reply code =
-      let request = secondRequest reply (s .terminal) (issuerCodes s) (s .tvr) in
+      let request = secondRequest reply (s .terminal) (s .facts) (s .tvr) in
       picked (Reaches s) (fillable (listIn s 0x8D)) _ _ (λ e. asks-kept (second s request (responseCode reply request code))) (λ e. end-kept terminated 9)
 
   online-kept : Reaches s (online s)
@@ -85,7 +85,7 @@ unfolding allRead ended managed
 all-read-kept s =
     picked (Reaches s) (eqb (afterRecords (s .facts)) 8) _ _ (λ e. end-kept s terminated 8)
     (λ e.
-    through s (managed s) _ (tvr-kept (s .terminal) (cardFacts s) (s .tvr)) (tsi-kept (s .tsi) (cardFacts s))
+    through s (managed s) _ (tvr-kept (s .terminal) (s .profile) (s .facts) (s .tvr)) (tsi-kept (s .tsi) (s .profile))
     (requested-kept (managed s) (afterRecords (s .facts))))
 
 read-kept : (s : Situation) (rest : List (ℕ × ℕ)) → Reaches s (readOn s rest)

@@ -38,60 +38,63 @@ use Rattle.decimal_dates.specs.Decimal.{zerosOnly as o103}
 use Rattle.start_fields.specs.Reading.{readingOf as o104}
 use Rattle.start_valid.specs.Start.{validKind as o105, validDigits as o106, validRandom as o107, validPercentages as o108}
 use Rattle.start_valid.specs.Start.{validThreshold as o109, validAid as o110, validStart as o111, terminalOf as o112}
-use Rattle.decide_tvr.specs.Bits.{joined as o113, meet as o114, flag as o115}
-use Rattle.decide_tvr.specs.Results.{differentVersions as o116, expired as o117, notYetEffective as o118, riskManaged as o119}
-use Rattle.decide_tvr.specs.Results.{atFloorLimit as o120, drawn as o121, restrictions as o122, risks as o123}
-use Rattle.decide_tvr.specs.Results.{tvrAfterRecords as o124, tsiAfterRecords as o125, tsiAfterFirstAnswer as o126}
-use Rattle.decide_tvr.specs.Selection.{biased as o127, chosen as o128, selected as o129}
-use Rattle.decide_requests.specs.Replies.{codeIn as o130, saidBy as o131, replyOf as o132, isReply as o133, responseCode as o134}
-use Rattle.decide_requests.specs.Requests.{issuerCode as o135, codeMatch as o136, byType as o137, firstRequest as o138}
-use Rattle.decide_requests.specs.Requests.{whenUnable as o139, secondRequest as o140, givenBy as o141}
-use Rattle.dol_wanted.specs.Wanted.{andThen as o142, sizeAt as o143, firstWanted as o144, asks as o145, wantedStep as o146}
-use Rattle.dol_wanted.specs.Wanted.{entriesOf as o147, total as o148, totalBy as o149, totalOf as o150, fits as o151}
-use Rattle.dol_wanted.specs.Wanted.{fillable as o152, tally as o153}
-use Rattle.dol_values.specs.Known.{held as o154, nothing as o155, kept as o156, ofTerminal as o157, ofSession as o158}
-use Rattle.dol_values.specs.Known.{orElse as o159, valueFor as o160, withFormat as o161, supplied as o162}
-use Rattle.dol_values.specs.Shape.{shaped as o163, numeric as o164, formatOf as o165}
-use Rattle.dol_fill.specs.Filled.{entryBytes as o166, firstBytes as o167, filled as o168, filledBy as o169, filledList as o170}
-use Rattle.dol_fill.specs.Filled.{filling as o171}
-use Rattle.commands.specs.Commands.{selectCommand as o172, optionsCommand as o173, recordCommand as o174, withLength as o175}
-use Rattle.commands.specs.Commands.{cryptogramCommand as o176, sizeIn as o177, dataSize as o178}
-use Rattle.answer_afl.specs.Cursor.{fromEntry as o179, entryAt as o180, start as o181, isLeft as o182, recordAt as o183}
-use Rattle.answer_afl.specs.Cursor.{stepped as o184, remaining as o185}
-use Rattle.answer_afl.specs.Entries.{firstEntry as o186, entries as o187, wholeEntries as o188, sfi as o189, records as o190}
-use Rattle.answer_afl.specs.Entries.{fileRight as o191, entryRight as o192, entriesRight as o193, recordsOf as o194}
-use Rattle.answer_afl.specs.Entries.{recordCount as o195, tooMany as o196, run as o197, readEntry as o198, readAll as o199}
-use Rattle.answer_afl.specs.Entries.{toRead as o200}
-use Rattle.answer_common.specs.Answer.{sizeBad as o201, statusBad as o202, only as o203, outer as o204, theOne as o205}
-use Rattle.answer_common.specs.Answer.{tagged as o206, valueUnder as o207, isOne as o208, inside as o209, outerBad as o210}
-use Rattle.answer_common.specs.Answer.{frame as o211}
-use Rattle.answer_common.specs.CardNumber.{halves as o212, digits as o213, onlyF as o214, cardNumber as o215}
-use Rattle.answer_common.specs.Content.{meets as o216, rules as o217, ruleFor as o218, rightValue as o219}
-use Rattle.answer_common.specs.Named.{membersIn as o220, listed as o221, named as o222, among as o223, direct as o224}
-use Rattle.answer_common.specs.Named.{standing as o225, times as o226, told as o227, valueOf as o228, wrongValue as o229}
-use Rattle.answer_common.specs.Named.{anyTimes as o230, anyWrong as o231}
-use Rattle.answer_select.specs.Select.{inner as o232, pdolOf as o233, begins as o234, nameWrong as o235, selectTwice as o236}
-use Rattle.answer_select.specs.Select.{selectWrong as o237, selectLines as o238, selectReason as o239}
-use Rattle.answer_record.specs.Records.{again as o240, anyAgain as o241, recordTwice as o242, recordLines as o243}
-use Rattle.answer_record.specs.Records.{recordReason as o244, valueIn as o245, namedIn as o246, incomplete as o247}
-use Rattle.answer_record.specs.Records.{completeReason as o248, afterRecords as o249, toldBy as o250}
-use Rattle.answer_forms.specs.Cryptogram.{informationOf as o251, cryptogramOf as o252, cryptogramWrong as o253}
-use Rattle.answer_forms.specs.Cryptogram.{cryptogramLines as o254, cryptogramReason as o255, allows as o256}
-use Rattle.answer_forms.specs.Forms.{lacks as o257}
-use Rattle.answer_forms.specs.Options.{profileOf as o258, locatorOf as o259, optionsWrong as o260, optionsLines as o261}
-use Rattle.answer_forms.specs.Options.{optionsReason as o262}
-use Rattle.rulebook.specs.Machine.{due as o263, sayable as o264, next as o265, andOn as o266}
-use Rattle.rulebook.specs.Phase.{situationOf as o267, commandOf as o268, dueKind as o269, decisionOf as o270}
-use Rattle.rulebook.specs.Phase.{decided as o271, ended as o272, tvrOf as o273, tsiOf as o274}
-use Rattle.rulebook.specs.Roles.{given as o275}
-use Rattle.rulebook.specs.Session.{isPayload as o276, phasesOf as o277}
-use Rattle.rulebook.specs.Situation.{begun as o278, perhaps as o279, profileKnown as o280, knownIn as o281}
-use Rattle.rulebook.specs.Situation.{cardFacts as o282, issuerCodes as o283, listIn as o284}
-use Rattle.rulebook.specs.Turn.{goesOn as o285, opened as o286, selected as o287, managed as o288, requested as o289}
-use Rattle.rulebook.specs.Turn.{allRead as o290, readOn as o291, withProfile as o292, optioned as o293, withRecord as o294}
-use Rattle.rulebook.specs.Turn.{recorded as o295, answered as o296, replied as o297, online as o298, byFirst as o299}
-use Rattle.rulebook.specs.Turn.{firstAllows as o300, secondAllows as o301, firstAnswered as o302, secondAnswered as o303}
-use Rattle.rulebook.specs.Turn.{turn as o304, allowed as o305, replyMade as o306, heard as o307, after as o308}
+use Rattle.answer_afl.specs.Cursor.{fromEntry as o113, entryAt as o114, start as o115, isLeft as o116, recordAt as o117}
+use Rattle.answer_afl.specs.Cursor.{stepped as o118, remaining as o119}
+use Rattle.answer_afl.specs.Entries.{firstEntry as o120, entries as o121, wholeEntries as o122, sfi as o123, records as o124}
+use Rattle.answer_afl.specs.Entries.{fileRight as o125, entryRight as o126, entriesRight as o127, recordsOf as o128}
+use Rattle.answer_afl.specs.Entries.{recordCount as o129, tooMany as o130, run as o131, readEntry as o132, readAll as o133}
+use Rattle.answer_afl.specs.Entries.{toRead as o134}
+use Rattle.answer_common.specs.Answer.{sizeBad as o135, statusBad as o136, only as o137, outer as o138, theOne as o139}
+use Rattle.answer_common.specs.Answer.{tagged as o140, valueUnder as o141, isOne as o142, inside as o143, outerBad as o144}
+use Rattle.answer_common.specs.Answer.{frame as o145}
+use Rattle.answer_common.specs.CardNumber.{halves as o146, digits as o147, onlyF as o148, cardNumber as o149}
+use Rattle.answer_common.specs.Content.{meets as o150, rules as o151, ruleFor as o152, rightValue as o153}
+use Rattle.answer_common.specs.Named.{membersIn as o154, listed as o155, named as o156, among as o157, direct as o158}
+use Rattle.answer_common.specs.Named.{standing as o159, times as o160, told as o161, valueOf as o162, wrongValue as o163}
+use Rattle.answer_common.specs.Named.{anyTimes as o164, anyWrong as o165}
+use Rattle.session_records.specs.Runs.{noRun as o166, keptRun as o167, runHeld as o168, inRun as o169}
+use Rattle.session_records.specs.Slots.{orElse as o170, room as o171, nowhere as o172, placed as o173, total as o174}
+use Rattle.session_records.specs.Slots.{recordSlot as o175, slotFor as o176, cellIn as o177, read as o178, toldIn as o179}
+use Rattle.session_records.specs.Slots.{keptAt as o180, keptIn as o181, keptTold as o182, keptObjects as o183}
+use Rattle.session_records.specs.Slots.{keptPlaces as o184, full as o185, emptyStore as o186, told as o187, withRecord as o188}
+use Rattle.decide_tvr.specs.Bits.{joined as o189, meet as o190, flag as o191}
+use Rattle.decide_tvr.specs.Results.{differentVersions as o192, expired as o193, notYetEffective as o194, riskManaged as o195}
+use Rattle.decide_tvr.specs.Results.{atFloorLimit as o196, drawn as o197, restrictions as o198, risks as o199}
+use Rattle.decide_tvr.specs.Results.{tvrAfterRecords as o200, tsiAfterRecords as o201, tsiAfterFirstAnswer as o202}
+use Rattle.decide_tvr.specs.Selection.{biased as o203, chosen as o204, selected as o205}
+use Rattle.decide_requests.specs.Replies.{codeIn as o206, saidBy as o207, replyOf as o208, isReply as o209, responseCode as o210}
+use Rattle.decide_requests.specs.Requests.{issuerCode as o211, codeMatch as o212, byType as o213, firstRequest as o214}
+use Rattle.decide_requests.specs.Requests.{whenUnable as o215, secondRequest as o216, givenBy as o217}
+use Rattle.dol_wanted.specs.Wanted.{andThen as o218, sizeAt as o219, firstWanted as o220, asks as o221, wantedStep as o222}
+use Rattle.dol_wanted.specs.Wanted.{entriesOf as o223, total as o224, totalBy as o225, totalOf as o226, fits as o227}
+use Rattle.dol_wanted.specs.Wanted.{fillable as o228, tally as o229}
+use Rattle.dol_values.specs.Known.{ownField as o230, valueBy as o231, valueFor as o232, withFormat as o233, supplied as o234}
+use Rattle.dol_values.specs.Shape.{shaped as o235, formatOf as o236}
+use Rattle.dol_fill.specs.Filled.{entryBytes as o237, firstBytes as o238, filled as o239, filledBy as o240, filledList as o241}
+use Rattle.dol_fill.specs.Filled.{filling as o242}
+use Rattle.commands.specs.Commands.{selectCommand as o243, optionsCommand as o244, recordCommand as o245, withLength as o246}
+use Rattle.commands.specs.Commands.{cryptogramCommand as o247, sizeIn as o248, dataSize as o249}
+use Rattle.answer_select.specs.Select.{inner as o250, pdolOf as o251, begins as o252, nameWrong as o253, selectTwice as o254}
+use Rattle.answer_select.specs.Select.{selectWrong as o255, selectLines as o256, selectReason as o257}
+use Rattle.answer_record.specs.Records.{again as o258, anyAgain as o259, recordTwice as o260, recordLines as o261}
+use Rattle.answer_record.specs.Records.{recordReason as o262, valueIn as o263, namedIn as o264, incomplete as o265}
+use Rattle.answer_record.specs.Records.{completeReason as o266, afterRecords as o267}
+use Rattle.answer_forms.specs.Cryptogram.{informationOf as o268, cryptogramOf as o269, cryptogramWrong as o270}
+use Rattle.answer_forms.specs.Cryptogram.{cryptogramLines as o271, cryptogramReason as o272, allows as o273}
+use Rattle.answer_forms.specs.Forms.{lacks as o274}
+use Rattle.answer_forms.specs.Options.{profileOf as o275, locatorOf as o276, optionsWrong as o277, optionsLines as o278}
+use Rattle.answer_forms.specs.Options.{optionsReason as o279}
+use Rattle.rulebook.specs.Machine.{due as o280, sayable as o281, next as o282, andOn as o283}
+use Rattle.rulebook.specs.Phase.{situationOf as o284, commandOf as o285, dueKind as o286, decisionOf as o287}
+use Rattle.rulebook.specs.Phase.{decided as o288, ended as o289, tvrOf as o290, tsiOf as o291}
+use Rattle.rulebook.specs.Roles.{given as o292}
+use Rattle.rulebook.specs.Session.{isPayload as o293, phasesOf as o294}
+use Rattle.rulebook.specs.Situation.{begun as o295, profileKnown as o296, knownIn as o297, listIn as o298}
+use Rattle.rulebook.specs.Turn.{goesOn as o299, opened as o300, selected as o301, managed as o302, requested as o303}
+use Rattle.rulebook.specs.Turn.{allRead as o304, readOn as o305, withProfile as o306, optioned as o307, withRecord as o308}
+use Rattle.rulebook.specs.Turn.{recorded as o309, answered as o310, replied as o311, online as o312, byFirst as o313}
+use Rattle.rulebook.specs.Turn.{firstAllows as o314, secondAllows as o315, firstAnswered as o316, secondAnswered as o317}
+use Rattle.rulebook.specs.Turn.{turn as o318, allowed as o319, replyMade as o320, heard as o321, after as o322}
 
 -- the state that a session's entries lead to
 unfoldable pub reached : List Entry → Option Machine
@@ -106,5 +109,6 @@ unfolding o0 o1 o2 o3 o4 o5 o6 o7 o8 o9 o10 o11 o12 o13 o14 o15 o16 o17 o18 o19 
     o220 o221 o222 o223 o224 o225 o226 o227 o228 o229 o230 o231 o232 o233 o234 o235 o236 o237 o238 o239 o240 o241 o242 o243 o244
     o245 o246 o247 o248 o249 o250 o251 o252 o253 o254 o255 o256 o257 o258 o259 o260 o261 o262 o263 o264 o265 o266 o267 o268 o269
     o270 o271 o272 o273 o274 o275 o276 o277 o278 o279 o280 o281 o282 o283 o284 o285 o286 o287 o288 o289 o290 o291 o292 o293 o294
-    o295 o296 o297 o298 o299 o300 o301 o302 o303 o304 o305 o306 o307 o308 run
+    o295 o296 o297 o298 o299 o300 o301 o302 o303 o304 o305 o306 o307 o308 o309 o310 o311 o312 o313 o314 o315 o316 o317 o318 o319
+    o320 o321 o322 run
 reached es = run es (at opens)

@@ -10,7 +10,7 @@ use Rattle.slices.specs.Choice.{pick}
 use Rattle.tlv_list.specs.Objects.{isSome}
 use Rattle.start_fields.specs.Reading.{Terminal, readingOf}
 use Rattle.start_valid.specs.Start.{validStart}
-use Rattle.dol_values.specs.Known.{orElse}
+use Rattle.session_records.specs.Slots.{orElse}
 use Rattle.dol_wanted.specs.Wanted.{fillable}
 use Rattle.answer_select.specs.Select.{selectReason, pdolOf}
 use Rattle.answer_forms.specs.Options.{optionsReason, profileOf, locatorOf}
@@ -25,7 +25,7 @@ use Rattle.decide_requests.specs.declared.reply.HostReply.{HostReply}
 use Rattle.decide_requests.specs.declared.reply.HostReply.the-variants.{Unable}
 use Rattle.decide_requests.specs.declared.reply.HostHeard.{HostHeard}
 use Rattle.decide_requests.specs.declared.reply.HostHeard.the-variants.{Said, Nothing}
-use Rattle.rulebook.specs.Situation.{Situation, Facts, begun, cardFacts, issuerCodes, listIn}
+use Rattle.rulebook.specs.Situation.{Situation, begun, listIn}
 use Rattle.rulebook.specs.Phase.{Asked, selecting, optioning, reading, first, second, Heard, terminal, issuer, Phase, asks, hears, decided, ended, approved, declined}
 
 -- a bad answer ends the session with its reason; otherwise it goes on
@@ -47,13 +47,13 @@ managed s =
       terminal = s .terminal;
       profile = s .profile;
       facts = s .facts;
-      tvr = tvrAfterRecords (s .terminal) (cardFacts s) (s .tvr);
-      tsi = tsiAfterRecords (cardFacts s) (s .tsi);
+      tvr = tvrAfterRecords (s .terminal) (s .profile) (s .facts) (s .tvr);
+      tsi = tsiAfterRecords (s .profile) (s .tsi);
     }
 
 -- the first request, or reason 9 where its list cannot be filled
 unfoldable pub requested : ℕ → Situation → Phase
-requested reason s = goesOn reason s (asks (first s (firstRequest (s .terminal) (issuerCodes s) (s .tvr))))
+requested reason s = goesOn reason s (asks (first s (firstRequest (s .terminal) (s .facts) (s .tvr))))
 
 -- after the last record: 8 comes before the bits are set, 9 after
 unfoldable pub allRead : Situation → Phase
@@ -93,7 +93,7 @@ answered s = record { terminal = s .terminal; profile = s .profile; facts = s .f
 -- the second request, once the issuer's reply is in; reason 9 where its list cannot be filled
 unfoldable pub replied : Situation → HostReply → List ℕ → Phase
 replied s reply code =
-    let request = secondRequest reply (s .terminal) (issuerCodes s) (s .tvr) in
+    let request = secondRequest reply (s .terminal) (s .facts) (s .tvr) in
     pick (fillable (listIn s 0x8D)) (asks (second s request (responseCode reply request code))) (ended 9 s)
 
 -- an ARQC waits for the issuer; a terminal of type 0 goes on as unable

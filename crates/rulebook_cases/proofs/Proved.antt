@@ -11,8 +11,8 @@ use Rattle.tlv_list.specs.Lookup.{met, lookup}
 use Rattle.slices.specs.Tests.{every, between as within}
 use Rattle.decimal_dates.specs.Decimal.{decimalFrom, decimal}
 use Rattle.dol_wanted.specs.Wanted.{andThen, sizeAt, firstWanted, asks, wantedStep, entriesOf, total, fits, fillable}
-use Rattle.dol_values.specs.Shape.{shaped, numeric, formatOf}
-use Rattle.dol_values.specs.Known.{ofTerminal, ofSession, orElse, valueFor, withFormat, supplied}
+use Rattle.dol_values.specs.Shape.{shaped, formatOf}
+use Rattle.dol_values.specs.Known.{ownField, valueBy, valueFor, withFormat, supplied}
 use Rattle.dol_fill.specs.Filled.{entryBytes, filled, filledBy, filledList, filling}
 use Rattle.commands.specs.Commands.{recordCommand}
 use Rattle.slices.specs.Tables.{anyOf, beside}
@@ -29,13 +29,13 @@ use Rattle.rulebook_cases.specs.Table.{plain, noCodes, trial, amount7500
 
 pub table : Cases
 unfolding pick firstOf counted shorter zeros firstByte constructed twoBytes tagSize tagOf tagRight lengthByte lengthForm lengthSize
-    lengthOf valueStart valueEnd whole between firstObject isSome before rightInside listed objects shaped numeric formatOf
+    lengthOf valueStart valueEnd whole between firstObject isSome before rightInside listed objects shaped formatOf
     recordCommand firstEntry entries sfi records entryRight entriesRight recordsOf recordCount tooMany run readEntry readAll toRead
     joined meet biased chosen issuerCode codeMatch byType firstRequest plain noCodes dataField met lookup every within anyOf beside
     sizeBad statusBad only outer tagged valueUnder isOne inside outerBad frame wholeEntries meets rules ruleFor rightValue lacks
     profileOf locatorOf optionsWrong optionsLines optionsReason membersIn named among direct standing times told valueOf wrongValue
     anyTimes anyWrong fileRight isList readRefusal decimalFrom decimal andThen sizeAt firstWanted asks wantedStep entriesOf total fits
-    fillable ofTerminal ofSession orElse valueFor withFormat supplied entryBytes filled filledBy filledList filling selected trial
+    fillable ownField valueBy valueFor withFormat supplied entryBytes filled filledBy filledList filling selected trial
     amount7500 amount7499
 table =
     record {

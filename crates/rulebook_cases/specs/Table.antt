@@ -7,7 +7,7 @@ use mathlib.Core.List.{List, [], _∷_}
 use mathlib.Core.Option.{Option, some}
 use Prim.Native.Nat.{ℕ}
 use Rattle.tlv_list.specs.Objects.{Object, objects, readRefusal}
-use Rattle.dol_values.specs.declared.Known.{Known}
+use Rattle.session_records.specs.Slots.{Facts}
 use Rattle.dol_fill.specs.Filled.{filling}
 use Rattle.slices.specs.Writing.{zeros}
 use Rattle.start_fields.specs.Reading.{Terminal}
@@ -16,7 +16,6 @@ use Rattle.commands.specs.Commands.{recordCommand}
 use Rattle.answer_afl.specs.Entries.{toRead, recordCount}
 use Rattle.answer_forms.specs.Options.{optionsReason}
 use Rattle.decide_tvr.specs.Selection.{selected}
-use Rattle.decide_requests.specs.Codes.{IssuerCodes}
 use Rattle.decide_requests.specs.Requests.{firstRequest}
 use Rattle.decide_requests.specs.declared.requests.Cryptogram.{Cryptogram}
 use Rattle.decide_requests.specs.declared.requests.Cryptogram.the-variants.{Tc, Arqc}
@@ -25,8 +24,8 @@ use Rattle.decide_requests.specs.declared.requests.Cryptogram.the-variants.{Tc,
 unfoldable pub plain : ℕ → Terminal
 plain kind = bare kind (zeros 5) (zeros 5) (zeros 5)
 
-unfoldable pub noCodes : IssuerCodes
-noCodes = record { denial = some (zeros 5); online = some (zeros 5); default = some (zeros 5) }
+unfoldable pub noCodes : Facts
+noCodes tag = some (zeros 5)
 
 -- a terminal with the numbers of E, F and J, and a random number and an amount
 unfoldable pub trial : ℕ → List ℕ → Terminal
@@ -70,8 +69,8 @@ pub record Cases : Type 0 where
   pub d-read : readRefusal (0x00 ∷ 0x00 ∷ []) ≡ 0
   pub d : objects (0x00 ∷ 0x00 ∷ []) ≡ some []
   -- the object lists 9F02 04 and 9F37 02, whatever else is known: the amount in four bytes, the unpredictable number in two
-  pub e : (k : Known) → filling (trial 40 amount7500) k (0x9F ∷ 0x02 ∷ 0x04 ∷ []) ≡ 0x00 ∷ 0x00 ∷ 0x75 ∷ 0x00 ∷ []
-  pub f : (k : Known) → filling (trial 40 amount7500) k (0x9F ∷ 0x37 ∷ 0x02 ∷ []) ≡ 0x11 ∷ 0x22 ∷ []
+  pub e : (k : Facts) → filling (trial 40 amount7500) k (0x9F ∷ 0x02 ∷ 0x04 ∷ []) ≡ 0x00 ∷ 0x00 ∷ 0x75 ∷ 0x00 ∷ []
+  pub f : (k : Facts) → filling (trial 40 amount7500) k (0x9F ∷ 0x37 ∷ 0x02 ∷ []) ≡ 0x11 ∷ 0x22 ∷ []
   -- three records, and the first command
   pub g : toRead (0x08 ∷ 0x01 ∷ 0x03 ∷ 0x01 ∷ []) ≡ (1, 1) ∷ (2, 1) ∷ (3, 1) ∷ []
   pub g-command : recordCommand 1 1 ≡ 0x00 ∷ 0xB2 ∷ 0x01 ∷ 0x0C ∷ 0x00 ∷ []

@@ -9,7 +9,7 @@ use Rattle.answer_forms.specs.Options.{optionsReason}
 use Rattle.answer_record.specs.Records.{recordReason}
 use Rattle.decide_tvr.specs.Results.{tsiAfterFirstAnswer}
 use Rattle.rulebook.specs.Phase.{Asked, selecting, optioning, reading, first, second}
-use Rattle.session_told.specs.Telling.{withRecord}
+use Rattle.session_records.specs.Slots.{withRecord}
 use Rattle.session_state.specs.Keeping.{withTold, withOptions, changed}
 use Rattle.session_state.specs.declared.State.{State}
 

@@ -13,18 +13,18 @@ use session_moves::Step;
 use session_moves::ends::decide;
 use session_moves::ends::end;
 use session_moves::ends::wait;
+use session_moves::known::at_options;
 use session_online::by_first;
 use session_phase::Question;
 use session_phase::Reply;
 use session_phase::Waiting;
-use session_readings::facts::seen;
-use session_readings::known::at_options;
+use session_records::records::bytes_of;
+use session_records::records::with_record;
 use session_records_read::read_on;
 use session_state::State;
 use session_state::change::change;
 use session_state::change::with_options;
 use session_state::change::with_told;
-use session_told::records::with_record;
 ghost use mathlib.Core.Path.{_≡_};
 ghost use mathlib.Core.List.{[]};
 ghost use Rattle.answer_forms.specs.Cryptogram.{allows};
@@ -43,7 +43,8 @@ pub fn on_select(s: State, a: &[u8], buf: &mut [u8]) -> Step
     if why != 0 {
         return end(s, why);
     }
-    let n = write::options(answer_select::pdol(a), terminal, at_options(s), buf);
+    let known = at_options(s);
+    let n = write::options(answer_select::pdol(a), terminal, &known, buf);
     wait(s, Waiting::ForCard(Question::Options), Reply::Command(n))
 }
 
@@ -60,12 +61,13 @@ pub fn on_options(s: State, a: &[u8], buf: &mut [u8]) -> Step
 pub fn on_record(s: State, a: &[u8], buf: &mut [u8]) -> Step
     ensures { λ r. ⌜ played r (now (buf .exit)) ≡ moved (turn (readingRecord (late s) 0 0 (recordsLeft s)) (now (a .entry))) (keeping (readingRecord (late s) 0 0 (recordsLeft s)) (now (a .entry)) s) (now (buf .entry)) ⌝ }
 {
-    let told = s.told;
-    let why = record_reason(seen(told), a);
+    let store = s.told;
+    let told = bytes_of(store);
+    let why = record_reason(&told, a);
     if why != 0 {
         return end(s, why);
     }
-    read_on(with_told(s, with_record(told, a)), buf)
+    read_on(with_told(s, with_record(store, a)), buf)
 }
 
 fn allowed_first(request: Cryptogram) -> Allowed

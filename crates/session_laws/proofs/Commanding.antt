@@ -15,7 +15,7 @@ use Rattle.slices.proofs.Choice.{pick-yes, either}
 use Rattle.slices.proofs.Writing.{put-length, put-start, laid-fits, laid-short}
 use Rattle.start_fields.specs.Reading.{Terminal}
 use Rattle.dol_fill.specs.Filled.{filling}
-use Rattle.dol_values.specs.declared.Known.{Known}
+use Rattle.session_records.specs.Slots.{Facts}
 use Rattle.commands.specs.Commands.{longest, sizeIn}
 use Rattle.commands.proofs.Sizes.{data-length, data-most}
 use Rattle.commands.proofs.Shapes.{aid-most, select-most, options-most, record-most, cryptogram-most}
@@ -28,7 +28,7 @@ use Rattle.session_moves.specs.Moves.{replyIn, bufferIn}
 use Rattle.session_laws.specs.Agreeing.{StandsAt}
 use Rattle.session_laws.proofs.Standing.{asked-terminal}
 
-filling-most : (t : Terminal) (k : Known) (list : List ℕ) → length (filling t k list) ≤ 252
+filling-most : (t : Terminal) (k : Facts) (list : List ℕ) → length (filling t k list) ≤ 252
 filling-most t k list = let size = data-length t k list in let limit = data-most list in omega arith
 
 command-fits : (w : Asked) → length (situationOf w .terminal .aid) ≤ 16 → length (commandOf w) ≤ longest

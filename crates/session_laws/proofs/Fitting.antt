@@ -33,10 +33,9 @@ use Rattle.session_phase.specs.declared.Question.{Question}
 use Rattle.session_phase.specs.declared.Question.the-variants.{Select, Options, Record, First, Second}
 use Rattle.session_phase.specs.declared.Speaker.{Speaker}
 use Rattle.session_phase.specs.declared.Speaker.the-variants.{Terminal, Issuer}
-use Rattle.session_told.specs.Facts.{factsIn}
-use Rattle.session_told.specs.Runs.{inRun}
+use Rattle.session_records.specs.Slots.{told, withRecord}
+use Rattle.session_records.specs.Runs.{inRun}
 use Rattle.session_state.specs.Keeping.{withTold, withOptions, changed, stateAt, begun}
-use Rattle.session_told.specs.Telling.{withRecord}
 use Rattle.session_state.specs.declared.State.{State}
 use Rattle.session_state.proofs.Starting.{late-told, early-begun, late-options, left-options}
 use Rattle.session_moves.specs.Moves.{questionOf, speakerOf, keptAs, cursorAsking, cursorAfter, standing}
@@ -71,7 +70,7 @@ module _ (s : State) where
   -- the situation that is read off the state, with some TVR and TSI
   abbrev lateWith : List ℕ → List ℕ → Situation
   lateWith tvr tsi =
-      record { terminal = readingOf (s .start); profile = s .profile; facts = factsIn (s .told); tvr = tvr; tsi = tsi }
+      record { terminal = readingOf (s .start); profile = s .profile; facts = told (s .told); tvr = tvr; tsi = tsi }
 
   module _ (tvr tsi : List ℕ) where
     abbrev z : Situation
@@ -133,7 +132,7 @@ module _ (s : State) (a : List ℕ) where
   record-fits : Turns (reading (late s) 0 0 (recordsLeft s))
   unfolding turn keeping recorded goesOn ended late situationWith recordsLeft withTold
   record-fits =
-      let reason = recordReason (λ name. isSome (factsIn (s .told) name)) a in
+      let reason = recordReason (λ name. isSome (told (s .told) name)) a in
       both Fits (eqb reason 0) _ _ (withTold (withRecord a (s .told)) s) s
       (λ y. reads-on (withTold (withRecord a (s .told)) s) _ _ (late-told s a (eqb-true reason 0 y)) refl)
       (λ n. decides-fits s _ reason (late s))

@@ -7,7 +7,7 @@ use lib.ListN.{length}
 use Rattle.rulebook.specs.Phase.{Asked, selecting, optioning, reading, first, second, Phase, asks, hears, decides, tvrOf, tsiOf}
 use Rattle.answer_afl.specs.Cursor.{stepped}
 use Rattle.answer_afl.specs.declared.cursor.Cursor.{Cursor}
-use Rattle.session_told.specs.Runs.{inRun}
+use Rattle.session_records.specs.Runs.{inRun}
 use Rattle.session_state.specs.Keeping.{changed}
 use Rattle.session_state.specs.declared.State.{State}
 use Rattle.session_phase.specs.declared.Waiting.{Waiting}

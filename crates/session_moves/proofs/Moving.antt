@@ -19,9 +19,9 @@ use Rattle.rulebook.specs.Situation.{Situation}
 use Rattle.rulebook.specs.Phase.{Asked, Heard, Phase, asks, hears, decides, situationOf, commandOf, dueKind, tvrOf, tsiOf, ended}
 use Rattle.rulebook.specs.Turn.{goesOn}
 use Rattle.session_state.specs.Reading.{situationWith, early, late}
-use Rattle.session_told.specs.Runs.{inRun}
+use Rattle.session_records.specs.Runs.{inRun}
 use Rattle.session_state.specs.Keeping.{changed}
-use Rattle.session_told.specs.declared.Run.{Run}
+use Rattle.session_records.specs.declared.Run.{Run}
 use Rattle.session_state.specs.declared.State.{State}
 use Rattle.session_phase.specs.declared.Waiting.the-variants.{ForCard, ForWord, Decided}
 use Rattle.session_phase.specs.declared.Reply.the-variants.{Command, Due, Decided as DecidedReply, Refused}

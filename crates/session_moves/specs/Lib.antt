@@ -1,2 +1,3 @@
 -- Where a session goes on.
 pub mod Moves
+pub mod Known

@@ -17,7 +17,7 @@ use Rattle.session_phase.specs.declared.Waiting.{Waiting}
 use Rattle.session_phase.specs.declared.Waiting.the-variants.{ForCard, ForWord, Decided}
 use Rattle.session_phase.specs.declared.Reply.{Reply}
 use Rattle.session_phase.specs.declared.Reply.the-variants.{Command, Due, Decided as DecidedReply, Refused}
-use Rattle.session_told.specs.Runs.{inRun}
+use Rattle.session_records.specs.Runs.{inRun}
 use Rattle.session_state.specs.Keeping.{changed}
 use Rattle.session_state.specs.declared.State.{State}
 use Rattle.session_moves.specs.declared.Step.{Step}

@@ -3,11 +3,9 @@ use answer_afl::cursor;
 use commands::write;
 use decide_requests::requests::Cryptogram;
 use decide_requests::requests::p1;
-use dol_values::Known;
+use session_records::runs::bytes_of;
+use session_records::runs::size_of;
 use session_state::State;
-use session_told::Run;
-use session_told::runs::bytes_of;
-use session_told::runs::size_of;
 ghost use mathlib.Core.Path.{_≡_};
 ghost use lib.ListN.{length};
 ghost use Rattle.slices.specs.Writing.{laid};
@@ -16,17 +14,16 @@ ghost use Rattle.dol_fill.specs.Filled.{filling};
 ghost use Rattle.decide_requests.specs.Requests.{p1Of};
 ghost use Rattle.answer_afl.specs.Cursor.{recordAt};
 ghost use Rattle.commands.specs.Commands.{recordCommand, cryptogramCommand, sizeIn};
-ghost use Rattle.session_told.specs.Runs.{inRun};
+ghost use Rattle.session_records.specs.Runs.{inRun};
+ghost use Rattle.session_records.specs.Slots.{toldIn};
 
-// GENERATE AC, filled from an object list that a record told.
-pub fn generate(s: State, request: Cryptogram, list: Run, known: Known, buf: &mut [u8]) -> usize
-    ensures size { λ r. ⌜ r ≡ sizeIn (length (now (buf .entry))) (cryptogramCommand (p1Of request) (filling (readingOf (s .start)) known (inRun list))) ⌝ }
-    ensures buffer { λ _. ⌜ now (buf .exit) ≡ laid (cryptogramCommand (p1Of request) (filling (readingOf (s .start)) known (inRun list))) 0 (now (buf .entry)) ⌝ }
+// GENERATE AC, filled from an object list and the slots of what is known.
+pub fn generate(s: State, request: Cryptogram, list: &[u8], known: &[u8], buf: &mut [u8]) -> usize
+    ensures size { λ r. ⌜ r ≡ sizeIn (length (now (buf .entry))) (cryptogramCommand (p1Of request) (filling (readingOf (s .start)) (toldIn (now (known .entry))) (now (list .entry)))) ⌝ }
+    ensures buffer { λ _. ⌜ now (buf .exit) ≡ laid (cryptogramCommand (p1Of request) (filling (readingOf (s .start)) (toldIn (now (known .entry))) (now (list .entry)))) 0 (now (buf .entry)) ⌝ }
 {
     let start = s.start;
-    let n = size_of(list);
-    let bytes = bytes_of(list);
-    write::cryptogram(p1(request), &bytes[..n], &start, known, buf)
+    write::cryptogram(p1(request), list, &start, known, buf)
 }
 
 // READ RECORD of the record at the cursor.

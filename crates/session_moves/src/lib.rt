@@ -2,6 +2,7 @@
 // and the ends that more than one step has.
 pub mod command;
 pub mod ends;
+pub mod known;
 
 use session_phase::Reply;
 use session_state::State;

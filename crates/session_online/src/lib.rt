@@ -9,54 +9,44 @@ use session_moves::command::generate;
 use session_moves::ends::decide;
 use session_moves::ends::end;
 use session_moves::ends::wait;
+use session_moves::known::at_second;
 use session_phase::Question;
 use session_phase::Reply;
 use session_phase::Speaker;
 use session_phase::Waiting;
-use session_readings::facts::codes;
-use session_readings::known::at_second;
+use session_records::records::bytes_of;
+use session_records::slots::value;
 use session_state::State;
-use session_told::Run;
-use session_told::runs::bytes_of;
-use session_told::runs::size_of;
 use start_fields::fields;
 use tape_read::HOST;
 ghost use mathlib.Core.Path.{_≡_};
-ghost use Rattle.dol_wanted.specs.Wanted.{fillable};
 ghost use Rattle.decide_requests.specs.Requests.{secondRequest};
 ghost use Rattle.start_fields.specs.Reading.{readingOf};
-ghost use Rattle.rulebook.specs.Situation.{issuerCodes};
 ghost use Rattle.rulebook.specs.Turn.{replied, online as onlineTurn, byFirst};
 ghost use Rattle.session_state.specs.Reading.{late};
-ghost use Rattle.session_told.specs.Runs.{inRun};
 ghost use Rattle.session_moves.specs.Moves.{played, moved};
 
-fn can_fill(list: Run) -> bool
-    ensures { λ r. ⌜ r ≡ fillable (inRun list) ⌝ }
-{
-    let n = size_of(list);
-    let bytes = bytes_of(list);
-    is_fillable(&bytes[..n])
-}
-
 fn second(s: State, reply: HostReply) -> Cryptogram
-    ensures { λ r. ⌜ r ≡ secondRequest reply (readingOf (s .start)) (issuerCodes (late s)) (s .tvr) ⌝ }
+    ensures { λ r. ⌜ r ≡ secondRequest reply (readingOf (s .start)) (late s .facts) (s .tvr) ⌝ }
 {
     let start = s.start;
     let tvr = s.tvr;
-    second_request(reply, &start, codes(s), tvr)
+    let store = s.told;
+    let told = bytes_of(store);
+    second_request(reply, &start, &told, tvr)
 }
 
 // The second request, once the issuer's reply is in.
 pub fn request_second(s: State, reply: HostReply, code: [u8; 2], buf: &mut [u8]) -> Step
     ensures { λ r. ⌜ played r (now (buf .exit)) ≡ moved (replied (late s) reply code) s (now (buf .entry)) ⌝ }
 {
-    let told = s.told;
-    let list = told.second_list;
-    if can_fill(list) {
+    let store = s.told;
+    let told = bytes_of(store);
+    if is_fillable(value(&told, 0x8D)) {
         let request = second(s, reply);
         let response = response_code(reply, request, code);
-        let n = generate(s, request, list, at_second(s, response), buf);
+        let known = at_second(s, response);
+        let n = generate(s, request, value(&told, 0x8D), &known, buf);
         wait(
             s,
             Waiting::ForCard(Question::Second(request)),

@@ -1,9 +1,8 @@
 -- The bits that the records set, stored in the state.
 -- Assumes nothing.
 use Rattle.start_fields.specs.Reading.{readingOf}
-use Rattle.decide_tvr.specs.Card.{factsOf}
 use Rattle.decide_tvr.specs.Results.{tvrAfterRecords, tsiAfterRecords}
-use Rattle.session_readings.specs.Readings.{decisionFacts}
+use Rattle.session_records.specs.Slots.{told}
 use Rattle.session_state.specs.Keeping.{changed}
 use Rattle.session_state.specs.declared.State.{State}
 
@@ -11,6 +10,6 @@ use Rattle.session_state.specs.declared.State.{State}
 unfoldable pub managedState : State → State
 managedState s =
     changed (s .waiting)
-    (tvrAfterRecords (readingOf (s .start)) (factsOf (decisionFacts s)) (s .tvr))
-    (tsiAfterRecords (factsOf (decisionFacts s)) (s .tsi))
+    (tvrAfterRecords (readingOf (s .start)) (s .profile) (told (s .told)) (s .tvr))
+    (tsiAfterRecords (s .profile) (s .tsi))
     (s .cursor) s

@@ -10,25 +10,24 @@ use session_moves::command::generate;
 use session_moves::command::read;
 use session_moves::ends::end;
 use session_moves::ends::wait;
+use session_moves::known::at_first;
 use session_phase::Question;
 use session_phase::Reply;
 use session_phase::Waiting;
-use session_readings::facts::codes;
-use session_readings::facts::facts;
-use session_readings::facts::seen;
-use session_readings::known::at_first;
+use session_records::records;
+use session_records::runs::bytes_of;
+use session_records::runs::size_of;
+use session_records::slots::value;
 use session_state::State;
 use session_state::change::change;
-use session_told::runs::bytes_of;
-use session_told::runs::size_of;
 ghost use mathlib.Core.Path.{_≡_};
 ghost use Prim.Native.Nat.{_<_};
 ghost use Rattle.answer_afl.specs.Cursor.{isLeft, stepped};
 ghost use Rattle.answer_record.specs.Records.{afterRecords};
 ghost use Rattle.rulebook.specs.Turn.{requested, allRead, readOn};
 ghost use Rattle.session_state.specs.Reading.{late, recordsLeft};
-ghost use Rattle.session_told.specs.Facts.{factsIn};
-ghost use Rattle.session_told.specs.Runs.{inRun};
+ghost use Rattle.session_records.specs.Slots.{told as toldBy};
+ghost use Rattle.session_records.specs.Runs.{inRun};
 ghost use Rattle.session_moves.specs.Moves.{played, moved};
 ghost use Rattle.session_records_read.specs.Storing.{managedState};
 
@@ -54,13 +53,11 @@ fn next(s: State) -> Cursor
 
 // Reasons 8 and 9 over all that the records told.
 fn reason(s: State) -> usize
-    ensures { λ r. ⌜ r ≡ afterRecords (factsIn (s .told)) ⌝ }
+    ensures { λ r. ⌜ r ≡ afterRecords (toldBy (s .told)) ⌝ }
 {
-    let told = s.told;
-    let list = told.first_list;
-    let n = size_of(list);
-    let bytes = bytes_of(list);
-    complete_reason(seen(told), &bytes[..n])
+    let store = s.told;
+    let told = records::bytes_of(store);
+    complete_reason(&told)
 }
 
 // The bits that the facts set.
@@ -72,12 +69,14 @@ fn managed(s: State) -> State
     let tsi = s.tsi;
     let waiting = s.waiting;
     let place = s.cursor;
-    let told = facts(s);
+    let profile = s.profile;
+    let store = s.told;
+    let told = records::bytes_of(store);
     change(
         s,
         waiting,
-        tvr_after_records(&start, told, tvr),
-        tsi_after_records(told, tsi),
+        tvr_after_records(&start, profile, &told, tvr),
+        tsi_after_records(profile, tsi),
         place,
     )
 }
@@ -92,10 +91,11 @@ fn request_first(s: State, why: usize, buf: &mut [u8]) -> Step
     }
     let start = s.start;
     let tvr = s.tvr;
-    let told = s.told;
-    let list = told.first_list;
-    let request = first_request(&start, codes(s), tvr);
-    let n = generate(s, request, list, at_first(s), buf);
+    let store = s.told;
+    let told = records::bytes_of(store);
+    let request = first_request(&start, &told, tvr);
+    let known = at_first(s);
+    let n = generate(s, request, value(&told, 0x8C), &known, buf);
     wait(
         s,
         Waiting::ForCard(Question::First(request)),

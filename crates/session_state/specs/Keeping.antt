@@ -11,12 +11,12 @@ use Rattle.session_phase.specs.declared.Question.the-variants.{Select}
 use Rattle.session_phase.specs.declared.Speaker.the-variants.{Terminal}
 use Rattle.session_phase.specs.declared.Waiting.{Waiting}
 use Rattle.session_phase.specs.declared.Waiting.the-variants.{ForCard, ForWord}
-use Rattle.session_told.specs.Runs.{noRun, keptRun}
-use Rattle.session_told.specs.Telling.{fixed, toldNothing}
-use Rattle.session_told.specs.declared.Told.{Told}
+use Rattle.session_records.specs.Runs.{fixed, noRun, keptRun}
+use Rattle.session_records.specs.Slots.{emptyStore}
+use Rattle.session_records.specs.declared.Store.{Store}
 use Rattle.session_state.specs.declared.State.{State}
 
-unfoldable pub withTold : Told → State → State
+unfoldable pub withTold : Store → State → State
 withTold told s =
     record {
       waiting = s .waiting;
@@ -68,7 +68,7 @@ stateAt waiting bytes =
       profile = zeros 2;
       locator = noRun;
       cursor = start;
-      told = toldNothing;
+      told = emptyStore;
     }
 
 -- before START

@@ -10,8 +10,8 @@ use Rattle.session_phase.specs.declared.Question.{Question}
 use Rattle.session_phase.specs.declared.Question.the-variants.{Select, Options, Record, First, Second}
 use Rattle.session_phase.specs.declared.Speaker.{Speaker}
 use Rattle.session_phase.specs.declared.Speaker.the-variants.{Terminal, Issuer}
-use Rattle.session_told.specs.Runs.{inRun}
-use Rattle.session_told.specs.Facts.{factsIn}
+use Rattle.session_records.specs.Runs.{inRun}
+use Rattle.session_records.specs.Slots.{told}
 use Rattle.session_state.specs.declared.State.{State}
 
 -- the situation beside a profile
@@ -20,7 +20,7 @@ situationWith profile s =
     record {
       terminal = readingOf (s .start);
       profile = profile;
-      facts = factsIn (s .told);
+      facts = told (s .told);
       tvr = s .tvr;
       tsi = s .tsi;
     }

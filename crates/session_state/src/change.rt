@@ -6,9 +6,9 @@ use answer_forms::options;
 use session_phase::Question;
 use session_phase::Speaker;
 use session_phase::Waiting;
-use session_told::Told;
-use session_told::records;
-use session_told::runs;
+use session_records::Store;
+use session_records::records;
+use session_records::runs;
 use slices::lay;
 use start_fields::fields::LENGTH;
 ghost use mathlib.Core.Path.{_≡_};
@@ -43,7 +43,7 @@ pub fn begun(start: &[u8]) -> State
     state_at(Waiting::ForCard(Question::Select), bytes)
 }
 
-pub fn with_told(mut s: State, told: Told) -> State
+pub fn with_told(mut s: State, told: Store) -> State
     ensures { λ r. ⌜ r ≡ withTold told s ⌝ }
 {
     s.told = told;

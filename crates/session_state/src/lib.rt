@@ -4,8 +4,8 @@ pub mod result;
 
 use answer_afl::cursor::Cursor;
 use session_phase::Waiting;
-use session_told::Run;
-use session_told::Told;
+use session_records::Run;
+use session_records::Store;
 use start_fields::fields::LENGTH;
 
 pub struct State {
@@ -19,5 +19,6 @@ pub struct State {
     // the AFL, and the place in it of the next record to ask for
     pub locator: Run,
     pub cursor: Cursor,
-    pub told: Told,
+    // what the records told
+    pub told: Store,
 }

@@ -13,61 +13,36 @@ use lib.Pow.{areBytes}
 use Rattle.slices.specs.Writing.{put, zeros}
 use Rattle.slices.proofs.Choice.{picked, and-left, and-right, and-both}
 use Rattle.tape_crc.proofs.Bytes.{bytes-cons, bytes-append, bytes-take, bytes-drop}
-use Rattle.start_fields.specs.Reading.{Terminal}
+use Rattle.start_fields.specs.Reading.{Terminal, bytesOf}
+use Rattle.start_fields.specs.declared.fields.Field.{Field}
 use Rattle.tape_read.proofs.Extra.{zeros-bytes}
 use Rattle.dol_wanted.specs.Wanted.{Wanted, entriesOf, fillable}
 use Rattle.dol_values.specs.Shape.{shaped, formatOf}
 use Rattle.slices.specs.Tables.{beside}
-use Rattle.dol_values.specs.Known.{held, longest, nothing, kept, ofTerminal, ofSession, orElse, valueFor, withFormat, supplied}
+use Rattle.session_records.specs.Slots.{Facts, orElse}
+use Rattle.dol_values.specs.Known.{ownField, valueBy, valueFor, withFormat, supplied}
 use Rattle.dol_fill.specs.Filled.{entryBytes, filled, filledBy, filledList, filling}
-use Rattle.dol_values.specs.declared.Format.{Format}
-use Rattle.dol_values.specs.declared.Format.the-variants.{Numeric, CardNumber, Other}
-use Rattle.dol_values.specs.declared.Value.{Value}
-use Rattle.dol_values.specs.declared.Known.{Known}
+use Rattle.answer_common.specs.declared.content.Format.{Format}
+use Rattle.answer_common.specs.declared.content.Format.the-variants.{Numeric, CardNumber, Other, Unknown}
+use Rattle.dol_values.specs.declared.Own.{Own}
+use Rattle.dol_values.specs.declared.Own.the-variants.{Of, Nothing}
 
 -- bytes, where there is a value
 abbrev pub Told : Option (List ℕ) → Type 0
 Told o = areBytes (Option·getD o []) ≡ true
 
--- so in every line of a table
-unfoldable pub rowsBytes : List (ℕ × Option (List ℕ)) → Bool
-rowsBytes [] = true
-rowsBytes (line ∷ lines) = areBytes (Option·getD (line .1) []) && rowsBytes lines
-
-pub rows-cons : (tag : ℕ) (o : Option (List ℕ)) (lines : List (ℕ × Option (List ℕ))) → Told o → rowsBytes lines ≡ true → rowsBytes ((tag, o) ∷ lines) ≡ true
-unfolding rowsBytes
-rows-cons tag o lines h k = and-both (areBytes (Option·getD o [])) (rowsBytes lines) h k
-
-pub rows-none : rowsBytes [] ≡ true
-unfolding rowsBytes
-rows-none = refl
-
--- ---- kept values
-
-pub kept-bytes : (s : List ℕ) → areBytes s ≡ true → areBytes (kept s .bytes) ≡ true
-unfolding kept put
-kept-bytes s h =
-    let v = take longest s in
-    bytes-append v (drop (length v) (zeros longest)) (bytes-take longest s h) (bytes-drop (length v) (zeros longest) (zeros-bytes longest))
-
-pub nothing-bytes : areBytes (nothing .bytes) ≡ true
-unfolding nothing
-nothing-bytes = zeros-bytes longest
-
-pub held-bytes : (v : Value) → areBytes (v .bytes) ≡ true → Told (held v)
-unfolding held
-held-bytes v h = picked Told (v .there) (some (take (v .len) (v .bytes))) none (λ y. bytes-take (v .len) (v .bytes) h) (λ n. refl)
-
 -- ---- what is supplied
 
-beside-bytes : (tag : ℕ) (lines : List (ℕ × Option (List ℕ))) → rowsBytes lines ≡ true → Told (beside none tag lines)
-unfolding beside rowsBytes
-beside-bytes tag [] h = refl
-beside-bytes tag (line ∷ lines) h =
-    let own = areBytes (Option·getD (line .1) []) in
-    picked Told (eqb tag (line .0)) (line .1) (beside none tag lines)
-    (λ y. and-left own (rowsBytes lines) h)
-    (λ n. beside-bytes tag lines (and-right own (rowsBytes lines) h))
+-- what stands beside a tag, where it is so of every line of a table and of what there is else
+abbrev pub All : List (ℕ × Option (List ℕ)) → Type 0
+All [] = Unit {0}
+All (line ∷ lines) = Told (line .1) × All lines
+
+pub beside-bytes : (other : Option (List ℕ)) (tag : ℕ) (lines : List (ℕ × Option (List ℕ))) → Told other → All lines → Told (beside other tag lines)
+unfolding beside
+beside-bytes other tag [] h all = h
+beside-bytes other tag (line ∷ lines) h all =
+    picked Told (eqb tag (line .0)) (line .1) (beside other tag lines) (λ y. all .0) (λ n. beside-bytes other tag lines h (all .1))
 
 pub else-bytes : (o other : Option (List ℕ)) → Told o → Told other → Told (orElse o other)
 unfolding orElse
@@ -83,6 +58,7 @@ unfolding shaped
 shaped-bytes Numeric n v h = bytes-append (zeros (n - length v)) (drop (length v - n) v) (zeros-bytes (n - length v)) (bytes-drop (length v - n) v h)
 shaped-bytes CardNumber n v h = bytes-append (take n v) (replicate (n - length v) 0xFF) (bytes-take n v h) (ones-bytes (n - length v))
 shaped-bytes Other n v h = bytes-append (take n v) (zeros (n - length v)) (bytes-take n v h) (zeros-bytes (n - length v))
+shaped-bytes Unknown n v h = zeros-bytes n
 
 entry-bytes : (n : ℕ) (f : Format) (o : Option (List ℕ)) → Told o → areBytes (entryBytes n (withFormat f o)) ≡ true
 unfolding entryBytes withFormat
@@ -91,10 +67,15 @@ entry-bytes n f (some v) h = shaped-bytes f n v h
 
 -- ---- and a list filled with it
 
-module _ (t : Terminal) (k : Known) (own : rowsBytes (ofTerminal t) ≡ true) (seen : rowsBytes (ofSession k) ≡ true) where
+module _ (t : Terminal) (k : Facts) (own : (f : Field) → areBytes (bytesOf f t) ≡ true) (seen : (tag : ℕ) → Told (k tag)) where
+  own-bytes : (tag : ℕ) (o : Own) → Told (valueBy t (k tag) o)
+  unfolding valueBy
+  own-bytes tag (Of f) = own f
+  own-bytes tag Nothing = seen tag
+
   value-bytes : (tag : ℕ) → Told (valueFor t k tag)
   unfolding valueFor
-  value-bytes tag = else-bytes (beside none tag (ofTerminal t)) (beside none tag (ofSession k)) (beside-bytes tag (ofTerminal t) own) (beside-bytes tag (ofSession k) seen)
+  value-bytes tag = own-bytes tag (ownField tag)
 
   filled-bytes : (ws : List Wanted) → areBytes (filled t k ws) ≡ true
   unfolding filled supplied

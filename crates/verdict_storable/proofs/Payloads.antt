@@ -12,7 +12,6 @@ use lib.Pow.{areBytes}
 use Rattle.slices.proofs.Choice.{and-both}
 use Rattle.tape_crc.proofs.Bytes.{bytes-cons, bytes-append}
 use Rattle.tape_read.specs.Entries.{payloadMost}
-use Rattle.dol_values.specs.Known.{ofSession, held, kept}
 use Rattle.dol_fill.specs.Filled.{filling}
 use Rattle.commands.specs.Commands.{longest}
 use Rattle.commands.proofs.Sizes.{data-length, data-most}
@@ -20,23 +19,18 @@ use Rattle.commands.proofs.Shapes.{select-most, options-most, record-most, cryp
 use Rattle.decide_requests.specs.Requests.{p1Of}
 use Rattle.decide_requests.specs.declared.requests.Cryptogram.{Cryptogram}
 use Rattle.decide_requests.specs.declared.requests.Cryptogram.the-variants.{Aac, Tc, Arqc}
-use Rattle.rulebook.specs.Situation.{Situation, perhaps, profileKnown, knownIn, listIn}
+use Rattle.rulebook.specs.Situation.{Situation, profileKnown, knownIn, listIn}
 use Rattle.rulebook.specs.Phase.{Asked, selecting, optioning, reading, first, second, decides, commandOf, decisionOf}
 use Rattle.rulebook.specs.Session.{isPayload}
 use Rattle.rulebook.proofs.Payloads.{payload}
-use Rattle.verdict_storable.proofs.Filling.{Told, rowsBytes, rows-cons, rows-none, kept-bytes, nothing-bytes, held-bytes, filling-bytes}
+use Rattle.verdict_storable.proofs.Filling.{Told, beside-bytes, filling-bytes}
 use Rattle.verdict_storable.proofs.Commanding.{select-bytes, options-bytes, record-bytes, cryptogram-bytes}
 use Rattle.verdict_storable.proofs.Staying.{Knows, Asking, Stays}
 
-perhaps-bytes : (o : Option (List ℕ)) → Told o → areBytes (perhaps o .bytes) ≡ true
-unfolding perhaps
-perhaps-bytes none h = nothing-bytes
-perhaps-bytes (some v) h = kept-bytes v h
-
-profile-known : (v : List ℕ) → areBytes v ≡ true → areBytes (profileKnown v .bytes) ≡ true
+profile-known : (v : List ℕ) → areBytes v ≡ true → Told (profileKnown v)
 unfolding profileKnown
-profile-known [] h = nothing-bytes
-profile-known (b ∷ bs) h = kept-bytes (b ∷ bs) h
+profile-known [] h = refl
+profile-known (b ∷ bs) h = h
 
 p1-byte : (request : Cryptogram) → p1Of request < 256
 p1-byte Aac = omega arith
@@ -44,28 +38,16 @@ p1-byte Tc = omega arith
 p1-byte Arqc = omega arith
 
 module _ (s : Situation) (k : Knows s) (response : Option (List ℕ)) (r : Told response) where
-  known-rows : rowsBytes (ofSession (knownIn s response)) ≡ true
-  unfolding ofSession knownIn
-  known-rows =
-      let fact : (tag : ℕ) → Told (held (perhaps (s .facts tag))) = λ tag. held-bytes (perhaps (s .facts tag)) (perhaps-bytes (s .facts tag) (k .facts tag)) in
-      rows-cons 0x95 _ _ (held-bytes (kept (s .tvr)) (kept-bytes (s .tvr) (k .tvr .bytes)))
-      (rows-cons 0x9B _ _ (held-bytes (kept (s .tsi)) (kept-bytes (s .tsi) (k .tsi .bytes)))
-      (rows-cons 0x8A _ _ (held-bytes (perhaps response) (perhaps-bytes response r))
-      (rows-cons 0x82 _ _ (held-bytes (profileKnown (s .profile)) (profile-known (s .profile) (k .profile)))
-      (rows-cons 0x5A _ _ (fact 0x5A)
-      (rows-cons 0x5F24 _ _ (fact 0x5F24)
-      (rows-cons 0x5F25 _ _ (fact 0x5F25)
-      (rows-cons 0x9F08 _ _ (fact 0x9F08)
-      (rows-cons 0x9F0D _ _ (fact 0x9F0D)
-      (rows-cons 0x9F0E _ _ (fact 0x9F0E)
-      (rows-cons 0x9F0F _ _ (fact 0x9F0F) rows-none))))))))))
+  known-bytes : (tag : ℕ) → Told (knownIn s response tag)
+  unfolding knownIn
+  known-bytes tag = beside-bytes (s .facts tag) tag _ (k .facts tag) (k .tvr .bytes, (k .tsi .bytes, (r, (profile-known (s .profile) (k .profile), tt))))
 
   module _ (list : List ℕ) where
     abbrev pub data′ : List ℕ
     data′ = filling (s .terminal) (knownIn s response) list
 
     pub data-bytes : areBytes data′ ≡ true
-    data-bytes = filling-bytes (s .terminal) (knownIn s response) (k .terminal .own) known-rows list
+    data-bytes = filling-bytes (s .terminal) (knownIn s response) (k .terminal .own) known-bytes list
 
     pub data-few : length data′ ≤ 252
     data-few = omega (arith, data-length (s .terminal) (knownIn s response) list, data-most list)

@@ -15,12 +15,11 @@ use Rattle.slices.proofs.Choice.{picked}
 use Rattle.tape_crc.proofs.Bytes.{bytes-head, bytes-rest, bytes-cons, bytes-take, bytes-drop, bytes-each, bytes-at}
 use Rattle.tlv_list.specs.Objects.{isSome}
 use Rattle.start_fields.specs.declared.fields.Field.{Field}
-use Rattle.start_fields.specs.declared.fields.Field.the-variants.{Amount, OtherAmount, Country, Currency, Date, TransactionType, Unpredictable, Version}
+use Rattle.start_fields.specs.declared.fields.Field.the-variants.{Amount, OtherAmount, Country, Currency, Date, TransactionType, Unpredictable, FloorLimit, Threshold, Version, Denial, Online, Default}
 use Rattle.start_fields.specs.Layout.{beginOf, sizeOf, aidRoom, aidAt}
-use Rattle.start_fields.specs.Reading.{Terminal, readingOf, runIn, aidLengthIn, aidRoomIn}
+use Rattle.start_fields.specs.Reading.{Terminal, readingOf, bytesOf, runIn, aidLengthIn, aidRoomIn}
 use Rattle.tape_read.proofs.Extra.{zeros-bytes}
 use Rattle.dol_wanted.specs.Wanted.{fillable}
-use Rattle.dol_values.specs.Known.{ofTerminal}
 use Rattle.commands.proofs.Shapes.{aid-most}
 use Rattle.answer_afl.specs.Entries.{toRead}
 use Rattle.answer_select.specs.Select.{selectReason, pdolOf}
@@ -35,16 +34,16 @@ use Rattle.decide_requests.specs.declared.requests.Cryptogram.the-variants.{Aac
 use Rattle.decide_requests.specs.declared.reply.HostReply.{HostReply}
 use Rattle.decide_requests.specs.declared.reply.HostReply.the-variants.{Approve, Decline, Unable}
 use Rattle.decide_tvr.proofs.Laws.{tvr-length, tvr-bytes, tsi-length, tsi-length-on, tsi-bytes, tsi-bytes-on}
-use Rattle.rulebook.specs.Situation.{Situation, begun, cardFacts, issuerCodes, listIn}
+use Rattle.rulebook.specs.Situation.{Situation, begun, listIn}
 use Rattle.rulebook.specs.Phase.{Asked, selecting, optioning, reading, first, second, Heard, terminal, issuer, Phase, asks, hears, decides, decided, ended, approved, declined, terminated}
 use Rattle.rulebook.specs.Turn.{goesOn, opened, selected, managed, requested, allRead, readOn, withProfile, optioned, withRecord, recorded, answered, replied, online, byFirst, firstAllows, secondAllows, firstAnswered, secondAnswered, turn, heard as issuerHeard, after}
 use Rattle.verdict_storable.proofs.Values.{profile-bytes, locator-bytes, named-bytes}
-use Rattle.verdict_storable.proofs.Filling.{Told, rowsBytes, rows-cons, rows-none, else-bytes}
+use Rattle.verdict_storable.proofs.Filling.{Told, else-bytes}
 use Rattle.verdict_storable.proofs.Numbers.{numbersOf, read-numbers}
 
 -- the terminal's data
 pub record OfBytes (t : Terminal) : Type 0 where
-  pub own : rowsBytes (ofTerminal t) ≡ true
+  pub own : (f : Field) → areBytes (bytesOf f t) ≡ true
   pub aid : areBytes (t .aid) ≡ true
   pub few : length (t .aid) ≤ 16
 
@@ -81,18 +80,26 @@ Stays (decides outcome reason s) = Knows s × ((outcome < 256) × (reason < 256)
 run-bytes : (f : Field) (b : List ℕ) → areBytes b ≡ true → areBytes (runIn f b) ≡ true
 run-bytes f b h = bytes-take (sizeOf f) (drop (beginOf f) b) (bytes-drop (beginOf f) b h)
 
+field-bytes : (b : List ℕ) → areBytes b ≡ true → (f : Field) → areBytes (bytesOf f (readingOf b)) ≡ true
+unfolding readingOf
+field-bytes b h Amount = run-bytes Amount b h
+field-bytes b h OtherAmount = run-bytes OtherAmount b h
+field-bytes b h Country = run-bytes Country b h
+field-bytes b h Currency = run-bytes Currency b h
+field-bytes b h Date = run-bytes Date b h
+field-bytes b h TransactionType = run-bytes TransactionType b h
+field-bytes b h Unpredictable = run-bytes Unpredictable b h
+field-bytes b h FloorLimit = run-bytes FloorLimit b h
+field-bytes b h Threshold = run-bytes Threshold b h
+field-bytes b h Version = run-bytes Version b h
+field-bytes b h Denial = run-bytes Denial b h
+field-bytes b h Online = run-bytes Online b h
+field-bytes b h Default = run-bytes Default b h
+
 terminal-bytes : (b : List ℕ) → areBytes b ≡ true → OfBytes (readingOf b)
-unfolding readingOf ofTerminal
+unfolding readingOf
 terminal-bytes b h = record {
-  own =
-      rows-cons 0x9F02 _ _ (run-bytes Amount b h)
-      (rows-cons 0x9F03 _ _ (run-bytes OtherAmount b h)
-      (rows-cons 0x9F1A _ _ (run-bytes Country b h)
-      (rows-cons 0x5F2A _ _ (run-bytes Currency b h)
-      (rows-cons 0x9A _ _ (run-bytes Date b h)
-      (rows-cons 0x9C _ _ (run-bytes TransactionType b h)
-      (rows-cons 0x9F37 _ _ (run-bytes Unpredictable b h)
-      (rows-cons 0x9F09 _ _ (run-bytes Version b h) rows-none)))))));
+  own = field-bytes b h;
   aid = bytes-take (aidLengthIn b) (aidRoomIn b) (bytes-take aidRoom (drop aidAt b) (bytes-drop aidAt b h));
   few = aid-most b;
 }
@@ -123,8 +130,8 @@ module _ (s : Situation) (k : Knows s) where
     terminal = k .terminal;
     profile = k .profile;
     facts = k .facts;
-    tvr = row 5 _ (tvr-bytes (s .terminal) (cardFacts s) (s .tvr) (bytes-at (s .tvr) (k .tvr .bytes))) (tvr-length (s .terminal) (cardFacts s) (s .tvr) (k .tvr .size));
-    tsi = row 2 _ (tsi-bytes (s .tsi) (cardFacts s) (bytes-at (s .tsi) (k .tsi .bytes))) (tsi-length (s .tsi) (cardFacts s) (k .tsi .size));
+    tvr = row 5 _ (tvr-bytes (s .terminal) (s .profile) (s .facts) (s .tvr) (bytes-at (s .tvr) (k .tvr .bytes))) (tvr-length (s .terminal) (s .profile) (s .facts) (s .tvr) (k .tvr .size));
+    tsi = row 2 _ (tsi-bytes (s .tsi) (s .profile) (bytes-at (s .tsi) (k .tsi .bytes))) (tsi-length (s .tsi) (s .profile) (k .tsi .size));
   }
 
   answered-knows : Knows (answered s)
@@ -164,7 +171,7 @@ module _ (s : Situation) (k : Knows s) where
   replied-stays : (reply : HostReply) (code : List ℕ) → areBytes code ≡ true → Stays (replied s reply code)
   unfolding replied ended
   replied-stays reply code h =
-      let request = secondRequest reply (s .terminal) (issuerCodes s) (s .tvr) in
+      let request = secondRequest reply (s .terminal) (s .facts) (s .tvr) in
       picked Stays (fillable (listIn s 0x8D)) (asks (second s request (responseCode reply request code))) (decides terminated 9 s)
       (λ y. (k, code-bytes reply request code h))
       (λ n. (k, (omega arith, omega arith)))

@@ -19,7 +19,8 @@ use Rattle.answer_common.specs.Answer.{sizeBad, only, outer, valueUnder, isOne,
 use Rattle.answer_common.specs.Named.{membersIn, among, direct, told, valueOf, listed as isNamed}
 use Rattle.answer_forms.specs.Forms.{template, joined}
 use Rattle.answer_forms.specs.Options.{profileOf, locatorOf}
-use Rattle.answer_record.specs.Records.{recordTag, recordNames, valueIn, namedIn}
+use Rattle.answer_record.specs.Records.{valueIn, namedIn}
+use Rattle.answer_common.specs.Content.{recordTag, recordNames}
 
 -- values of bytes, in all of some objects
 unfoldable allBytes : List Object → Bool

@@ -9,40 +9,41 @@ use lib.ListN.{length, drop}
 use borrow.Author.Needs.{needs}
 use Rattle.slices.specs.Tables.{anyOf}
 use Rattle.answer_common.specs.Named.{standing}
-use Rattle.answer_record.specs.Records.{again, anyAgain, toldBy}
-use Rattle.answer_record.specs.declared.Seen.{Seen}
+use Rattle.answer_record.specs.Records.{again, anyAgain}
+use Rattle.tlv_list.specs.Objects.{isSome}
+use Rattle.session_records.specs.Slots.{toldIn}
 use Rattle.slices.proofs.Tables.{any-one-on, any-found, any-through}
 use Rattle.answer_record.proofs.any_again.Statement.{statement}
 use Rattle.answer_record.proofs.any_again.Tie as tie
 
-abbrev both : Seen → List ℕ → ℕ → Bool
-both seen s name = again (toldBy seen name) (standing s name)
+abbrev both : List ℕ → List ℕ → ℕ → Bool
+both told s name = again (isSome (toldIn told name)) (standing s name)
 
 abbrev Inv-loop : tie.InvT-loop
-Inv-loop seen s names i₀ i = anyOf (map (both seen s) (drop i names)) ≡ anyOf (map (both seen s) names)
+Inv-loop told s names i₀ i = anyOf (map (both told s) (drop i names)) ≡ anyOf (map (both told s) names)
 
 abbrev μ-loop : tie.MeasureT-loop
-μ-loop seen s names i₀ i = length names - i
+μ-loop told s names i₀ i = length names - i
 
 returns : tie.Need-returns Inv-loop μ-loop
 unfolding anyAgain
 returns c =
-    let a = c .before .before .before .before .before .before .before .args in
+    let a = c .before .before .before .before .before .before .before .before .args in
     let l = c .before .before .before .before .loop in
-    sym (any-found (both (a .seen) (a .s .now)) (a .names .now) (l .i) (omega arith) (sym (c .before .is-again .ensures) ∙ c .if1 .taken)) ∙ l .inv
+    sym (any-found (both (a .told .now) (a .s .now)) (a .names .now) (l .i) (omega arith) (sym (c .before .is-again .ensures) ∙ c .if1 .taken)) ∙ l .inv
 
 loop-again : tie.Need-loop-again Inv-loop μ-loop
 loop-again c =
-    let a = c .before .before .before .before .before .before .before .args in
+    let a = c .before .before .before .before .before .before .before .before .args in
     let l = c .before .before .before .before .loop in
-    sym (any-one-on (both (a .seen) (a .s .now)) (a .names .now) (l .i) (omega arith) (sym (c .before .is-again .ensures) ∙ c .if1 .left)) ∙ l .inv
+    sym (any-one-on (both (a .told .now) (a .s .now)) (a .names .now) (l .i) (omega arith) (sym (c .before .is-again .ensures) ∙ c .if1 .left)) ∙ l .inv
 
 returns-2 : tie.Need-returns-2 Inv-loop μ-loop
 unfolding anyAgain
 returns-2 c =
-    let a = c .before .before .before .before .args in
+    let a = c .before .before .before .before .before .args in
     let l = c .before .loop in
-    sym (any-through (both (a .seen) (a .s .now)) (a .names .now) (l .i) (omega arith)) ∙ l .inv
+    sym (any-through (both (a .told .now) (a .s .now)) (a .names .now) (l .i) (omega arith)) ∙ l .inv
 
 pub any-again-spec : {M : Type 1} → statement M
 any-again-spec =

@@ -4,12 +4,13 @@ use mathlib.Core.Path.{_≡_, sym, ap, _∙_}
 use borrow.Author.Needs.{needs}
 use Rattle.answer_common.specs.Named.{direct, anyWrong}
 use Rattle.answer_common.proofs.Lines.{line-yes, line-no, last-no}
-use Rattle.answer_record.specs.Records.{recordNames, recordLines}
+use Rattle.answer_record.specs.Records.{recordLines}
+use Rattle.answer_common.specs.Content.{recordNames}
 use Rattle.answer_record.proofs.Standing.{record-found}
 use Rattle.answer_record.proofs.content_reason.Statement.{statement}
 use Rattle.answer_record.proofs.content_reason.Tie as tie
 
-found : (c : tie.After-any-wrong-in-checked) → c .any-wrong-in-checked .result ≡ anyWrong recordNames (direct 0x70 (c .before .before .before .before .before .before .args .answer .now))
+found : (c : tie.After-any-wrong-in-checked) → c .any-wrong-in-checked .result ≡ anyWrong recordNames (direct 0x70 (c .before .before .before .before .before .before .before .args .answer .now))
 found c = c .any-wrong-in-checked .ensures ∙ ap (anyWrong recordNames) (record-found _ (c .before .before .inside .ensures))
 
 returns : tie.Need-returns

@@ -5,6 +5,8 @@ use mathlib.Core.Bool.{not}
 use Prim.Native.Nat.{ℕ}
 use lib.Dec.{eqb}
 use borrow.Author.Needs.{needs}
+use Rattle.tlv_list.specs.Objects.{isSome}
+use Rattle.session_records.specs.Slots.{toldIn}
 use Rattle.slices.proofs.Tables.{and-yes, and-no}
 use Rattle.answer_record.specs.Records.{again}
 use Rattle.answer_record.proofs.is_again.Statement.{statement}
@@ -14,11 +16,11 @@ returns : tie.Need-returns
 unfolding again
 returns c =
     ap (λ (n : ℕ). not (eqb n 0)) (c .times-in-checked .ensures)
-    ∙ sym (and-yes (c .before .before .was-told .ensures) _ (c .before .if1 .taken))
+    ∙ sym (and-yes (c .before .before .has .ensures) _ (c .before .if1 .taken))
 
 returns-2 : tie.Need-returns-2
 unfolding again
-returns-2 c = sym (and-no (c .before .was-told .ensures) _ (c .if1 .left))
+returns-2 c = sym (and-no (c .before .has .ensures) _ (c .if1 .left))
 
 pub is-again-spec : {M : Type 1} → statement M
 is-again-spec = tie.close (tie.spec (λ c κs. search needs) (λ c κs. search needs) returns returns-2)

@@ -4,7 +4,8 @@ use mathlib.Core.Path.{_∙_}
 use mathlib.Core.List.{[], _∷_}
 use borrow.Author.Needs.{needs}
 use Rattle.answer_common.proofs.Lines.{frame-decides, frame-clear}
-use Rattle.answer_record.specs.Records.{recordTag, recordReason}
+use Rattle.answer_record.specs.Records.{recordReason}
+use Rattle.answer_common.specs.Content.{recordTag}
 use Rattle.answer_record.proofs.record_reason.Statement.{statement}
 use Rattle.answer_record.proofs.record_reason.Tie as tie
 

@@ -1,7 +1,7 @@
 -- `session_answers::on_select` meets its contract: a bad answer ends the session, and a good one leads to GPO, filled from 9F38.
 -- Assumes nothing.
 use borrow.Author.Needs.{needs}
-use Rattle.dol_values.specs.declared.Known.{Known}
+use Rattle.session_records.specs.Slots.{Facts}
 use mathlib.Core.Path.{_≡_, refl, sym, ap, ap₂, _∙_}
 use native.Mathlib.Omega.{arith}
 use mathlib.Core.List.{List, [], _∷_}
@@ -35,20 +35,20 @@ returns c =
 returns-2 : tie.Need-returns-2
 unfolding turn selected keeping early situationWith commandOf situationOf questionOf cursorAsking
 returns-2 c =
-    let args = c .before .before .before .before .before .before .before .before .before .before .before .before .before .args in
+    let args = c .before .before .before .before .before .before .before .before .before .before .before .before .before .before .args in
     let s = args .s in
     let a = args .a .now in
     let buf = args .buf .now in
-    let why = c .before .before .before .before .before .before .before .before .select-reason .result in
-    let same = ap₂ (λ (k : Known) (l : List ℕ). optionsCommand (filling (readingOf (s .start)) k l))
-    (c .before .before .before .before .before .at-options .ensures)
+    let why = c .before .before .before .before .before .before .before .before .before .select-reason .result in
+    let same = ap₂ (λ (k : Facts) (l : List ℕ). optionsCommand (filling (readingOf (s .start)) k l))
+    (c .before .before .before .before .before .before .before .at-options .ensures .1)
     (c .before .before .before .before .before .before .pdol .ensures) in
     asking-on s buf (optioning (early s) (pdolOf a)) same (c .before .before .before .options .ensures .0)
     (c .before .before .before .options .ensures .1) (c .wait .ensures) refl refl refl
     ∙ sym
     (reason-next why (selectReason (readingOf (s .start)) a) (early s) (asks (optioning (early s) (pdolOf a))) s buf
-    (c .before .before .before .before .before .before .before .before .select-reason .ensures)
-    (c .before .before .before .before .before .before .before .if1 .left))
+    (c .before .before .before .before .before .before .before .before .before .select-reason .ensures)
+    (c .before .before .before .before .before .before .before .before .if1 .left))
 
 pub on-select-spec : {M : Type 1} → statement M
 on-select-spec =
@@ -60,6 +60,7 @@ on-select-spec =
     returns
     (λ c κs. search needs)
     (λ c κs. search needs)
+    (λ c. search needs)
     (λ c κs. search needs)
     (λ c κs. search needs)
     (λ c. search needs)

@@ -11,7 +11,7 @@ use Rattle.start_fields.specs.Reading.{readingOf}
 use Rattle.dol_wanted.specs.Wanted.{fillable}
 use Rattle.decide_requests.specs.Requests.{secondRequest}
 use Rattle.decide_requests.specs.declared.reply.HostReply.the-variants.{Unable}
-use Rattle.rulebook.specs.Situation.{issuerCodes, listIn}
+use Rattle.rulebook.specs.Situation.{listIn}
 use Rattle.rulebook.specs.Phase.{issuer, second, Phase, asks, dueKind, tvrOf, tsiOf, ended}
 use Rattle.rulebook.specs.Turn.{replied, online}
 use Rattle.session_state.specs.Reading.{situationWith, late}
@@ -28,7 +28,7 @@ returns c =
     let s = args .s in
     let buf = args .buf .now in
     let z = late s in
-    let q = secondRequest Unable (readingOf (s .start)) (issuerCodes z) (s .tvr) in
+    let q = secondRequest Unable (readingOf (s .start)) (z .facts) (s .tvr) in
     let same = ap (λ (x : List ℕ). pick (fillable (listIn z 0x8D)) (asks (second z q x)) (ended 9 z)) (unable-code q (0 ∷ 0 ∷ []) []) in
     c .before .before .request-second .ensures
     ∙ ap (λ (p : Phase). moved p s buf) (same

@@ -14,16 +14,14 @@ use Rattle.rulebook.specs.Phase.{Phase, decides, ended}
 use Rattle.rulebook.specs.Turn.{managed, requested, allRead}
 use Rattle.session_state.specs.declared.State.{State}
 use Rattle.session_state.specs.Reading.{situationWith, late}
-use Rattle.session_told.specs.Facts.{factsIn}
-use Rattle.session_readings.specs.Readings.{decisionFacts}
+use Rattle.session_records.specs.Slots.{told}
 use Rattle.start_fields.specs.Reading.{readingOf}
-use Rattle.decide_tvr.specs.Card.{factsOf}
 use Rattle.decide_tvr.specs.Results.{tvrAfterRecords, tsiAfterRecords}
 use Rattle.session_moves.specs.Moves.{moved}
 use Rattle.session_records_read.specs.Storing.{managedState}
 use Rattle.session_moves.proofs.Moving.{late-decided}
 use Rattle.session_moves.proofs.Bits.{bits-moved}
-use Rattle.session_records_read.proofs.Managing.{late-managed, expiry-told}
+use Rattle.session_records_read.proofs.Managing.{late-managed}
 use Rattle.answer_laws.proofs.Reasons.{after-small}
 use Rattle.session_records_read.proofs.all_read.Statement.{statement}
 use Rattle.session_records_read.proofs.all_read.Tie as tie
@@ -37,12 +35,12 @@ returns c =
     late-decided s buf 3 8 (c .end .ensures)
     ∙ sym
     (ap (λ (p : Phase). moved p s buf)
-    (pick-yes _ _ _ (eq-eqb (afterRecords (factsIn (s .told))) 8 (sym (c .before .before .reason .ensures) ∙ c .before .if1 .taken))))
+    (pick-yes _ _ _ (eq-eqb (afterRecords (told (s .told))) 8 (sym (c .before .before .reason .ensures) ∙ c .before .if1 .taken))))
 
 request-first-requires : tie.Need-request-first-requires
 request-first-requires c κs =
     omega
-    (arith, c .before .before .before .reason .ensures, after-small (factsIn (c .before .before .before .before .before .args .s .told)))
+    (arith, c .before .before .before .reason .ensures, after-small (told (c .before .before .before .before .before .args .s .told)))
 
 returns-2 : tie.Need-returns-2
 unfolding allRead late situationWith managedState
@@ -50,16 +48,16 @@ returns-2 c =
     let args = c .before .before .before .before .before .before .before .before .args in
     let s = args .s in
     let buf = args .buf .now in
-    let n = afterRecords (factsIn (s .told)) in
+    let n = afterRecords (told (s .told)) in
     let e = c .before .before .before .before .before .before .reason .ensures in
-    let told = factsOf (decisionFacts s) in
     let h : n ≡ 8 → ⊥ = λ x. c .before .before .before .before .before .if1 .left (e ∙ x) in
     c .before .before .request-first .ensures
     ∙ (ap (λ (t : State). moved (requested (c .before .before .before .before .before .before .reason .result) (late t)) t buf)
     (c .before .before .before .before .managed .ensures)
     ∙ (ap (λ (k : ℕ). moved (requested k (late (managedState s))) (managedState s) buf) e
-    ∙ (bits-moved (requested n (late (managedState s))) (s .waiting) (tvrAfterRecords (readingOf (s .start)) told (s .tvr)) (tsiAfterRecords told (s .tsi)) s buf
-    ∙ (ap (λ (z : Situation). moved (requested n z) s buf) (late-managed s (expiry-told s h))
+    ∙ (bits-moved (requested n (late (managedState s))) (s .waiting) (tvrAfterRecords (readingOf (s .start)) (s .profile) (told (s .told)) (s .tvr))
+    (tsiAfterRecords (s .profile) (s .tsi)) s buf
+    ∙ (ap (λ (z : Situation). moved (requested n z) s buf) (late-managed s)
     ∙ sym (ap (λ (p : Phase). moved p s buf) (pick-no _ _ _ (ne-eqb n 8 h)))))))
 
 pub all-read-spec : {M : Type 1} → statement M

@@ -9,7 +9,7 @@ use Rattle.answer_afl.proofs.Walking.{one-less, none-remain}
 use Rattle.rulebook.specs.Phase.{reading, situationOf, commandOf}
 use Rattle.rulebook.specs.Turn.{readOn}
 use Rattle.session_state.specs.Reading.{situationWith, late, recordsLeft}
-use Rattle.session_told.specs.Runs.{inRun}
+use Rattle.session_records.specs.Runs.{inRun}
 use Rattle.session_moves.specs.Moves.{questionOf, cursorAsking, moved}
 use Rattle.session_moves.proofs.Moving.{asking}
 use Rattle.session_records_read.proofs.read_on.Statement.{statement}

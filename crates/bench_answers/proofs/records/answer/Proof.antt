@@ -8,10 +8,10 @@ use Rattle.bench_answers.proofs.records.answer.Statement.{statement}
 use Rattle.bench_answers.proofs.records.answer.Tie as tie
 
 abbrev Inv-loop : tie.InvT-loop
-Inv-loop words seen₀ left₀ seen left = Unit {0}
+Inv-loop words store₀ left₀ store left = Unit {0}
 
 abbrev μ-loop : tie.MeasureT-loop
-μ-loop words seen₀ left₀ seen left = length left
+μ-loop words store₀ left₀ store left = length left
 
 loop-less : tie.Need-loop-less Inv-loop μ-loop
 loop-less c = after-shorter (c .before .before .before .before .before .loop .left .now) _ (c .after-word .ensures) (omega arith)
@@ -30,6 +30,5 @@ answer-spec =
     (λ c κs. search needs)
     loop-less
     (λ c. tt)
-    (λ c κs. search needs)
     (λ c κs. search needs)
     (λ c. tt))

@@ -12,32 +12,15 @@ use Rattle.decide_requests.proofs.requests.code_match.Tie as tie
 
 returns : tie.Need-returns
 unfolding codeMatch
-returns c =
-    let b = c .before .before .before .before in
-    let tvr = b .before .before .args .t5 in
-    let issuer = c .before .in-both .ensures ∙ ap (λ (l : List ℕ). meet l tvr) (b .issuer-code .ensures) in
-    c .if1 .taken ∙ sym (meet-first _ _ tvr (sym issuer ∙ c .if1 .taken))
+returns c = let i = c .before .issuer-match .ensures in c .if1 .taken ∙ sym (meet-first _ _ _ (sym i ∙ c .if1 .taken))
 
 returns-2 : tie.Need-returns-2
 unfolding codeMatch
 returns-2 c =
     let e = c .before .before .before in
-    let b = e .before .before .before .before in
-    let tvr = b .before .before .args .t5 in
-    let issuer = e .before .in-both .ensures ∙ ap (λ (l : List ℕ). meet l tvr) (b .issuer-code .ensures) in
-    let terminal = c .in-both2 .ensures ∙ ap (λ (l : List ℕ). meet l tvr) (c .before .before .bytes .ensures) in
-    terminal ∙ sym (meet-second _ _ tvr (sym issuer ∙ e .if1 .left))
+    let a = e .before .before .before .before .args in
+    let i = e .before .issuer-match .ensures in
+    c .in-both .ensures ∙ (ap (λ (l : List ℕ). meet l (a .t6)) (c .before .before .bytes .ensures) ∙ sym (meet-second _ _ _ (sym i ∙ e .if1 .left)))
 
 pub code-match-spec : {M : Type 1} → statement M
-code-match-spec =
-    tie.close
-    (tie.spec
-    (λ c κs. search needs)
-    (λ c. search needs)
-    (λ c. search needs)
-    (λ c κs. search needs)
-    (λ c κs. search needs)
-    (λ c. search needs)
-    (λ c κs. search needs)
-    returns
-    returns-2)
+code-match-spec = tie.close (tie.spec (λ c κs. search needs) (λ c κs. search needs) (λ c. search needs) (λ c κs. search needs) returns returns-2)

@@ -6,32 +6,31 @@ use Prim.Native.Nat.{ℕ}
 use borrow.Author.Needs.{needs}
 use Rattle.start_fields.specs.Reading.{readingOf}
 use Rattle.decide_requests.specs.declared.reply.HostReply.{HostReply}
-use Rattle.decide_requests.specs.declared.requests.Codes.{Codes}
-use Rattle.decide_requests.specs.Codes.{codesOf}
+use Rattle.session_records.specs.Slots.{Facts, toldIn}
 use Rattle.decide_requests.specs.Requests.{whenUnable, secondRequest}
 use Rattle.decide_requests.proofs.requests.second_request.Statement.{statement}
 use Rattle.decide_requests.proofs.requests.second_request.Tie as tie
 
 -- the definition at the reply that was told
-at : (s : List ℕ) (issuer : Codes) (tvr : List ℕ) {r told : HostReply} → r ≡ told → secondRequest told (readingOf s) (codesOf issuer) tvr ≡ secondRequest r (readingOf s) (codesOf issuer) tvr
-at s issuer tvr e = sym (ap (λ (r : HostReply). secondRequest r (readingOf s) (codesOf issuer) tvr) e)
+at : (s : List ℕ) (told : Facts) (tvr : List ℕ) {r reply : HostReply} → r ≡ reply → secondRequest reply (readingOf s) told tvr ≡ secondRequest r (readingOf s) told tvr
+at s told tvr e = sym (ap (λ (r : HostReply). secondRequest r (readingOf s) told tvr) e)
 
 returns : tie.Need-returns
 unfolding secondRequest
-returns c = let a = c .before .before .before .args in at (a .start .now) (a .issuer) (a .tvr) (c .enum-told .given .1)
+returns c = let a = c .before .before .before .before .args in at (a .start .now) (toldIn (a .told .now)) (a .tvr) (c .enum-told .given .1)
 
 returns-2 : tie.Need-returns-2
 unfolding secondRequest
-returns-2 c = let a = c .before .before .before .args in at (a .start .now) (a .issuer) (a .tvr) (c .enum-told2 .given .1)
+returns-2 c = let a = c .before .before .before .before .args in at (a .start .now) (toldIn (a .told .now)) (a .tvr) (c .enum-told2 .given .1)
 
 returns-3 : tie.Need-returns-3
 unfolding secondRequest
 returns-3 c =
     let e = c .before .before .before in
-    let a = e .before .before .before .args in
+    let a = e .before .before .before .before .args in
     let kind = c .before .kind .ensures in
     let default = c .before .before .default-match .ensures in
-    c .when-unable .ensures ∙ ((λ i. whenUnable (kind i) (default i)) ∙ at (a .start .now) (a .issuer) (a .tvr) (e .enum-told3 .given .1))
+    c .when-unable .ensures ∙ ((λ i. whenUnable (kind i) (default i)) ∙ at (a .start .now) (toldIn (a .told .now)) (a .tvr) (e .enum-told3 .given .1))
 
 pub second-request-spec : {M : Type 1} → statement M
 second-request-spec =

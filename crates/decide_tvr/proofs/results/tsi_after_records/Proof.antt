@@ -14,7 +14,7 @@ returns : tie.Need-returns
 unfolding tsiAfterRecords
 returns c =
     let set = c .before .flag .ensures .0 ∙ ap (λ (t : Bool). flag t 0x08) (c .before .before .risk-managed .ensures) in
-    c .join2 .ensures ∙ ap (λ (b : ℕ). joined (c .before .before .before .before .args .tsi) (b ∷ 0 ∷ [])) set
+    c .join2 .ensures ∙ ap (λ (b : ℕ). joined (c .before .before .before .args .tsi) (b ∷ 0 ∷ [])) set
 
 pub tsi-after-records-spec : {M : Type 1} → statement M
 tsi-after-records-spec = tie.close (tie.spec (λ c κs. search needs) (λ c κs. search needs) (λ c κs. search needs) returns)

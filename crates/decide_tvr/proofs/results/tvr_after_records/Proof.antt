@@ -12,7 +12,7 @@ use Rattle.decide_tvr.proofs.results.tvr_after_records.Tie as tie
 returns : tie.Need-returns
 unfolding tvrAfterRecords
 returns c =
-    let tvr = c .before .before .before .before .args .tvr in
+    let tvr = c .before .before .before .before .before .args .tvr in
     c .join5 .ensures
     ∙ ap₂ (λ (b d : ℕ). joined tvr (0x80 ∷ b ∷ 0 ∷ d ∷ 0 ∷ [])) (c .before .before .restrictions .ensures) (c .before .risks .ensures)
 

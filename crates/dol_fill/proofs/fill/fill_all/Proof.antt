@@ -11,6 +11,7 @@ use Rattle.slices.specs.Writing.{put}
 use Rattle.slices.proofs.Cutting.{rest-part, none-left}
 use Rattle.slices.proofs.Writing.{put-length, put-nothing}
 use Rattle.start_fields.specs.Reading.{readingOf}
+use Rattle.session_records.specs.Slots.{toldIn}
 use Rattle.dol_wanted.specs.Wanted.{sizeAt, entriesOf, totalBy, totalOf}
 use Rattle.dol_fill.specs.Filled.{firstBytes, filled, filledBy, filledList}
 use Rattle.dol_wanted.proofs.Entries.{turn-fits, turn-some, turn-total, fillable-some, entries-empty}
@@ -24,7 +25,7 @@ Inv-loop list start known buf₀ at rest₀ p₀ buf rest p =
     (isSome (entriesOf rest) ≡ true)
     × (p + totalBy (entriesOf rest) ≤ length buf₀)
     × (length buf ≡ length buf₀)
-    × (put (filledBy (readingOf start) known (entriesOf rest)) p buf ≡ put (filledList (readingOf start) known list) at buf₀)
+    × (put (filledBy (readingOf start) (toldIn known) (entriesOf rest)) p buf ≡ put (filledList (readingOf start) (toldIn known) list) at buf₀)
 
 abbrev μ-loop : tie.MeasureT-loop
 μ-loop list start known buf₀ at rest₀ p₀ buf rest p = length rest
@@ -33,7 +34,7 @@ loop-holds : tie.Need-loop-holds Inv-loop μ-loop
 unfolding totalOf filledList
 loop-holds c =
     let s = c .before .before .before in
-    (fillable-some (s .args .list .now) (s .pre .0), s .pre .1, refl, refl)
+    (fillable-some (s .before .args .list .now) (s .before .pre .0), s .before .pre .1, refl, refl)
 
 -- what a turn finds at the front of the rest
 fits : (c : tie.In-loop Inv-loop μ-loop) → tagSize (c .before .loop .rest .now) + 1 ≤ length (c .before .loop .rest .now)
@@ -73,7 +74,7 @@ loop-less c = let h = inside (c .before) in rw (length-take, length-drop) (omega
 
 loop-again : tie.Need-loop-again Inv-loop μ-loop
 loop-again c =
-    let a = c .before .before .before .before .before .before .before .before .before .before .before .before .args in
+    let a = c .before .before .before .before .before .before .before .before .before .before .before .before .before .args in
     let t = readingOf (a .start .now) in
     let l = c .before .before .before .before .before .before .before .before .loop in
     let r = l .rest .now in
@@ -84,29 +85,29 @@ loop-again c =
     let s = c .before .before .size-at .ensures .0 in
     let written = c .before .before .before .before .before .fill-first .ensures in
     let there = room turn in
-    let first = first-length t (a .known) r in
-    let long : length (put (firstBytes t (a .known) r) (l .p) (l .buf)) ≡ length (l .buf) = put-length (firstBytes t (a .known) r) (l .p) (l .buf) (omega arith) in
+    let first = first-length t (toldIn (a .known .now)) r in
+    let long : length (put (firstBytes t (toldIn (a .known .now)) r) (l .p) (l .buf)) ≡ length (l .buf) = put-length (firstBytes t (toldIn (a .known .now)) r) (l .p) (l .buf) (omega arith) in
     let sum = turn-total r (turn .loop-test .taken) (l .inv .0) in
     let same = ap length written in
     let left : l .p + c .before .before .size-at .result + totalBy (entriesOf (drop (tagSize r + 1) r)) ≤ length (a .buf .now) = (let h = l .inv .1 in omega arith) in (
       ap (λ (x : List ℕ). isSome (entriesOf x)) rest ∙ turn-some r (turn .loop-test .taken) (l .inv .0),
       rw rest left,
       (let h = l .inv .2 in omega arith),
-      ap (λ (x : List ℕ). put (filledBy t (a .known) (entriesOf x)) (l .p + c .before .before .size-at .result) (c .before .before .before .before .before .fill-first .last .1 .1 .1 .0)) rest
-          ∙ (ap (λ (k : ℕ). put (filledBy t (a .known) (entriesOf (drop (tagSize r + 1) r))) (l .p + k) (c .before .before .before .before .before .fill-first .last .1 .1 .1 .0)) s
-          ∙ (ap (put (filledBy t (a .known) (entriesOf (drop (tagSize r + 1) r))) (l .p + sizeAt r)) written
-          ∙ (turn-put t (a .known) r (l .buf) (l .p) (turn .loop-test .taken) (l .inv .0) there ∙ l .inv .3))),
+      ap (λ (x : List ℕ). put (filledBy t (toldIn (a .known .now)) (entriesOf x)) (l .p + c .before .before .size-at .result) (c .before .before .before .before .before .fill-first .last .1 .1 .1 .0)) rest
+          ∙ (ap (λ (k : ℕ). put (filledBy t (toldIn (a .known .now)) (entriesOf (drop (tagSize r + 1) r))) (l .p + k) (c .before .before .before .before .before .fill-first .last .1 .1 .1 .0)) s
+          ∙ (ap (put (filledBy t (toldIn (a .known .now)) (entriesOf (drop (tagSize r + 1) r))) (l .p + sizeAt r)) written
+          ∙ (turn-put t (toldIn (a .known .now)) r (l .buf) (l .p) (turn .loop-test .taken) (l .inv .0) there ∙ l .inv .3))),
     )
 
 returns : tie.Need-returns Inv-loop μ-loop
 unfolding filledBy filled
 returns c =
     let l = c .before .loop in
-    let a = c .before .before .before .before .before .args in
+    let a = c .before .before .before .before .before .before .args in
     let t = readingOf (a .start .now) in
     let empty = none-left (l .rest .now) (omega arith) in
-    let written : filledBy t (a .known) (entriesOf (l .rest .now)) ≡ []
-    = ap (λ (r : List ℕ). filledBy t (a .known) (entriesOf r)) empty ∙ ap (filledBy t (a .known)) entries-empty in
+    let written : filledBy t (toldIn (a .known .now)) (entriesOf (l .rest .now)) ≡ []
+    = ap (λ (r : List ℕ). filledBy t (toldIn (a .known .now)) (entriesOf r)) empty ∙ ap (filledBy t (toldIn (a .known .now))) entries-empty in
     sym (put-nothing (l .p) (l .buf)) ∙ (ap (λ (s : List ℕ). put s (l .p) (l .buf)) (sym written) ∙ l .inv .3)
 
 pub fill-all-spec : {M : Type 1} → statement M

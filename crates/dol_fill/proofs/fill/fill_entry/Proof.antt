@@ -1,53 +1,94 @@
 -- `fill::fill_entry` meets its contract: a value that is there is shaped, and where none is the room is all zeros.
 -- Assumes nothing.
 use mathlib.Core.Path.{_≡_, refl, sym, ap, _∙_}
-use mathlib.Core.Bool.{Bool, true, false}
-use mathlib.Core.Option.{Option, none, some}
-use mathlib.Core.List.{List}
+use mathlib.Core.Option.{Option, none, some, Option·getD}
+use mathlib.Core.List.{List, []}
+use mathlib.Core.Bool.{true, false}
 use Prim.Native.Nat.{ℕ}
-use lib.ListN.{length, take}
-use Rattle.slices.proofs.Choice.{pick-yes, pick-no}
+use lib.ListN.{length}
+use Rattle.slices.specs.Tests.{isSome}
 use Rattle.slices.specs.Writing.{zeros}
-use Rattle.dol_values.specs.Shape.{shaped}
-use Rattle.dol_values.specs.Known.{held, withFormat}
+use Rattle.start_fields.specs.Reading.{Terminal, readingOf, bytesOf}
+use Rattle.start_fields.specs.declared.fields.Field.{Field}
+use Rattle.session_records.specs.Slots.{toldIn, Facts}
+use Rattle.session_records.proofs.Present.{is-there, is-none}
+use Rattle.dol_values.specs.Shape.{shaped, formatOf}
+use Rattle.dol_values.specs.Known.{ownField, valueBy, valueFor, withFormat, supplied}
+use Rattle.dol_values.specs.declared.Own.{Own}
+use Rattle.dol_values.specs.declared.Own.the-variants.{Of, Nothing}
+use Rattle.answer_common.specs.declared.content.Format.{Format}
 use Rattle.dol_fill.specs.Filled.{entryBytes}
-use Rattle.dol_values.specs.declared.Format.{Format}
-use Rattle.dol_values.specs.declared.Value.{Value}
-use Rattle.dol_values.proofs.Tables.{counting}
 use borrow.Author.Needs.{needs}
 use Rattle.dol_fill.proofs.fill.fill_entry.Statement.{statement}
 use Rattle.dol_fill.proofs.fill.fill_entry.Tie as tie
 
-module _ (n : ℕ) (f : Format) (v : Value) where
-  there : v .there ≡ true → shaped f n (take (v .len) (v .bytes)) ≡ entryBytes n (withFormat f (held v))
-  unfolding entryBytes withFormat held
-  there e = sym (ap (λ (o : Option (List ℕ)). entryBytes n (withFormat f o)) (pick-yes _ _ _ e))
+-- the entry's bytes by what the tag is: START's own, known, or not there
+module _ (n : ℕ) (t : Terminal) (known : Facts) (tag : ℕ) where
+  abbrev by-own : Own → Option (List ℕ) → List ℕ
+  by-own own other = entryBytes n (withFormat (formatOf tag) (valueBy t other own))
 
-  not-there : v .there ≡ false → zeros n ≡ entryBytes n (withFormat f (held v))
-  unfolding entryBytes withFormat held
-  not-there e = sym (ap (λ (o : Option (List ℕ)). entryBytes n (withFormat f o)) (pick-no _ _ _ e))
+  own-bytes : (f : Field) → ownField tag ≡ Of f → shaped (formatOf tag) n (bytesOf f t) ≡ entryBytes n (supplied t known tag)
+  unfolding entryBytes withFormat supplied valueFor valueBy
+  own-bytes f e = sym (ap (λ o. by-own o (known tag)) e)
 
-slice-aggregate-shape : tie.Need-slice-aggregate-shape
-slice-aggregate-shape c =
-    let v = c .before .before .before .before .before .before .args .v in
-    let n = c .before .before .size-of in
-    let b = c .before .before .before .bytes-of in
-    n .ensures .0 ∙ sym (ap length (counting v (n .result) (b .result) (b .ensures .0) (n .ensures .0)))
+  known-bytes : ownField tag ≡ Nothing → isSome (known tag) ≡ true → shaped (formatOf tag) n (Option·getD (known tag) []) ≡ entryBytes n (supplied t known tag)
+  unfolding entryBytes withFormat supplied valueFor valueBy
+  known-bytes e h = sym (ap (λ o. by-own o (known tag)) e ∙ ap (by-own Nothing) (is-there (known tag) h))
+
+  not-there : ownField tag ≡ Nothing → isSome (known tag) ≡ false → zeros n ≡ entryBytes n (supplied t known tag)
+  unfolding entryBytes withFormat supplied valueFor valueBy
+  not-there e h = sym (ap (λ o. by-own o (known tag)) e ∙ ap (by-own Nothing) (is-none (known tag) h))
 
 returns : tie.Need-returns
 returns c =
-    let a = c .before .before .before .before .before .before .before .before .before .args in
-    let n = c .before .before .before .before .before .size-of in
-    let b = c .before .before .before .before .before .before .bytes-of in
-    c .before .before .shape .ensures
-    ∙ (ap (shaped (a .format) (length (a .part .now))) (counting (a .v) (n .result) (b .result) (b .ensures .0) (n .ensures .0))
-    ∙ there (length (a .part .now)) (a .format) (a .v) (c .before .before .before .before .before .before .before .if1 .taken))
+    let k = c .before .before in
+    let f = k .before .before .before .before in
+    let o = f .before .before in
+    let a = o .before .before .before .before .before .args in
+    k .shape .ensures
+    ∙ ((λ i. shaped (o .before .format-of .ensures i) (length (a .part .now)) (k .before .bytes .ensures i))
+    ∙ own-bytes (length (a .part .now)) (readingOf (a .start .now)) (toldIn (a .known .now)) (a .tag) (f .field .given .0 .0)
+    (sym (o .own-field .ensures) ∙ f .field .given .1))
 
 returns-2 : tie.Need-returns-2
-unfolding zeros
 returns-2 c =
-    let a = c .before .before .before .before .before .before .args in
-    c .before .before .blank .ensures ∙ not-there (length (a .part .now)) (a .format) (a .v) (c .before .before .before .before .if1 .left)
+    let k = c .before .before in
+    let h = k .before .before .before .before in
+    let o = h .before .before .before in
+    let a = o .before .before .before .before .before .args in
+    k .shape2 .ensures
+    ∙ ((λ i. shaped (o .before .format-of .ensures i) (length (a .part .now)) (k .before .value .ensures i))
+    ∙ known-bytes (length (a .part .now)) (readingOf (a .start .now)) (toldIn (a .known .now)) (a .tag)
+    (sym (o .own-field .ensures) ∙ h .before .enum-told .given .1) (sym (h .has .ensures) ∙ k .before .before .before .if1 .taken))
+
+returns-3 : tie.Need-returns-3
+unfolding zeros
+returns-3 c =
+    let k = c .before .before in
+    let h = k .before .before .before in
+    let o = h .before .before .before in
+    let a = o .before .before .before .before .before .args in
+    k .blank .ensures
+    ∙ not-there (length (a .part .now)) (readingOf (a .start .now)) (toldIn (a .known .now)) (a .tag)
+    (sym (o .own-field .ensures) ∙ h .before .enum-told .given .1) (sym (h .has .ensures) ∙ k .before .before .if1 .left)
 
 pub fill-entry-spec : {M : Type 1} → statement M
-fill-entry-spec = tie.close (tie.spec (λ c κs. search needs) (λ c κs. search needs) (λ c. search needs) slice-aggregate-shape (λ c κs. search needs) (λ c κs. search needs) (λ c. search needs) returns (λ c. search needs) returns-2)
+fill-entry-spec =
+    tie.close
+    (tie.spec
+    (λ c κs. search needs)
+    (λ c κs. search needs)
+    (λ c. search needs)
+    (λ c κs. search needs)
+    (λ c κs. search needs)
+    (λ c. search needs)
+    (λ c κs. search needs)
+    (λ c κs. search needs)
+    (λ c κs. search needs)
+    (λ c κs. search needs)
+    (λ c. search needs)
+    returns
+    (λ c. search needs)
+    returns-2
+    (λ c. search needs)
+    returns-3)

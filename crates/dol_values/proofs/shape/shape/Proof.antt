@@ -6,7 +6,7 @@ use Prim.Native.Nat.{ℕ, _-_}
 use lib.ListN.{length, take, replicate}
 use Rattle.slices.specs.Writing.{zeros}
 use Rattle.dol_values.specs.Shape.{shaped}
-use Rattle.dol_values.specs.declared.Format.{Format}
+use Rattle.answer_common.specs.declared.content.Format.{Format}
 use borrow.Author.Needs.{needs}
 use Rattle.dol_values.proofs.shape.shape.Statement.{statement}
 use Rattle.dol_values.proofs.shape.shape.Tie as tie
@@ -28,5 +28,29 @@ returns-3 c =
     let a = c .before .before .before .before .before .before .before .before .args in
     c .before .before .at-left-end2 .ensures ∙ ap (λ (f : Format). shaped f (length (a .part .now)) (a .v .now)) (sym (c .before .before .before .before .enum-told3 .given .1))
 
+returns-4 : tie.Need-returns-4
+unfolding shaped zeros
+returns-4 c =
+    let a = c .before .before .before .before .before .before .before .before .args in
+    c .before .before .blank .ensures ∙ ap (λ (f : Format). shaped f (length (a .part .now)) (a .v .now)) (sym (c .before .before .before .before .enum-told4 .given .1))
+
 pub shape-spec : {M : Type 1} → statement M
-shape-spec = tie.close (tie.spec (λ c. search needs) (λ c κs. search needs) (λ c. search needs) (λ c κs. search needs) (λ c. search needs) (λ c κs. search needs) (λ c. search needs) returns (λ c. search needs) returns-2 (λ c. search needs) returns-3)
+shape-spec =
+    tie.close
+    (tie.spec
+    (λ c. search needs)
+    (λ c κs. search needs)
+    (λ c. search needs)
+    (λ c κs. search needs)
+    (λ c. search needs)
+    (λ c κs. search needs)
+    (λ c. search needs)
+    (λ c κs. search needs)
+    (λ c. search needs)
+    returns
+    (λ c. search needs)
+    returns-2
+    (λ c. search needs)
+    returns-3
+    (λ c. search needs)
+    returns-4)

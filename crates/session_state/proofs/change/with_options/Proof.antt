@@ -3,7 +3,7 @@
 use mathlib.Core.List.{[], _∷_}
 use borrow.Author.Needs.{needs}
 use Rattle.answer_afl.specs.Cursor.{start}
-use Rattle.session_told.specs.Runs.{keptRun}
+use Rattle.session_records.specs.Runs.{keptRun}
 use mathlib.Core.Path.{_≡_, refl, sym, ap, _∙_}
 use Rattle.slices.specs.Writing.{laid, zeros}
 use Rattle.session_state.specs.Keeping.{withOptions}

@@ -1,0 +1,24 @@
+// What the records of a card have told: one array, a slot for each name. Beside it long values that are kept by value.
+pub mod records;
+pub mod runs;
+pub mod slots;
+
+// The bytes of all slots together.
+pub const END: usize = 561;
+
+pub struct Slot {
+    pub at: usize,
+    pub size: usize,
+}
+
+// A slot's first byte is 0 where nothing was told, else one more than the number of bytes after it that count.
+pub struct Store {
+    pub bytes: [u8; END],
+}
+
+// A long value that is kept by value: its first `len` bytes count, where it is there at all.
+pub struct Run {
+    pub bytes: [u8; 252],
+    pub len: usize,
+    pub there: bool,
+}

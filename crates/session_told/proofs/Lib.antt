@@ -1,3 +1,0 @@
-pub mod There
-pub mod Overlay
-pub mod Telling
