@@ -21,7 +21,6 @@ MUTABLE = re.compile(r"&(?:'\w+ )?mut\b")
 # Promises that are not an equation of the whole answer: why they fit one answer all the same.
 OTHERWISE = {
     "tlv_write write": "`one-answer` in `crates/tlv_write/proofs/Refusals.antt`: refusal and size together are the answer",
-    "session_records runs::size_of": "the first r of the run's 252 bytes are what it holds, and r is at most 252, so r is how many that are",
     "judge judge": "`judged-once` in `crates/verdict_judged/proofs/Once.antt`: no tape has two answers",
 }
 

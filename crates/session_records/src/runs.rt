@@ -37,7 +37,7 @@ pub fn bytes_of(run: Run) -> [u8; 252]
 }
 
 pub fn size_of(run: Run) -> usize
-    ensures { λ r. ⌜ (take r (run .bytes) ≡ inRun run) × (r ≤ 252) × (length (run .bytes) ≡ 252) ⌝ }
+    ensures { λ r. ⌜ (take r (run .bytes) ≡ inRun run) × (r ≤ 252) × (length (run .bytes) ≡ 252) × (r ≡ length (inRun run)) ⌝ }
 {
     let bytes = bytes_of(run);
     let len = run.len;
