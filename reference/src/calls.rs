@@ -1,5 +1,6 @@
 //! Sequences of kernel calls as text: one session a line, every call with
-//! its event, payload, room and reply.
+//! its event, payload, room and reply, and the session's sum of what was
+//! filled with zeros (02, R-6).
 
 use crate::commands::Outcome;
 use crate::hex;
@@ -31,6 +32,22 @@ impl Call {
     }
 }
 
+/// A call that was made, and what came of it.
+#[derive(Clone, Debug)]
+pub struct Made {
+    pub call: Call,
+    pub reply: Reply,
+    /// The session's sum after the call.
+    pub unsupplied: usize,
+}
+
+impl Made {
+    pub fn new(call: Call, session: &mut Session) -> Made {
+        let reply = call.make(session);
+        Made { call, reply, unsupplied: session.unsupplied() }
+    }
+}
+
 fn lower(bytes: &[u8]) -> String {
     hex::text(bytes).to_lowercase()
 }
@@ -47,14 +64,15 @@ fn reply_text(reply: &Reply) -> String {
 }
 
 /// One line of a file of sessions.
-pub fn session_line(number: usize, calls: &[(Call, Reply)]) -> String {
-    let one = |(call, reply): &(Call, Reply)| {
+pub fn session_line(number: usize, calls: &[Made]) -> String {
+    let one = |made: &Made| {
         format!(
-            "{{\"event\": \"{}\", \"payload\": \"{}\", \"room\": {}, \"reply\": {}}}",
-            call.event,
-            lower(&call.payload),
-            call.room,
-            reply_text(reply)
+            "{{\"event\": \"{}\", \"payload\": \"{}\", \"room\": {}, \"reply\": {}, \"zeros\": {}}}",
+            made.call.event,
+            lower(&made.call.payload),
+            made.call.room,
+            reply_text(&made.reply),
+            made.unsupplied
         )
     };
     let all: Vec<String> = calls.iter().map(one).collect();
@@ -79,6 +97,11 @@ fn read_call(value: &Value) -> Option<(Call, String)> {
     Some((call, reply))
 }
 
+/// What is said of a call beside its reply. Files from before R-6 have no sum.
+fn with_sum(reply: String, sum: Option<u64>) -> String {
+    sum.map_or(reply.clone(), |sum| format!("{reply} zeros {sum}"))
+}
+
 /// Plays one line again: calls made, and those whose reply differs.
 fn replay(line: &str) -> Option<(usize, Vec<String>)> {
     let value = json::parse(line)?;
@@ -87,8 +110,11 @@ fn replay(line: &str) -> Option<(usize, Vec<String>)> {
     let mut session = Session::default();
     let mut differing = Vec::new();
     for (index, call) in calls.iter().enumerate() {
+        let sum = call.get("zeros").and_then(Value::number);
         let (call, wanted) = read_call(call)?;
-        let got = reply_text(&call.make(&mut session));
+        let made = Made::new(call, &mut session);
+        let wanted = with_sum(wanted, sum);
+        let got = with_sum(reply_text(&made.reply), sum.map(|_| made.unsupplied as u64));
         if got != wanted {
             differing.push(format!("session {number} call {index}: expected {wanted}, got {got}"));
         }
@@ -129,13 +155,16 @@ mod tests {
             Call { event: ANSWER, payload: vec![], room: 261 },
             Call { event: SILENCE, payload: vec![], room: 300 },
         ];
-        let pairs: Vec<(Call, Reply)> =
-            calls.into_iter().map(|c| (c.clone(), c.make(&mut session))).collect();
-        let line = session_line(4, &pairs);
+        let made = calls.map(|call| Made::new(call, &mut session));
+        let line = session_line(4, &made);
         assert!(line.contains("[\"refused\", 1]") && line.contains("00a40400"));
         assert_eq!(replay(&line), Some((4, vec![])));
         let (_, differing) = replay(&line.replace("\"refused\", 2", "\"refused\", 4")).unwrap();
         assert_eq!(differing.len(), 1);
+        let (_, differing) = replay(&line.replace("\"zeros\": 0", "\"zeros\": 1")).unwrap();
+        assert_eq!(differing.len(), 4);
+        let (_, differing) = replay(&line.replace(", \"zeros\": 0", "")).unwrap();
+        assert_eq!(differing.len(), 0);
         assert_eq!(replay("{}"), None);
     }
 }

@@ -1,7 +1,7 @@
 //! The subcommands that work on files and lines.
 
 use crate::hex;
-use crate::judge::{judge, Verdict};
+use crate::judge::{judge, Judgement};
 use crate::kernel::{Event, Reply, Session, LONGEST_COMMAND};
 use crate::lists::{fill, Known};
 use crate::objects;
@@ -20,7 +20,7 @@ fn failed(what: &str) -> impl Fn(io::Error) -> String + '_ {
 }
 
 /// Judges without taking in more than is needed to see that it is too much.
-fn judge_from(source: impl Read) -> io::Result<Verdict> {
+fn judge_from(source: impl Read) -> io::Result<Judgement> {
     let mut bytes = Vec::new();
     source.take((MOST_BLOCKS * BLOCK + 1) as u64).read_to_end(&mut bytes)?;
     Ok(judge(&bytes))
@@ -28,15 +28,15 @@ fn judge_from(source: impl Read) -> io::Result<Verdict> {
 
 pub fn judge_tapes(files: &[String]) -> Outcome {
     if files.is_empty() {
-        let verdict = judge_from(io::stdin().lock()).map_err(failed("standard input"))?;
-        println!("{verdict}");
+        let judgement = judge_from(io::stdin().lock()).map_err(failed("standard input"))?;
+        println!("{judgement}");
     }
     let mut out = io::BufWriter::new(io::stdout().lock());
     for file in files {
         let path = Path::new(file);
         let name = path.file_name().map(|n| n.to_string_lossy()).unwrap_or_default();
-        let verdict = File::open(path).and_then(judge_from).map_err(failed(file))?;
-        writeln!(out, "{name} {verdict}").map_err(failed("standard output"))?;
+        let judgement = File::open(path).and_then(judge_from).map_err(failed(file))?;
+        writeln!(out, "{name} {judgement}").map_err(failed("standard output"))?;
     }
     Ok(())
 }
@@ -186,8 +186,9 @@ pub fn write_objects() -> Outcome {
     each_line(|line| write_line(line).map(Some))
 }
 
-/// `LIST TAG=VALUE ..`: the list filled from the values given.
-fn fill_line(line: &str) -> Result<String, String> {
+/// `LIST TAG=VALUE ..`: the list filled from the values given; with `counted`
+/// also how many entries had none (02, R-6).
+fn fill_line(line: &str, counted: bool) -> Result<String, String> {
     let mut words = line.split_whitespace();
     let list = bytes_of(words.next().unwrap_or("-"))?;
     let mut values = Vec::new();
@@ -201,13 +202,16 @@ fn fill_line(line: &str) -> Result<String, String> {
         known.add(*tag, value);
     }
     Ok(match fill(&list, &known) {
-        Some(data) => hex::text_or_dash(&data),
+        Some(filled) if counted => {
+            format!("{} {}", hex::text_or_dash(&filled.data), filled.unsupplied)
+        }
+        Some(filled) => hex::text_or_dash(&filled.data),
         None => "reason 9".to_string(),
     })
 }
 
-pub fn fill_lists() -> Outcome {
-    each_line(|line| fill_line(line).map(Some))
+pub fn fill_lists(counted: bool) -> Outcome {
+    each_line(|line| fill_line(line, counted).map(Some))
 }
 
 /// `COLD CAPTURE` or `WARM CAPTURE`: an answer to reset.
@@ -270,11 +274,16 @@ mod tests {
 
     #[test]
     fn fill_lines() {
-        assert_eq!(fill_line("9F0204 9F02=000000007500").unwrap(), "00007500");
-        assert_eq!(fill_line("9F3702 9F37=11223344").unwrap(), "1122");
-        assert_eq!(fill_line("-").unwrap(), "-");
-        assert_eq!(fill_line("00").unwrap(), "reason 9");
-        assert_eq!(fill_line("5A03 5A=").unwrap(), "FFFFFF");
+        let filled = |line: &str| fill_line(line, false);
+        assert_eq!(filled("9F0204 9F02=000000007500").unwrap(), "00007500");
+        assert_eq!(filled("9F3702 9F37=11223344").unwrap(), "1122");
+        assert_eq!(filled("-").unwrap(), "-");
+        assert_eq!(filled("00").unwrap(), "reason 9");
+        assert_eq!(filled("5A03 5A=").unwrap(), "FFFFFF");
+        let counted = |line: &str| fill_line(line, true).unwrap();
+        assert_eq!(counted("9F02045A009C01 9F02=000000007500"), "0000750000 2");
+        assert_eq!(counted("5A00"), "- 1");
+        assert_eq!(counted("00"), "reason 9");
     }
 
     #[test]

@@ -29,6 +29,21 @@ impl fmt::Display for Verdict {
     }
 }
 
+/// A verdict and the fourth number of its line (02, R-6).
+#[derive(Clone, Copy, Debug, PartialEq, Eq)]
+pub struct Judgement {
+    pub verdict: Verdict,
+    /// The session's sum at the end of the tape, for FAIL before the named
+    /// entry; 0 for UNREADABLE.
+    pub unsupplied: usize,
+}
+
+impl fmt::Display for Judgement {
+    fn fmt(&self, f: &mut fmt::Formatter) -> fmt::Result {
+        write!(f, "{} {}", self.verdict, self.unsupplied)
+    }
+}
+
 /// What may stand next on the tape.
 enum Next {
     Start,
@@ -78,24 +93,34 @@ impl Follower {
     }
 }
 
-pub fn judge(bytes: &[u8]) -> Verdict {
+pub fn judge(bytes: &[u8]) -> Judgement {
     // No entry is looked at until every block has proved readable: damage
     // outranks broken rules, wherever the two are.
-    let entries = match tape::read(bytes) {
-        Ok(entries) => entries,
-        Err(damage) => return Verdict::Unreadable(damage),
-    };
+    match tape::read(bytes) {
+        Ok(entries) => follow(&entries),
+        Err(damage) => Judgement { verdict: Verdict::Unreadable(damage), unsupplied: 0 },
+    }
+}
+
+/// The judgement on the entries of a readable tape.
+fn follow(entries: &[Entry]) -> Judgement {
     let mut follower = Follower { session: Session::default(), next: Next::Start };
+    let mut verdict = None;
     for (index, &entry) in entries.iter().enumerate() {
         match follower.after(entry) {
             Some(next) => follower.next = next,
-            None => return Verdict::Fail(index),
+            None => {
+                verdict = Some(Verdict::Fail(index));
+                break;
+            }
         }
     }
-    match follower.next {
+    let verdict = verdict.unwrap_or(match follower.next {
         Next::Finished => Verdict::Pass(entries.len()),
         _ => Verdict::Inconclusive(entries.len()),
-    }
+    });
+    // An entry that breaks the rules has left the session as it was.
+    Judgement { verdict, unsupplied: follower.session.unsupplied() }
 }
 
 #[cfg(test)]
@@ -132,35 +157,53 @@ mod tests {
 
     #[test]
     fn run_cases_empty_and_one_byte() {
-        assert_eq!(judge(&[]).to_string(), "INCONCLUSIVE 0 0");
-        assert_eq!(judge(&[0]).to_string(), "UNREADABLE 0 2");
+        assert_eq!(judge(&[]).to_string(), "INCONCLUSIVE 0 0 0");
+        assert_eq!(judge(&[0]).to_string(), "UNREADABLE 0 2 0");
     }
 
     #[test]
     fn whole_and_cut() {
-        assert_eq!(first(4, &[]), "PASS 4 0");
+        assert_eq!(first(4, &[]), "PASS 4 0 0");
         for count in 0..4 {
-            assert_eq!(first(count, &[]), format!("INCONCLUSIVE {count} 0"));
+            assert_eq!(first(count, &[]), format!("INCONCLUSIVE {count} 0 0"));
         }
     }
 
     #[test]
     fn silences() {
         let silence = || (tape::SILENCE, vec![]);
-        assert_eq!(first(2, &[silence()]), "INCONCLUSIVE 3 0");
-        assert_eq!(first(1, &[silence()]), "FAIL 1 0");
-        assert_eq!(first(3, &[silence()]), "FAIL 3 0");
-        assert_eq!(first(4, &[silence()]), "FAIL 4 0");
-        assert_eq!(first(2, &[(tape::SILENCE, vec![0])]), "FAIL 2 0");
-        assert_eq!(first(2, &[silence(), silence()]), "FAIL 3 0");
-        assert_eq!(first(2, &[silence(), (tape::ANSWER, vec![])]), "FAIL 3 0");
+        assert_eq!(first(2, &[silence()]), "INCONCLUSIVE 3 0 0");
+        assert_eq!(first(1, &[silence()]), "FAIL 1 0 0");
+        assert_eq!(first(3, &[silence()]), "FAIL 3 0 0");
+        assert_eq!(first(4, &[silence()]), "FAIL 4 0 0");
+        assert_eq!(first(2, &[(tape::SILENCE, vec![0])]), "FAIL 2 0 0");
+        assert_eq!(first(2, &[silence(), silence()]), "FAIL 3 0 0");
+        assert_eq!(first(2, &[silence(), (tape::ANSWER, vec![])]), "FAIL 3 0 0");
     }
 
     #[test]
     fn wrong_entries() {
-        assert_eq!(first(0, &[(tape::START, vec![])]), "FAIL 0 0");
-        assert_eq!(first(1, &[(tape::COMMAND, vec![])]), "FAIL 1 0");
-        assert_eq!(first(3, &[(tape::DECISION, h("030300000000000000"))]), "FAIL 3 0");
-        assert_eq!(first(4, &[(tape::START, sample().to_vec())]), "FAIL 4 0");
+        assert_eq!(first(0, &[(tape::START, vec![])]), "FAIL 0 0 0");
+        assert_eq!(first(1, &[(tape::COMMAND, vec![])]), "FAIL 1 0 0");
+        assert_eq!(first(3, &[(tape::DECISION, h("030300000000000000"))]), "FAIL 3 0 0");
+        assert_eq!(first(4, &[(tape::START, sample().to_vec())]), "FAIL 4 0 0");
+    }
+
+    /// SELECT's answer asks for 9F06 and for 82, before it can be there.
+    #[test]
+    fn the_fourth_number() {
+        let asking = || (tape::ANSWER, h("6F11 8405A000000003 A508 9F3805 9F0601 8202 9000"));
+        let options = || (tape::COMMAND, h("80A80000058303 000000 00"));
+        assert_eq!(first(2, &[asking()]), "INCONCLUSIVE 3 0 2");
+        assert_eq!(first(2, &[asking(), options()]), "INCONCLUSIVE 4 0 2");
+        assert_eq!(first(2, &[asking(), (tape::COMMAND, vec![])]), "FAIL 3 0 2");
+        assert_eq!(first(1, &[asking()]), "FAIL 1 0 0");
+        let silence = || (tape::SILENCE, vec![]);
+        assert_eq!(first(2, &[asking(), options(), silence()]), "INCONCLUSIVE 5 0 2");
+        assert_eq!(first(2, &[asking(), options(), silence(), silence()]), "FAIL 5 0 2");
+        let refused = || (tape::ANSWER, h("6985"));
+        let end = || (tape::DECISION, h("030200000000000000"));
+        assert_eq!(first(2, &[asking(), options(), refused(), end()]), "PASS 6 0 2");
+        assert_eq!(first(2, &[asking(), options(), refused(), end(), end()]), "FAIL 6 0 2");
     }
 }

@@ -56,8 +56,9 @@ pub enum Session {
     #[default]
     Fresh,
     Running(Box<Running>),
-    /// There was a decision, or the card kept silent.
-    Over,
+    /// There was a decision, or the card kept silent. The number is the sum
+    /// that the session had reached (02, R-6).
+    Over(usize),
 }
 
 /// A session between its START and its end.
@@ -71,6 +72,8 @@ pub struct Running {
     card: CardData,
     /// 8A, once the second request is being made.
     response: Option<[u8; 2]>,
+    /// Entries of the lists filled so far that had no value (02, R-6).
+    unsupplied: usize,
     due: Due,
 }
 
@@ -110,9 +113,19 @@ impl Session {
             _ => Reply::Refused(OUT_OF_TURN),
         };
         if matches!(reply, Reply::Decision(_) | Reply::Closed) {
-            *self = Session::Over;
+            *self = Session::Over(self.unsupplied());
         }
         reply
+    }
+
+    /// How many entries of the object lists filled so far were not known or
+    /// not yet there (02, R-6).
+    pub fn unsupplied(&self) -> usize {
+        match self {
+            Session::Fresh => 0,
+            Session::Running(running) => running.unsupplied,
+            Session::Over(sum) => *sum,
+        }
     }
 
     /// The first line of 01's table that applies to a kernel call.
@@ -120,7 +133,7 @@ impl Session {
         if room < LONGEST_COMMAND {
             return Some(SHORT_BUFFER);
         }
-        if matches!(self, Session::Over) {
+        if matches!(self, Session::Over(_)) {
             return Some(OVER);
         }
         match event {
@@ -153,6 +166,7 @@ impl Running {
             records: Vec::new(),
             card: CardData::default(),
             response: None,
+            unsupplied: 0,
             due: Due::Select,
         }
     }
@@ -172,7 +186,7 @@ impl Running {
 
     fn after_select(&mut self, bytes: &[u8]) -> Result<Reply, Reason> {
         let list = read_select(bytes, self.terminal.aid())?;
-        let data = fill(&list.unwrap_or_default(), &self.known()).ok_or(BAD_LIST)?;
+        let data = self.filled(&list.unwrap_or_default())?;
         self.due = Due::Options;
         Ok(Reply::Command(options_command(&data)))
     }
@@ -194,7 +208,7 @@ impl Running {
         }
         self.set_facts();
         let asked = first_request(&self.terminal, &self.issuer_codes(), &self.tvr);
-        let data = self.filled(0x8C)?;
+        let data = self.filled_from_card(0x8C)?;
         self.due = Due::First(asked);
         Ok(Reply::Command(generate_command(asked, &data)))
     }
@@ -232,7 +246,7 @@ impl Running {
     fn second(&mut self, host: Host) -> Reply {
         let (asked, code) = second_request(&self.terminal, &self.issuer_codes(), &self.tvr, host);
         self.response = Some(code);
-        match self.filled(0x8D) {
+        match self.filled_from_card(0x8D) {
             Ok(data) => {
                 self.due = Due::Second(asked);
                 Reply::Command(generate_command(asked, &data))
@@ -274,9 +288,17 @@ impl Running {
     }
 
     /// The data for one of the two GENERATE AC lists.
-    fn filled(&self, list: u16) -> Result<Vec<u8>, Reason> {
-        let list = self.card.get(list).unwrap_or_default();
-        fill(list, &self.known()).ok_or(BAD_LIST)
+    fn filled_from_card(&mut self, list: u16) -> Result<Vec<u8>, Reason> {
+        let list = self.card.get(list).unwrap_or_default().to_vec();
+        self.filled(&list)
+    }
+
+    /// The data for a list; what it had no value for joins the sum. A list
+    /// that cannot be filled adds nothing.
+    fn filled(&mut self, list: &[u8]) -> Result<Vec<u8>, Reason> {
+        let filled = fill(list, &self.known()).ok_or(BAD_LIST)?;
+        self.unsupplied += filled.unsupplied;
+        Ok(filled.data)
     }
 
     /// Everything an object list can draw on at this moment. The lists 8C and
@@ -328,151 +350,4 @@ fn generate_command(asked: Cryptogram, data: &[u8]) -> Vec<u8> {
 }
 
 #[cfg(test)]
-pub mod tests {
-    use super::*;
-    use crate::hex;
-    use crate::terminal::tests::sample;
-
-    pub fn h(text: &str) -> Vec<u8> {
-        hex::bytes(&text.replace(' ', "")).unwrap()
-    }
-
-    /// Steps through with a buffer large enough; replies as text.
-    fn replies(start: &[u8], events: &[&str]) -> Vec<String> {
-        let mut session = Session::default();
-        let mut out = vec![show(session.step(261, Event::Start(start)))];
-        for event in events {
-            let (word, payload) = event.split_once(' ').unwrap_or((event, ""));
-            let bytes = h(payload);
-            let event = match word {
-                "ANSWER" => Event::Answer(&bytes),
-                "HOST" => Event::Host(&bytes),
-                _ => Event::Silence,
-            };
-            out.push(show(session.step(261, event)));
-        }
-        out
-    }
-
-    fn show(reply: Reply) -> String {
-        match reply {
-            Reply::Command(bytes) => hex::text(&bytes),
-            Reply::HostDue => "HOST".into(),
-            Reply::Decision(bytes) => format!("DECISION {}", hex::text(&bytes)),
-            Reply::Closed => "CLOSED".into(),
-            Reply::Refused(number) => format!("REFUSED {number}"),
-        }
-    }
-
-    const SELECT: &str = "ANSWER 6F098405A000000003A500 9000";
-    const OPTIONS: &str = "ANSWER 80060000 08010100 9000";
-    /// CDOL1 asks for TVR and TSI, CDOL2 for 8A and TSI.
-    const RECORD: &str = "ANSWER 70 13 5A0112 5F2403261231 8C0495059B02 8D048A029B02 9000";
-    const RECORD_FIXED: &str = "ANSWER 70 15 5A0112 5F2403261231 8C0495059B02 8D048A029B02 9000";
-
-    fn cryptogram(top: &str) -> String {
-        format!("ANSWER 80 0B {top} 0001 0000000000000000 9000")
-    }
-
-    #[test]
-    fn run_case_no_list_from_select() {
-        let out = replies(&sample(), &[SELECT]);
-        assert_eq!(out, ["00A4040005A00000000300", "80A800000283 0000".replace(' ', "").as_str()]);
-        let out = replies(&sample(), &["ANSWER 6F0C8405A000000003A5039F3800 9000"]);
-        assert_eq!(out[1], "80A8000002830000");
-    }
-
-    #[test]
-    fn case_g_first_record_command() {
-        let out = replies(&sample(), &[SELECT, "ANSWER 80060000 08010301 9000"]);
-        assert_eq!(out[2], "00B2010C00");
-    }
-
-    #[test]
-    fn online_session_to_approval() {
-        let events =
-            [SELECT, OPTIONS, RECORD_FIXED, &cryptogram("80"), "HOST 013030", &cryptogram("40")];
-        let out = replies(&sample(), &events);
-        assert_eq!(out[3], "80AE800007 8000000000 0000 00".replace(' ', ""));
-        assert_eq!(out[4], "HOST");
-        assert_eq!(out[5], "80AE400004 3030 2000 00".replace(' ', ""));
-        assert_eq!(out[6], "DECISION 010080000000002000");
-    }
-
-    #[test]
-    fn a_wrong_length_inside_the_record() {
-        let out = replies(&sample(), &[SELECT, OPTIONS, RECORD]);
-        assert_eq!(out[3], "DECISION 030300000000000000");
-    }
-
-    #[test]
-    fn offline_terminal_goes_on_by_itself() {
-        let mut start = sample();
-        start[0] = 0;
-        // 9F0D all zeros: no default match, so TC is asked both times.
-        let record =
-            "ANSWER 70 1D 5A0112 5F2403261231 8C0495059B02 8D048A029B02 9F0D050000000000 9000";
-        let out = replies(&start, &[SELECT, OPTIONS, record, &cryptogram("80"), &cryptogram("00")]);
-        assert_eq!(out[3], "80AE400007 8000000000 0000 00".replace(' ', ""));
-        assert_eq!(out[4], "80AE400004 5933 2000 00".replace(' ', ""));
-        assert_eq!(out[5], "DECISION 020080000000002000");
-    }
-
-    #[test]
-    fn list_reasons_at_their_places() {
-        let pdol = "ANSWER 6F0D8405A000000003A5049F380100 9000";
-        assert_eq!(replies(&sample(), &[pdol])[1], "DECISION 030900000000000000");
-        let first = "ANSWER 70 11 5A0112 5F2403261231 8C0100 8D03000000 9000";
-        let out = replies(&sample(), &[SELECT, OPTIONS, first]);
-        assert_eq!(out[3], "DECISION 030980000000000000");
-        let second = "ANSWER 70 10 5A0112 5F2403261231 8C00 8D03000000 9000";
-        let out = replies(&sample(), &[SELECT, OPTIONS, second, &cryptogram("80"), "HOST 030000"]);
-        assert_eq!(out[3], "80AE800000");
-        assert_eq!(out[5], "DECISION 030980000000002000");
-    }
-
-    #[test]
-    fn refusals_in_order() {
-        let start = sample();
-        let mut session = Session::default();
-        assert_eq!(session.step(260, Event::Start(&[])), Reply::Refused(1));
-        assert_eq!(session.step(261, Event::Start(&[])), Reply::Refused(3));
-        assert_eq!(session.step(261, Event::Silence), Reply::Refused(4));
-        assert_eq!(session.step(261, Event::Answer(&[0; 497])), Reply::Refused(4));
-        assert!(matches!(session.step(261, Event::Start(&start)), Reply::Command(_)));
-        assert_eq!(session.step(261, Event::Start(&[])), Reply::Refused(3));
-        assert_eq!(session.step(261, Event::Start(&start)), Reply::Refused(4));
-        assert_eq!(session.step(261, Event::Host(&[])), Reply::Refused(4));
-        assert_eq!(session.step(261, Event::Answer(&[0; 497])), Reply::Refused(5));
-        assert_eq!(session.step(0, Event::Silence), Reply::Refused(1));
-        assert_eq!(session.step(261, Event::Silence), Reply::Closed);
-        assert_eq!(session.step(261, Event::Start(&[])), Reply::Refused(2));
-        assert_eq!(session.step(260, Event::Silence), Reply::Refused(1));
-    }
-
-    #[test]
-    fn refusal_six_and_silence_while_host_is_due() {
-        let events = [
-            SELECT,
-            OPTIONS,
-            RECORD_FIXED,
-            &cryptogram("80"),
-            "SILENCE",
-            "HOST 030001",
-            "HOST",
-            "HOST 020000",
-            "HOST 020000",
-        ];
-        let out = replies(&sample(), &events);
-        assert_eq!(out[5..8], ["REFUSED 4", "REFUSED 6", "REFUSED 6"]);
-        assert_eq!(out[8], "80AE000004 0000 2000 00".replace(' ', ""));
-        assert_eq!(out[9], "REFUSED 4");
-    }
-
-    #[test]
-    fn an_answer_of_496_bytes_is_an_answer() {
-        let long = format!("ANSWER {}", "00".repeat(496));
-        assert_eq!(replies(&sample(), &[&long])[1], "DECISION 030100000000000000");
-        assert_eq!(replies(&sample(), &["ANSWER"])[1], "DECISION 030100000000000000");
-    }
-}
+pub mod tests;

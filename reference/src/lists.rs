@@ -84,17 +84,28 @@ fn fit(tag: u16, value: &[u8], length: usize, out: &mut Vec<u8>) {
     }
 }
 
+/// A list that was filled.
+#[derive(Clone, Debug, PartialEq, Eq)]
+pub struct Filled {
+    pub data: Vec<u8>,
+    /// How many entries had no value to draw on (02, R-6). Those that ask for
+    /// no bytes count like all others; a value of zeros is a value.
+    pub unsupplied: usize,
+}
+
 /// The data a list asks for, or nothing where 01 has reason 9.
-pub fn fill(list: &[u8], known: &Known) -> Option<Vec<u8>> {
-    let wishes = read(list)?;
-    let mut out = Vec::new();
-    for (tag, length) in wishes {
+pub fn fill(list: &[u8], known: &Known) -> Option<Filled> {
+    let mut filled = Filled { data: Vec::new(), unsupplied: 0 };
+    for (tag, length) in read(list)? {
         match known.get(tag) {
-            Some(value) => fit(tag, value, length, &mut out),
-            None => out.extend(std::iter::repeat_n(0x00, length)),
+            Some(value) => fit(tag, value, length, &mut filled.data),
+            None => {
+                filled.data.extend(std::iter::repeat_n(0x00, length));
+                filled.unsupplied += 1;
+            }
         }
     }
-    Some(out)
+    Some(filled)
 }
 
 #[cfg(test)]
@@ -104,7 +115,14 @@ mod tests {
     fn one(list: &[u8], tag: u16, value: &[u8]) -> Option<Vec<u8>> {
         let mut known = Known::default();
         known.add(tag, value);
-        fill(list, &known)
+        fill(list, &known).map(|filled| filled.data)
+    }
+
+    /// How many entries go unsupplied if only 9F03 is known, as zeros.
+    fn unsupplied(list: &[u8]) -> Option<usize> {
+        let mut known = Known::default();
+        known.add(0x9F03, &[0; 6]);
+        fill(list, &known).map(|filled| filled.unsupplied)
     }
 
     #[test]
@@ -144,5 +162,18 @@ mod tests {
         assert_eq!(one(&[0x9B, 252], 0x9C, &[7]), Some(vec![0; 252]));
         assert_eq!(one(&[0x9B, 253], 0x9C, &[7]), None);
         assert_eq!(one(&[0x9B, 200, 0x82, 53], 0x9C, &[7]), None);
+    }
+
+    #[test]
+    fn entries_without_a_value_are_counted() {
+        assert_eq!(unsupplied(&[]), Some(0));
+        assert_eq!(unsupplied(&[0x9F, 0x03, 6]), Some(0));
+        assert_eq!(unsupplied(&[0x9F, 0x03, 0, 0x9F, 0x03, 2, 0x9F, 0x03, 9]), Some(0));
+        assert_eq!(unsupplied(&[0x9F, 0x02, 6]), Some(1));
+        assert_eq!(unsupplied(&[0x9F, 0x02, 0]), Some(1));
+        assert_eq!(unsupplied(&[0x9C, 1, 0x9C, 1, 0x9F, 0x03, 1, 0x70, 3]), Some(3));
+        assert_eq!(unsupplied(&[0x9C, 252, 0x9C, 1]), None);
+        assert_eq!(unsupplied(&[0x9C, 1, 0x00]), None);
+        assert_eq!(unsupplied(&[0x9C, 0].repeat(126)), Some(126));
     }
 }

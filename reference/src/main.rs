@@ -28,7 +28,7 @@ const USAGE: &str = "usage:
   reference play [--tape FILE] [--session N]
   reference objects
   reference write
-  reference fill
+  reference fill [counted]
   reference answers
   reference make DIR COUNT SEED [--list FILE]
   reference make-calls COUNT SEED
@@ -78,7 +78,8 @@ fn run(mut arguments: Vec<String>) -> Outcome {
         }
         ("objects", []) => commands::read_objects(),
         ("write", []) => commands::write_objects(),
-        ("fill", []) => commands::fill_lists(),
+        ("fill", []) => commands::fill_lists(false),
+        ("fill", ["counted"]) => commands::fill_lists(true),
         ("answers", []) => answer_lines::read_answers(),
         ("make", [folder, count, seed]) => {
             let list = list.as_deref().map(Path::new);

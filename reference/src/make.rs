@@ -1,5 +1,6 @@
 //! The generator: tapes and call sequences, with the answers of this program.
 
+mod asked;
 mod calls;
 mod card;
 mod damage;
@@ -117,7 +118,7 @@ mod tests {
             for count in 0..=items.len() {
                 let verdict = judge(&tape_of(&items[..count], 1)).to_string();
                 let word = if count == items.len() { "PASS" } else { "INCONCLUSIVE" };
-                assert_eq!(verdict, format!("{word} {count} 0"));
+                assert!(verdict.starts_with(&format!("{word} {count} 0 ")), "{verdict}");
             }
         }
     }

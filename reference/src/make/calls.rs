@@ -4,7 +4,7 @@
 use super::plan::{Place, Players};
 use super::scenarios::by_chance;
 use super::start::{Start, NO_DAYS};
-use crate::calls::{session_line, Call, ANSWER, HOST, SILENCE, START};
+use crate::calls::{session_line, Call, Made, ANSWER, HOST, SILENCE, START};
 use crate::kernel::{Reply, Session};
 use crate::random::Random;
 
@@ -74,13 +74,14 @@ fn any_call(r: &mut Random) -> Call {
 /// The calls of one session with their replies.
 struct Log {
     session: Session,
-    calls: Vec<(Call, Reply)>,
+    calls: Vec<Made>,
 }
 
 impl Log {
     fn make(&mut self, call: Call) -> Reply {
-        let reply = call.make(&mut self.session);
-        self.calls.push((call, reply.clone()));
+        let made = Made::new(call, &mut self.session);
+        let reply = made.reply.clone();
+        self.calls.push(made);
         reply
     }
 
@@ -96,7 +97,7 @@ impl Log {
 }
 
 /// A planned session, disturbed before every call and after the end.
-fn disturbed(r: &mut Random) -> Vec<(Call, Reply)> {
+fn disturbed(r: &mut Random) -> Vec<Made> {
     let mut plan = by_chance(r).plan;
     // Most sessions should get further than their first answers.
     if r.chance(60) {
@@ -122,7 +123,7 @@ fn disturbed(r: &mut Random) -> Vec<(Call, Reply)> {
 }
 
 /// Calls without any plan.
-fn in_any_order(r: &mut Random) -> Vec<(Call, Reply)> {
+fn in_any_order(r: &mut Random) -> Vec<Made> {
     let mut log = Log { session: Session::default(), calls: Vec::new() };
     for _ in 0..r.between(1, 12) {
         log.make(any_call(r));
@@ -148,8 +149,8 @@ mod tests {
         let mut refusals = [0; 7];
         let mut others = [0; 4];
         for index in 0..400 {
-            for (_, reply) in disturbed(&mut Random::nth(5, index)) {
-                match reply {
+            for made in disturbed(&mut Random::nth(5, index)) {
+                match made.reply {
                     Reply::Refused(number) => refusals[usize::from(number)] += 1,
                     Reply::Command(_) => others[0] += 1,
                     Reply::HostDue => others[1] += 1,

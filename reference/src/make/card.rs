@@ -103,7 +103,7 @@ fn set_codes(steer: Steer, start: &mut Start, card: &mut Card, r: &mut Random) {
 }
 
 /// Tags for object lists, with the length their value has.
-const LIST_TAGS: [(u16, usize); 30] = [
+pub const LIST_TAGS: [(u16, usize); 30] = [
     (0x9F02, 6),
     (0x9F03, 6),
     (0x9F1A, 2),

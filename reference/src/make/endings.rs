@@ -15,7 +15,7 @@ pub struct Ending {
     pub apply: Rc<Change>,
 }
 
-fn ending(label: &str, apply: impl Fn(&mut Vec<Item>, &mut Random) + 'static) -> Ending {
+pub fn ending(label: &str, apply: impl Fn(&mut Vec<Item>, &mut Random) + 'static) -> Ending {
     Ending { label: label.to_string(), apply: Rc::new(apply) }
 }
 
@@ -48,7 +48,7 @@ fn on_payload(
     })
 }
 
-fn flip(bytes: &mut [u8], r: &mut Random) {
+pub fn flip(bytes: &mut [u8], r: &mut Random) {
     if !bytes.is_empty() {
         let at = r.below(bytes.len());
         bytes[at] ^= 1 << r.below(8);

@@ -1,5 +1,6 @@
 //! What is made: a table that goes through everything once, and free mixes.
 
+use super::asked::{asked, at_every_entry, counted};
 use super::card::Steer;
 use super::damage::{damages, Damage};
 use super::endings::{any_ending, endings, Ending};
@@ -20,7 +21,7 @@ pub struct Scenario {
 }
 
 /// A plan that certainly reaches the second request and approves.
-fn long_plan(kind: u8) -> Plan {
+pub fn long_plan(kind: u8) -> Plan {
     Plan {
         kind: Some(kind),
         steer: Some(if kind == 2 { Steer::Online } else { Steer::Clear }),
@@ -103,7 +104,7 @@ fn faults() -> Vec<Scenario> {
 }
 
 fn tweaked() -> Vec<Scenario> {
-    let all = [edges_of_money(), good_edges(), list_edges(), bad_records()].concat();
+    let all = [edges_of_money(), good_edges(), list_edges(), bad_records(), asked()].concat();
     let mut out = Vec::new();
     for (number, tweak) in all.into_iter().enumerate() {
         let mut plan = long_plan((number % 3) as u8);
@@ -174,6 +175,21 @@ fn ended() -> Vec<Scenario> {
     all
 }
 
+/// Sessions in which every list has entries that are filled with zeros, cut
+/// and broken at every entry (02, R-6). Type 0 has no HOST.
+fn counted_tapes() -> Vec<Scenario> {
+    let mut all = Vec::new();
+    for (number, ending) in at_every_entry().into_iter().enumerate() {
+        for kind in [(number % 2) as u8 + 1, 0] {
+            let plan = Plan { tweaks: vec![counted()], ..long_plan(kind) };
+            let label = format!("type {kind}, all lists counted, {}", ending.label);
+            let endings = vec![ending.clone()];
+            all.push(Scenario { label, plan, endings, ..Scenario::default() });
+        }
+    }
+    all
+}
+
 /// Every damage alone, and after a broken rule, and on a cut tape.
 fn damaged() -> Vec<Scenario> {
     let all_endings = endings();
@@ -199,7 +215,17 @@ fn damaged() -> Vec<Scenario> {
 }
 
 pub fn systematic() -> Vec<Scenario> {
-    [outcomes(), faults(), tweaked(), second_lists(), longest(), ended(), damaged()].concat()
+    [
+        outcomes(),
+        faults(),
+        tweaked(),
+        second_lists(),
+        longest(),
+        ended(),
+        damaged(),
+        counted_tapes(),
+    ]
+    .concat()
 }
 
 fn any_fault(r: &mut Random) -> (Place, Fault) {
@@ -216,10 +242,11 @@ fn any_fault(r: &mut Random) -> (Place, Fault) {
 }
 
 fn any_tweak(r: &mut Random) -> Tweak {
-    let table = match r.below(4) {
+    let table = match r.below(6) {
         0 => edges_of_money(),
         1 => good_edges(),
         2 => list_edges(),
+        3 | 4 => asked(),
         _ => bad_records(),
     };
     r.pick(&table).clone()

@@ -18,7 +18,7 @@ pub struct Tweak {
     pub apply: Rc<Change>,
 }
 
-fn tweak(
+pub fn tweak(
     reason: u8,
     label: &str,
     apply: impl Fn(&mut Start, &mut Card, &mut Random) + 'static,
