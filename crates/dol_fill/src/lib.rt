@@ -1,2 +1,3 @@
-// Object lists, filled from what the terminal knows.
+// Object lists, filled from what the terminal knows, and how many of their entries it does not.
+pub mod count;
 pub mod fill;

@@ -7,6 +7,7 @@ use Prim.Native.Nat.{ℕ}
 use Rattle.slices.specs.Tables.{beside}
 use Rattle.start_fields.specs.Reading.{Terminal, bytesOf}
 use Rattle.answer_common.specs.declared.content.Format.{Format}
+use Rattle.answer_common.specs.declared.content.Format.the-variants.{Numeric, CardNumber, Other, Unknown}
 use Rattle.session_records.specs.Slots.{Facts}
 use Rattle.dol_values.specs.Shape.{ownTable, formatOf}
 use Rattle.dol_values.specs.declared.Own.{Own}
@@ -25,10 +26,15 @@ valueBy t other Nothing = other
 unfoldable pub valueFor : Terminal → Facts → ℕ → Option (List ℕ)
 valueFor t known tag = valueBy t (known tag) (ownField tag)
 
+-- what has no format among those of object lists is not supplied: the lists themselves, 8C and 8D, are told by records and asked for by
+-- no list
 unfoldable pub withFormat : Format → Option (List ℕ) → Option (Format × List ℕ)
 withFormat f none = none
-withFormat f (some v) = some (f, v)
+withFormat Numeric (some v) = some (Numeric, v)
+withFormat CardNumber (some v) = some (CardNumber, v)
+withFormat Other (some v) = some (Other, v)
+withFormat Unknown (some v) = none
 
--- a tag's format and value, or that it is not yet there
+-- a tag's format and value; nothing where lists do not know the tag, or where it is not yet there
 unfoldable pub supplied : Terminal → Facts → ℕ → Option (Format × List ℕ)
 supplied t known tag = withFormat (formatOf tag) (valueFor t known tag)

@@ -71,30 +71,30 @@ use Rattle.dol_wanted.specs.Wanted.{fillable as o228, tally as o229}
 use Rattle.dol_values.specs.Known.{ownField as o230, valueBy as o231, valueFor as o232, withFormat as o233, supplied as o234}
 use Rattle.dol_values.specs.Shape.{shaped as o235, formatOf as o236}
 use Rattle.dol_fill.specs.Filled.{entryBytes as o237, firstBytes as o238, filled as o239, filledBy as o240, filledList as o241}
-use Rattle.dol_fill.specs.Filled.{filling as o242}
-use Rattle.commands.specs.Commands.{selectCommand as o243, optionsCommand as o244, recordCommand as o245, withLength as o246}
-use Rattle.commands.specs.Commands.{cryptogramCommand as o247, sizeIn as o248, dataSize as o249}
-use Rattle.answer_select.specs.Select.{inner as o250, pdolOf as o251, begins as o252, nameWrong as o253, selectTwice as o254}
-use Rattle.answer_select.specs.Select.{selectWrong as o255, selectLines as o256, selectReason as o257}
-use Rattle.answer_record.specs.Records.{again as o258, anyAgain as o259, recordTwice as o260, recordLines as o261}
-use Rattle.answer_record.specs.Records.{recordReason as o262, valueIn as o263, namedIn as o264, incomplete as o265}
-use Rattle.answer_record.specs.Records.{completeReason as o266, afterRecords as o267}
-use Rattle.answer_forms.specs.Cryptogram.{informationOf as o268, cryptogramOf as o269, cryptogramWrong as o270}
-use Rattle.answer_forms.specs.Cryptogram.{cryptogramLines as o271, cryptogramReason as o272, allows as o273}
-use Rattle.answer_forms.specs.Forms.{lacks as o274}
-use Rattle.answer_forms.specs.Options.{profileOf as o275, locatorOf as o276, optionsWrong as o277, optionsLines as o278}
-use Rattle.answer_forms.specs.Options.{optionsReason as o279}
-use Rattle.rulebook.specs.Machine.{due as o280, sayable as o281, next as o282, andOn as o283}
-use Rattle.rulebook.specs.Phase.{situationOf as o284, commandOf as o285, dueKind as o286, decisionOf as o287}
-use Rattle.rulebook.specs.Phase.{decided as o288, ended as o289, tvrOf as o290, tsiOf as o291}
-use Rattle.rulebook.specs.Roles.{given as o292}
-use Rattle.rulebook.specs.Session.{isPayload as o293, phasesOf as o294}
-use Rattle.rulebook.specs.Situation.{begun as o295, profileKnown as o296, knownIn as o297, listIn as o298}
-use Rattle.rulebook.specs.Turn.{goesOn as o299, opened as o300, selected as o301, managed as o302, requested as o303}
-use Rattle.rulebook.specs.Turn.{allRead as o304, readOn as o305, withProfile as o306, optioned as o307, withRecord as o308}
-use Rattle.rulebook.specs.Turn.{recorded as o309, answered as o310, replied as o311, online as o312, byFirst as o313}
-use Rattle.rulebook.specs.Turn.{firstAllows as o314, secondAllows as o315, firstAnswered as o316, secondAnswered as o317}
-use Rattle.rulebook.specs.Turn.{turn as o318, allowed as o319, replyMade as o320, heard as o321, after as o322}
+use Rattle.dol_fill.specs.Filled.{filling as o242, missing as o243, missingIn as o244, missingBy as o245, unsupplied as o246}
+use Rattle.commands.specs.Commands.{selectCommand as o247, optionsCommand as o248, recordCommand as o249, withLength as o250}
+use Rattle.commands.specs.Commands.{cryptogramCommand as o251, sizeIn as o252, dataSize as o253}
+use Rattle.answer_select.specs.Select.{inner as o254, pdolOf as o255, begins as o256, nameWrong as o257, selectTwice as o258}
+use Rattle.answer_select.specs.Select.{selectWrong as o259, selectLines as o260, selectReason as o261}
+use Rattle.answer_record.specs.Records.{again as o262, anyAgain as o263, recordTwice as o264, recordLines as o265}
+use Rattle.answer_record.specs.Records.{recordReason as o266, valueIn as o267, namedIn as o268, incomplete as o269}
+use Rattle.answer_record.specs.Records.{completeReason as o270, afterRecords as o271}
+use Rattle.answer_forms.specs.Cryptogram.{informationOf as o272, cryptogramOf as o273, cryptogramWrong as o274}
+use Rattle.answer_forms.specs.Cryptogram.{cryptogramLines as o275, cryptogramReason as o276, allows as o277}
+use Rattle.answer_forms.specs.Forms.{lacks as o278}
+use Rattle.answer_forms.specs.Options.{profileOf as o279, locatorOf as o280, optionsWrong as o281, optionsLines as o282}
+use Rattle.answer_forms.specs.Options.{optionsReason as o283}
+use Rattle.rulebook.specs.Machine.{due as o284, sayable as o285, next as o286, andOn as o287}
+use Rattle.rulebook.specs.Phase.{situationOf as o288, commandOf as o289, dueKind as o290, decisionOf as o291}
+use Rattle.rulebook.specs.Phase.{decided as o292, ended as o293, tvrOf as o294, tsiOf as o295}
+use Rattle.rulebook.specs.Roles.{given as o296}
+use Rattle.rulebook.specs.Session.{isPayload as o297, phasesOf as o298}
+use Rattle.rulebook.specs.Situation.{begun as o299, profileKnown as o300, knownIn as o301, listIn as o302}
+use Rattle.rulebook.specs.Turn.{goesOn as o303, opened as o304, selected as o305, managed as o306, requested as o307}
+use Rattle.rulebook.specs.Turn.{allRead as o308, readOn as o309, withProfile as o310, optioned as o311, withRecord as o312}
+use Rattle.rulebook.specs.Turn.{recorded as o313, answered as o314, replied as o315, online as o316, byFirst as o317}
+use Rattle.rulebook.specs.Turn.{firstAllows as o318, secondAllows as o319, firstAnswered as o320, secondAnswered as o321}
+use Rattle.rulebook.specs.Turn.{turn as o322, allowed as o323, replyMade as o324, heard as o325, after as o326}
 
 -- the state that a session's entries lead to
 unfoldable pub reached : List Entry → Option Machine
@@ -110,5 +110,5 @@ unfolding o0 o1 o2 o3 o4 o5 o6 o7 o8 o9 o10 o11 o12 o13 o14 o15 o16 o17 o18 o19 
     o245 o246 o247 o248 o249 o250 o251 o252 o253 o254 o255 o256 o257 o258 o259 o260 o261 o262 o263 o264 o265 o266 o267 o268 o269
     o270 o271 o272 o273 o274 o275 o276 o277 o278 o279 o280 o281 o282 o283 o284 o285 o286 o287 o288 o289 o290 o291 o292 o293 o294
     o295 o296 o297 o298 o299 o300 o301 o302 o303 o304 o305 o306 o307 o308 o309 o310 o311 o312 o313 o314 o315 o316 o317 o318 o319
-    o320 o321 o322 run
+    o320 o321 o322 o323 o324 o325 o326 run
 reached es = run es (at opens)

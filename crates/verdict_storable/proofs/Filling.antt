@@ -63,7 +63,10 @@ shaped-bytes Unknown n v h = zeros-bytes n
 entry-bytes : (n : ℕ) (f : Format) (o : Option (List ℕ)) → Told o → areBytes (entryBytes n (withFormat f o)) ≡ true
 unfolding entryBytes withFormat
 entry-bytes n f none h = zeros-bytes n
-entry-bytes n f (some v) h = shaped-bytes f n v h
+entry-bytes n Numeric (some v) h = shaped-bytes Numeric n v h
+entry-bytes n CardNumber (some v) h = shaped-bytes CardNumber n v h
+entry-bytes n Other (some v) h = shaped-bytes Other n v h
+entry-bytes n Unknown (some v) h = zeros-bytes n
 
 -- ---- and a list filled with it
 

@@ -17,10 +17,19 @@ use Rattle.dol_values.specs.Known.{ownField, valueBy, valueFor, withFormat, sup
 use Rattle.dol_values.specs.declared.Own.{Own}
 use Rattle.dol_values.specs.declared.Own.the-variants.{Of, Nothing}
 use Rattle.answer_common.specs.declared.content.Format.{Format}
+use Rattle.answer_common.specs.declared.content.Format.the-variants.{Numeric, CardNumber, Other, Unknown}
 use Rattle.dol_fill.specs.Filled.{entryBytes}
 use borrow.Author.Needs.{needs}
 use Rattle.dol_fill.proofs.fill.fill_entry.Statement.{statement}
 use Rattle.dol_fill.proofs.fill.fill_entry.Tie as tie
+
+-- a value that is there, shaped: all zeros in a format that lists do not know, as where nothing is supplied
+shaped-entry : (f : Format) (n : ℕ) (v : List ℕ) → entryBytes n (withFormat f (some v)) ≡ shaped f n v
+unfolding entryBytes withFormat shaped
+shaped-entry Numeric n v = refl
+shaped-entry CardNumber n v = refl
+shaped-entry Other n v = refl
+shaped-entry Unknown n v = refl
 
 -- the entry's bytes by what the tag is: START's own, known, or not there
 module _ (n : ℕ) (t : Terminal) (known : Facts) (tag : ℕ) where
@@ -28,12 +37,15 @@ module _ (n : ℕ) (t : Terminal) (known : Facts) (tag : ℕ) where
   by-own own other = entryBytes n (withFormat (formatOf tag) (valueBy t other own))
 
   own-bytes : (f : Field) → ownField tag ≡ Of f → shaped (formatOf tag) n (bytesOf f t) ≡ entryBytes n (supplied t known tag)
-  unfolding entryBytes withFormat supplied valueFor valueBy
-  own-bytes f e = sym (ap (λ o. by-own o (known tag)) e)
+  unfolding supplied valueFor valueBy
+  own-bytes f e = sym (ap (λ o. by-own o (known tag)) e ∙ shaped-entry (formatOf tag) n (bytesOf f t))
 
   known-bytes : ownField tag ≡ Nothing → isSome (known tag) ≡ true → shaped (formatOf tag) n (Option·getD (known tag) []) ≡ entryBytes n (supplied t known tag)
-  unfolding entryBytes withFormat supplied valueFor valueBy
-  known-bytes e h = sym (ap (λ o. by-own o (known tag)) e ∙ ap (by-own Nothing) (is-there (known tag) h))
+  unfolding supplied valueFor valueBy
+  known-bytes e h =
+      sym
+      (ap (λ o. by-own o (known tag)) e
+      ∙ (ap (by-own Nothing) (is-there (known tag) h) ∙ shaped-entry (formatOf tag) n (Option·getD (known tag) [])))
 
   not-there : ownField tag ≡ Nothing → isSome (known tag) ≡ false → zeros n ≡ entryBytes n (supplied t known tag)
   unfolding entryBytes withFormat supplied valueFor valueBy
