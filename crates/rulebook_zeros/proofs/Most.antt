@@ -1,0 +1,232 @@
+-- The sum stays small: each of the three lists has at most 252 bytes, for it is a part of an answer, and each of its entries takes two or
+-- more. So no more than 126 entries of a list are ever counted, and what is still to be counted falls with each list that is.
+-- Assumes nothing.
+use mathlib.Core.Path.{_≡_, refl, sym, ap, _∙_, subst}
+use mathlib.Core.Bool.{Bool, true, false}
+use mathlib.Core.List.{List, [], _∷_}
+use mathlib.Core.Option.{Option, none, some, Option·getD}
+use Prim.Native.Nat.{ℕ, _+_, _*_, _≤_, _<_}
+use native.Mathlib.Omega.{arith}
+use lib.Dec.{eqb}
+use lib.ListN.{length}
+use Rattle.slices.specs.Choice.{pick}
+use Rattle.slices.proofs.Choice.{picked}
+use Rattle.tape_read.specs.Entries.{Entry}
+use Rattle.answer_common.specs.Content.{recordTag, recordNames}
+use Rattle.answer_common.specs.Named.{direct, told, valueOf, listed}
+use Rattle.answer_common.proofs.Members.{direct-size}
+use Rattle.answer_record.specs.Records.{valueIn, namedIn, afterRecords}
+use Rattle.answer_select.specs.Select.{pdolOf}
+use Rattle.answer_laws.proofs.AcceptedAnswers.{list-size}
+use Rattle.session_records.specs.Slots.{Facts, orElse}
+use Rattle.start_fields.specs.Reading.{Terminal}
+use Rattle.dol_fill.specs.Filled.{unsupplied}
+use Rattle.dol_fill.proofs.Missing.{unsupplied-half}
+use Rattle.rulebook.specs.Situation.{Situation, begun, knownIn, listIn}
+use Rattle.rulebook.specs.Phase.{Asked, selecting, optioning, reading, first, second, Heard, terminal, issuer, Phase, opens, asks, hears, decides}
+use Rattle.rulebook.specs.Turn.{goesOn, opened, selected, managed, requested, allRead, readOn, withProfile, optioned, withRecord, recorded, answered, replied, online, byFirst, firstAnswered, secondAnswered, turn, replyMade, heard, after}
+use Rattle.rulebook.specs.Machine.{Machine, at, owes, done, due, sayable, next}
+use Rattle.rulebook.proofs.Running.{chosen, no-state}
+use Rattle.dol_wanted.specs.Wanted.{fillable}
+use Rattle.answer_forms.specs.Options.{profileOf, locatorOf}
+use Rattle.answer_forms.specs.Cryptogram.{cryptogramOf}
+use Rattle.answer_afl.specs.Entries.{toRead}
+use Rattle.decide_requests.specs.Requests.{firstRequest, secondRequest}
+use Rattle.decide_requests.specs.declared.requests.Cryptogram.{Cryptogram}
+use Rattle.decide_requests.specs.declared.reply.HostReply.{HostReply}
+use Rattle.decide_requests.specs.declared.reply.HostReply.the-variants.{Unable}
+use Rattle.decide_requests.specs.Replies.{codeIn, replyOf, responseCode}
+use Rattle.rulebook.specs.Phase.{situationOf, ended, decided}
+use Rattle.rulebook_zeros.specs.Zeros.{mostEntries, unsuppliedAsking, unsuppliedIn}
+use Rattle.rulebook_zeros.specs.Summing.{newIn, countOn, zerosFrom, zerosOf}
+
+-- what was told of any tag has at most 252 bytes
+abbrev Short : Situation → Type 0
+Short s = (tag : ℕ) → length (listIn s tag) ≤ 252
+
+-- the situation of a phase is so, where a list may still be filled from it
+abbrev ShortIn : Phase → Type 0
+ShortIn (asks w) = Short (situationOf w)
+ShortIn (hears terminal) = Unit {0}
+ShortIn (hears (issuer s)) = Short s
+ShortIn (decides outcome reason s) = Unit {0}
+
+-- the most that the lists still to come can add
+unfoldable leftAsking : Asked → ℕ
+leftAsking (selecting s) = 3 * mostEntries
+leftAsking (optioning s list) = 2 * mostEntries
+leftAsking (reading s number file rest) = 2 * mostEntries
+leftAsking (first s request) = mostEntries
+leftAsking (second s request code) = 0
+
+unfoldable leftIn : Phase → ℕ
+leftIn (asks w) = leftAsking w
+leftIn (hears terminal) = 3 * mostEntries
+leftIn (hears (issuer s)) = mostEntries
+leftIn (decides outcome reason s) = 0
+
+-- a phase adds and leaves no more than n
+abbrev Within : ℕ → Phase → Type 0
+Within n p = ShortIn p × (unsuppliedIn p + leftIn p ≤ n)
+
+few : (t : Terminal) (k : Facts) (list : List ℕ) → length list ≤ 252 → unsupplied t k list ≤ mostEntries
+few t k list h = let two = unsupplied-half t k list in omega arith
+
+options-few : (s : Situation) (list : List ℕ) → length list ≤ 252 → unsuppliedIn (asks (optioning s list)) ≤ mostEntries
+unfolding unsuppliedIn unsuppliedAsking
+options-few s list h = few (s .terminal) (knownIn s none) list h
+
+first-few : (s : Situation) (request : Cryptogram) → Short s → unsuppliedIn (asks (first s request)) ≤ mostEntries
+unfolding unsuppliedIn unsuppliedAsking
+first-few s request short = few (s .terminal) (knownIn s none) (listIn s 0x8C) (short 0x8C)
+
+second-few : (s : Situation) (request : Cryptogram) (code : List ℕ) → Short s → unsuppliedIn (asks (second s request code)) ≤ mostEntries
+unfolding unsuppliedIn unsuppliedAsking
+second-few s request code short = few (s .terminal) (knownIn s (some code)) (listIn s 0x8D) (short 0x8D)
+
+-- ---- what was told stays short
+
+module _ (s : Situation) (short : Short s) where
+  else-short : (o other : Option (List ℕ)) → length (Option·getD o []) ≤ 252 → length (Option·getD other []) ≤ 252 → length (Option·getD (orElse o other) []) ≤ 252
+  unfolding orElse
+  else-short none other h k = k
+  else-short (some v) other h k = h
+
+  named-short : (tag : ℕ) (a : List ℕ) → length (Option·getD (namedIn tag a) []) ≤ 252
+  unfolding namedIn valueIn valueOf
+  named-short tag a =
+      picked (λ (o : Option (List ℕ)). length (Option·getD o []) ≤ 252) (listed tag recordNames) (told (direct recordTag a tag)) none
+      (λ y. direct-size recordTag a tag) (λ n. omega arith)
+
+  record-short : (a : List ℕ) → Short (withRecord s a)
+  unfolding withRecord listIn
+  record-short a tag = else-short (s .facts tag) (namedIn tag a) (short tag) (named-short tag a)
+
+  profile-short : (profile : List ℕ) → Short (withProfile s profile)
+  unfolding withProfile listIn
+  profile-short profile tag = short tag
+
+  managed-short : Short (managed s)
+  unfolding managed listIn
+  managed-short tag = short tag
+
+  answered-short : Short (answered s)
+  unfolding answered listIn
+  answered-short tag = short tag
+
+-- ---- each turn adds no more than it takes off what is left
+
+ended-within : (n reason : ℕ) (s : Situation) → Within n (ended reason s)
+unfolding ended unsuppliedIn leftIn
+ended-within n reason s = (tt, omega arith)
+
+goes-within : (n reason : ℕ) (s : Situation) (p : Phase) → Within n p → Within n (goesOn reason s p)
+unfolding goesOn
+goes-within n reason s p h = picked (Within n) (eqb reason 0) p (ended reason s) (λ y. h) (λ f. ended-within n reason s)
+
+decided-within : (n outcome : ℕ) (s : Situation) → Within n (decided outcome s)
+unfolding decided unsuppliedIn leftIn
+decided-within n outcome s = (tt, omega arith)
+
+module _ (s : Situation) (short : Short s) where
+  requested-within : (reason : ℕ) → Within (2 * mostEntries) (requested reason s)
+  unfolding requested leftIn leftAsking situationOf
+  requested-within reason =
+      let request = firstRequest (s .terminal) (s .facts) (s .tvr) in
+      let h = first-few s request short in
+      goes-within (2 * mostEntries) reason s (asks (first s request)) (short, omega arith)
+
+  replied-within : (reply : HostReply) (code : List ℕ) → Within mostEntries (replied s reply code)
+  unfolding replied ended leftIn leftAsking situationOf
+  replied-within reply code =
+      let request = secondRequest reply (s .terminal) (s .facts) (s .tvr) in
+      let h = second-few s request (responseCode reply request code) short in
+      picked (Within mostEntries) (fillable (listIn s 0x8D)) (asks (second s request (responseCode reply request code))) (ended 9 s)
+      (λ y. (short, omega arith)) (λ n. ended-within mostEntries 9 s)
+
+  online-within : Within mostEntries (online s)
+  unfolding online unsuppliedIn leftIn
+  online-within =
+      picked (Within mostEntries) (eqb (s .terminal .kind) 0) _ _ (λ y. replied-within Unable []) (λ n. (short, omega arith))
+
+  by-first-within : (type : ℕ) → Within mostEntries (byFirst type s)
+  unfolding byFirst decided unsuppliedIn leftIn
+  by-first-within type =
+      picked (Within mostEntries) (eqb type 1) _ _ (λ y. (tt, omega arith)) (λ n.
+      picked (Within mostEntries) (eqb type 0) _ _ (λ y. (tt, omega arith)) (λ f. online-within))
+
+all-read-within : (s : Situation) → Short s → Within (2 * mostEntries) (allRead s)
+unfolding allRead ended unsuppliedIn leftIn
+all-read-within s short =
+    picked (Within (2 * mostEntries)) (eqb (afterRecords (s .facts)) 8) _ _ (λ y. (tt, omega arith))
+    (λ n. requested-within (managed s) (managed-short s short) (afterRecords (s .facts)))
+
+read-within : (s : Situation) → Short s → (rest : List (ℕ × ℕ)) → Within (2 * mostEntries) (readOn s rest)
+unfolding readOn unsuppliedIn unsuppliedAsking leftIn leftAsking situationOf
+read-within s short [] = all-read-within s short
+read-within s short (r ∷ rest) = (short, omega arith)
+
+turn-within : (w : Asked) (a : List ℕ) → Short (situationOf w) → Within (leftAsking w) (turn w a)
+unfolding turn leftAsking selected optioned recorded firstAnswered secondAnswered situationOf leftIn
+turn-within (selecting s) a short =
+    let size = list-size a in
+    let h = options-few s (pdolOf a) (omega arith) in
+    goes-within _ _ s (asks (optioning s (pdolOf a))) (short, omega arith)
+turn-within (optioning s list) a short =
+    goes-within _ _ s _ (read-within (withProfile s (profileOf a)) (profile-short s short (profileOf a)) (toRead (locatorOf a)))
+turn-within (reading s number file rest) a short = goes-within _ _ s _ (read-within (withRecord s a) (record-short s short a) rest)
+turn-within (first s request) a short = goes-within _ _ s _ (by-first-within (answered s) (answered-short s short) (cryptogramOf a))
+turn-within (second s request code) a short = goes-within _ _ s _ (decided-within 0 _ s)
+
+after-within : (h : Heard) (p : List ℕ) → ShortIn (hears h) → Within (leftIn (hears h)) (after h p)
+unfolding after opened heard leftIn leftAsking unsuppliedIn unsuppliedAsking situationOf begun listIn
+after-within terminal p short = ((λ tag. omega arith), omega arith)
+after-within (issuer s) p short = replied-within s short (replyMade (replyOf p)) (codeIn p)
+
+-- ---- and so does the machine
+
+-- what is short, and what is left, in a state of the machine
+abbrev ShortAt : Machine → Type 0
+ShortAt (at p) = ShortIn p
+ShortAt (owes w) = Short (situationOf w)
+ShortAt done = Unit {0}
+
+unfoldable leftAt : Machine → ℕ
+leftAt (at p) = leftIn p
+leftAt (owes w) = leftAsking w
+leftAt done = 0
+
+abbrev Moves : Machine → Machine → Type 0
+Moves σ τ = ShortAt τ × (newIn τ + leftAt τ ≤ leftAt σ)
+
+moved-to : (σ τ ρ : Machine) → some τ ≡ some ρ → Moves σ τ → Moves σ ρ
+moved-to σ τ ρ e h = let same : τ ≡ ρ = cc e in subst (Moves σ) same h
+
+next-within : (σ ρ : Machine) (e : Entry) → ShortAt σ → next σ e ≡ some ρ → Moves σ ρ
+unfolding next newIn leftAt leftIn
+next-within (at (asks w)) ρ e short h = moved-to (at (asks w)) (owes w) ρ (chosen _ _ ρ h .1) (short, omega arith)
+next-within (at (hears x)) ρ e short h =
+    moved-to (at (hears x)) (at (after x (e .payload))) ρ (chosen _ _ ρ h .1) (after-within x (e .payload) short)
+next-within (at (decides outcome reason s)) ρ e short h = moved-to (at (decides outcome reason s)) done ρ (chosen _ _ ρ h .1) (tt, omega arith)
+next-within (owes w) ρ e short h = moved-to (owes w) (at (turn w (e .payload))) ρ (chosen _ _ ρ h .1) (turn-within w (e .payload) short)
+next-within done ρ e short h = no-state ρ h
+
+counted-within : (f : Machine → ℕ) (n : ℕ) (o : Option Machine) → ((τ : Machine) → o ≡ some τ → newIn τ + f τ ≤ n) → countOn f o ≤ n
+unfolding countOn
+counted-within f n none h = omega arith
+counted-within f n (some τ) h = h τ refl
+
+zeros-within : (es : List Entry) (σ : Machine) → ShortAt σ → zerosFrom es σ ≤ leftAt σ
+unfolding zerosFrom
+zeros-within [] σ short = omega arith
+zeros-within (e ∷ es) σ short =
+    counted-within (zerosFrom es) (leftAt σ) (next σ e) (λ τ h.
+    let m = next-within σ τ e short h in
+    let rest = zeros-within es τ (m .0) in
+    let here = m .1 in
+    omega arith)
+
+-- the fourth number of any entries is at most three lists' entries
+pub zeros-most : (es : List Entry) → zerosOf es ≤ 3 * mostEntries
+unfolding leftAt leftIn
+zeros-most es = zeros-within es (at opens) tt

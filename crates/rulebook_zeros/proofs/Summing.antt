@@ -1,0 +1,221 @@
+-- The sum beside the machine is the fourth number of every list of entries, and the only one: over a session's beginning both add the
+-- same, entry by entry, and where the machine stops nothing more is added, as before the entry that breaks the rules.
+-- Assumes nothing.
+use mathlib.Core.Path.{_≡_, refl, sym, ap, ap₂, _∙_, subst}
+use mathlib.Core.List.{List, [], _∷_, _++_, append-nil, append-assoc}
+use mathlib.Core.Logic.{_⊎_, inl, inr, ⊎-elim}
+use mathlib.Core.Option.{Option, none, some}
+use Prim.Native.Nat.{ℕ, zero, suc, _+_, _≤_, _<_}
+use native.Mathlib.Nat.{add-assoc, zero-add, add-zero}
+use native.Mathlib.Omega.{arith}
+use lib.ListN.{length, take, drop, getD}
+use lib.Seq.{split-at, take-suc}
+use Rattle.slices.proofs.Choice.{pick-no}
+use Rattle.tape_read.specs.Entries.{Entry, entry, command, answer, silence, decision}
+use Rattle.rulebook.specs.Phase.{Asked, Heard, Phase, opens, asks, hears, decides, commandOf, dueKind, decisionOf}
+use Rattle.rulebook.specs.Turn.{turn, after}
+use Rattle.rulebook.specs.Session.{Plays, exchanged, heard, decided, Session, Beginning, AwaitsCard, Closed, Open, Lawful, BreaksAt}
+use Rattle.rulebook.specs.Machine.{Machine, at, owes, done, next, andOn, run}
+use Rattle.rulebook.proofs.Single.{head-same, tail-same}
+use Rattle.rulebook.proofs.Running.{taken, session-run, takes-command, takes-answer, takes-heard, takes-decision}
+use Rattle.rulebook.proofs.Reading.{awaits-run, beginning-run, other-kind}
+use Rattle.rulebook.proofs.Trichotomy.{Sort, finished, unfinished, neither, sorted}
+use Rattle.rulebook.proofs.Ends.{finishes}
+use Rattle.rulebook.proofs.Breaks.{break-found, break-within}
+use Rattle.rulebook.proofs.States.{state-lawful, state-next}
+use Rattle.rulebook_zeros.specs.Zeros.{unsuppliedIn, addedBy, sum, Summed, SummedClosed, SumOf, Zeros, lawful, broken}
+use Rattle.rulebook_zeros.specs.Summing.{newIn, countOn, zerosFrom, zerosOf}
+
+-- ---- over a session's beginning
+
+-- an entry that the machine takes
+counted : (σ τ : Machine) (x e : Entry) (es : List Entry) → x ≡ e → next σ x ≡ some τ → zerosFrom (e ∷ es) σ ≡ newIn τ + zerosFrom es τ
+unfolding zerosFrom countOn
+counted σ τ x e es same h = ap (countOn (zerosFrom es)) (ap (next σ) (sym same) ∙ h)
+
+play-sum : {p : Phase} {fs : List Entry} (play : Plays p fs) (es rest : List Entry) → fs ≡ es ++ rest
+    → sum (take (length es) (addedBy play)) ≡ zerosFrom es (at p)
+unfolding zerosFrom addedBy sum newIn
+play-sum play [] rest h = refl
+play-sum (exchanged {w} {c} {a} {es = fs} f ok play) (e ∷ []) rest h =
+    let first : entry command c ≡ e = head-same _ e _ rest h in
+    sym (counted (at (asks w)) (owes w) (entry command c) e [] first (ap (λ (x : List ℕ). next (at (asks w)) (entry command x)) f ∙ takes-command w))
+play-sum (exchanged {w} {c} {a} {es = fs} f ok play) (e ∷ d ∷ es) rest h =
+    let first : entry command c ≡ e = head-same _ e _ (d ∷ (es ++ rest)) h in
+    let left : entry answer a ∷ fs ≡ d ∷ (es ++ rest) = tail-same _ e _ (d ∷ (es ++ rest)) h in
+    let second : entry answer a ≡ d = head-same _ d _ (es ++ rest) left in
+    let on = play-sum play es rest (tail-same _ d _ (es ++ rest) left) in
+    let went = counted (at (asks w)) (owes w) (entry command c) e (d ∷ es) first (ap (λ (x : List ℕ). next (at (asks w)) (entry command x)) f ∙ takes-command w) in
+    let came = counted (owes w) (at (turn w a)) (entry answer a) d es second (takes-answer w a ok) in
+    ap (λ (n : ℕ). 0 + (unsuppliedIn (turn w a) + n)) on ∙ (ap (λ (n : ℕ). 0 + n) (sym came) ∙ sym went)
+play-sum (heard {h = x} {k} {p} {es = fs} f fits ok play) (e ∷ es) rest h =
+    let first : entry k p ≡ e = head-same _ e _ (es ++ rest) h in
+    let on = play-sum play es rest (tail-same _ e _ (es ++ rest) h) in
+    let came = counted (at (hears x)) (at (after x p)) (entry k p) e es first (ap (λ (n : ℕ). next (at (hears x)) (entry n p)) f ∙ takes-heard x p fits ok) in
+    ap (λ (n : ℕ). unsuppliedIn (after x p) + n) on ∙ sym came
+play-sum (decided {outcome} {reason} {s} {d} f) (e ∷ []) rest h =
+    let first : entry decision d ≡ e = head-same _ e _ rest h in
+    let now : next (at (decides outcome reason s)) (entry decision d) ≡ some done
+    = ap (λ (x : List ℕ). next (at (decides outcome reason s)) (entry decision x)) f ∙ takes-decision outcome reason s in
+    sym (counted (at (decides outcome reason s)) done (entry decision d) e [] first now)
+play-sum (decided {d = d} f) (e ∷ x ∷ es) rest h =
+    let none-left : [] ≡ x ∷ (es ++ rest) = tail-same (entry decision d) e [] (x ∷ (es ++ rest)) h in
+    absurd (let z : _≡_ {A = ℕ} 0 1 = cc in omega arith)
+
+-- every part of a session has its sum, and no other
+part-summed : (es rest : List Entry) → Session (es ++ rest) → Summed es (zerosOf es)
+unfolding Session Summed
+part-summed es rest play = (rest, (play, sym (play-sum play es rest refl)))
+
+summed-is : (es : List Entry) (n : ℕ) → Summed es n → n ≡ zerosOf es
+unfolding Summed
+summed-is es n s = s .1 .1 ∙ play-sum (s .1 .0) es (s .0) refl
+
+-- ---- where the machine stops
+
+pub zeros-stop : (es : List Entry) (e : Entry) (more : List Entry) (σ τ : Machine) → run es σ ≡ some τ → next τ e ≡ none
+    → zerosFrom (es ++ (e ∷ more)) σ ≡ zerosFrom es σ
+unfolding zerosFrom countOn run
+zeros-stop [] e more σ τ h stops =
+    let here : σ ≡ τ = cc h in
+    ap (countOn (zerosFrom more)) (ap (λ (x : Machine). next x e) here ∙ stops)
+zeros-stop (x ∷ es) e more σ τ h stops =
+    let t = taken (run es) (next σ x) τ h in
+    let on = zeros-stop es e more (t .0) τ (t .1 .1) stops in
+    ap (countOn (zerosFrom (es ++ (e ∷ more)))) (t .1 .0)
+    ∙ (ap (λ (n : ℕ). newIn (t .0) + n) on ∙ sym (ap (countOn (zerosFrom es)) (t .1 .0)))
+
+-- and where it does not stop, the rest is counted from the state that it has reached
+pub zeros-on : (es more : List Entry) (σ τ : Machine) → run es σ ≡ some τ → zerosFrom (es ++ more) σ ≡ zerosFrom es σ + zerosFrom more τ
+unfolding zerosFrom countOn run
+zeros-on [] more σ τ h =
+    let here : σ ≡ τ = cc h in
+    ap (zerosFrom more) here ∙ sym (zero-add (zerosFrom more τ))
+zeros-on (x ∷ es) more σ τ h =
+    let t = taken (run es) (next σ x) τ h in
+    let on = zeros-on es more (t .0) τ (t .1 .1) in
+    ap (countOn (zerosFrom (es ++ more))) (t .1 .0)
+    ∙ (ap (λ (n : ℕ). newIn (t .0) + n) on
+    ∙ (sym (add-assoc (newIn (t .0)) (zerosFrom es (t .0)) (zerosFrom more τ))
+    ∙ ap (λ (n : ℕ). n + zerosFrom more τ) (sym (ap (countOn (zerosFrom es)) (t .1 .0)))))
+
+counted-grows : (f g : Machine → ℕ) (o : Option Machine) → ((τ : Machine) → f τ ≤ g τ) → countOn f o ≤ countOn g o
+unfolding countOn
+counted-grows f g none h = omega arith
+counted-grows f g (some τ) h = let more = h τ in omega arith
+
+-- the sum never falls, however the entries go on
+zeros-grow : (es more : List Entry) (σ : Machine) → zerosFrom es σ ≤ zerosFrom (es ++ more) σ
+unfolding zerosFrom
+zeros-grow [] more σ = omega arith
+zeros-grow (e ∷ es) more σ = counted-grows (zerosFrom es) (zerosFrom (es ++ more)) (next σ e) (zeros-grow es more)
+
+pub silence-stops : (w : Asked) → next (owes w) (entry silence []) ≡ none
+unfolding next
+silence-stops w = pick-no _ _ _ (other-kind answer silence _ [] refl)
+
+-- a closing silence adds nothing, nor does what follows it
+closed-zeros : (before more : List Entry) → AwaitsCard before → zerosOf (before ++ (entry silence [] ∷ more)) ≡ zerosOf before
+closed-zeros before more a =
+    let w = awaits-run before a in
+    zeros-stop before (entry silence []) more (at opens) (owes (w .0)) (w .1) (silence-stops (w .0))
+
+-- ---- the fourth number of lawful entries
+
+session-sum : (es : List Entry) → Session es → SumOf es (zerosOf es)
+unfolding SumOf
+session-sum es play = inl (part-summed es [] (subst Session (sym (append-nil es)) play))
+
+beginning-sum : (es : List Entry) → Beginning es → SumOf es (zerosOf es)
+unfolding SumOf Beginning
+beginning-sum es b = inl (part-summed es (b .0 ∷ b .1 .0) (b .1 .1))
+
+closed-sum : (es : List Entry) → Closed es → SumOf es (zerosOf es)
+unfolding SumOf SummedClosed Closed AwaitsCard
+closed-sum es c =
+    let before = c .0 in
+    let waits = c .1 .0 in
+    let same : zerosOf es ≡ zerosOf before = ap zerosOf (c .1 .1) ∙ closed-zeros before [] waits in
+    inr (before, (subst (Summed before) (sym same) (part-summed before (entry answer (waits .0) ∷ waits .1 .0) (waits .1 .1)), (waits, c .1 .1)))
+
+lawful-sum : (es : List Entry) → Lawful es → SumOf es (zerosOf es)
+unfolding Lawful Open
+lawful-sum es l = ⊎-elim (session-sum es) (λ o. ⊎-elim (beginning-sum es) (closed-sum es) o) l
+
+sum-is : (es : List Entry) (n : ℕ) → SumOf es n → n ≡ zerosOf es
+unfolding SumOf SummedClosed
+sum-is es n s =
+    ⊎-elim (summed-is es n)
+    (λ c. summed-is (c .0) n (c .1 .0) ∙ sym (ap zerosOf (c .1 .1 .1) ∙ closed-zeros (c .0) [] (c .1 .1 .0)))
+    s
+
+-- ---- and of broken ones
+
+module _ (es : List Entry) (e : Entry) (more : List Entry) where
+  abbrev longer : List Entry
+  longer = es ++ (e ∷ more)
+
+  -- after entries that the machine reads, the one that breaks the rules is refused
+  read-zeros : (σ : Machine) → run es (at opens) ≡ some σ → (Lawful (es ++ (e ∷ [])) → ⊥) → zerosOf longer ≡ zerosOf es
+  read-zeros σ h never = by-next (next σ e) refl
+    where
+      by-next : (o : Option Machine) → next σ e ≡ o → zerosOf longer ≡ zerosOf es
+      by-next none n = zeros-stop es e more (at opens) σ h n
+      by-next (some τ) n = absurd (never (state-lawful (es ++ (e ∷ [])) τ (state-next es σ e h τ n)))
+
+  pub after-closed : Closed es → zerosOf longer ≡ zerosOf es
+  unfolding Closed
+  after-closed c =
+      let before = c .0 in
+      let joined : longer ≡ before ++ (entry silence [] ∷ e ∷ more)
+      = ap (λ (l : List Entry). l ++ (e ∷ more)) (c .1 .1) ∙ append-assoc before (entry silence [] ∷ []) (e ∷ more) in
+      ap zerosOf joined
+      ∙ (closed-zeros before (e ∷ more) (c .1 .0) ∙ sym (ap zerosOf (c .1 .1) ∙ closed-zeros before [] (c .1 .0)))
+
+  broken-zeros : Lawful es → (Lawful (es ++ (e ∷ [])) → ⊥) → zerosOf longer ≡ zerosOf es
+  unfolding Lawful Open
+  broken-zeros l never =
+      ⊎-elim (λ s. read-zeros done (session-run es s) never)
+      (λ o. ⊎-elim (λ b. let r = beginning-run es b in read-zeros (r .0) (r .1 .0) never) after-closed o)
+      l
+
+pub break-zeros : (es : List Entry) (k : ℕ) → BreaksAt es k → zerosOf es ≡ zerosOf (take k es)
+break-zeros es k b =
+    let inside = break-within es k b in
+    let part = take k es in
+    let e = getD es k (entry 0 []) in
+    let more = drop (suc k) es in
+    let split : es ≡ part ++ (e ∷ more) = split-at es k (entry 0 []) inside in
+    let one-more : take (k + 1) es ≡ part ++ (e ∷ []) =
+    ap (λ (n : ℕ). take n es) (let e : k + 1 ≡ suc k = omega arith in e) ∙ take-suc es k (entry 0 []) inside in
+    ap zerosOf split ∙ broken-zeros part e more (b .before k (omega arith)) (λ l. b .broken (subst Lawful (sym one-more) l))
+
+-- ---- every list of entries has one fourth number, and it is this
+
+broken-found : (es : List Entry) (k : ℕ) → BreaksAt es k → Zeros es (zerosOf es)
+broken-found es k b =
+    broken k b (subst (SumOf (take k es)) (sym (break-zeros es k b)) (lawful-sum (take k es) (b .before k (omega arith))))
+
+by-sort : (es : List Entry) → Sort es → Zeros es (zerosOf es)
+unfolding Lawful
+by-sort es (finished s) = lawful (lawful-sum es (inl s))
+by-sort es (unfinished o) = lawful (lawful-sum es (inr o))
+by-sort es (neither s o) = let b = break-found es (λ l. ⊎-elim s o l) in broken-found es (b .0) (b .1)
+
+pub zeros-found : (es : List Entry) → Zeros es (zerosOf es)
+zeros-found es = by-sort es (sorted finishes es)
+
+pub zeros-is : (es : List Entry) (n : ℕ) → Zeros es n → n ≡ zerosOf es
+zeros-is es n (lawful s) = sum-is es n s
+zeros-is es n (broken k b s) = sum-is (take k es) n s ∙ sym (break-zeros es k b)
+
+pub zeros-once : (es : List Entry) (n m : ℕ) → Zeros es n → Zeros es m → n ≡ m
+zeros-once es n m a b = zeros-is es n a ∙ sym (zeros-is es m b)
+
+-- a longer list has no smaller one
+pub zeros-longer : (es more : List Entry) (n m : ℕ) → Zeros es n → Zeros (es ++ more) m → n ≤ m
+zeros-longer es more n m a b =
+    let first = zeros-is es n a in
+    let second = zeros-is (es ++ more) m b in
+    let h = zeros-grow es more (at opens) in
+    omega arith

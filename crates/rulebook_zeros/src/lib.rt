@@ -1,0 +1,1 @@
+// What was filled with zeros, over whole sessions: definitions and laws only, see specs/ and proofs/.
