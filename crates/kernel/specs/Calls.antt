@@ -5,6 +5,7 @@ use mathlib.Core.List.{List}
 use Prim.Native.Nat.{ℕ}
 use lib.Dec.{eqb}
 use Rattle.slices.specs.Choice.{pick}
+use Rattle.dol_fill.specs.Filled.{summed}
 use Rattle.tape_read.specs.Entries.{Entry, silence}
 use Rattle.session_phase.specs.declared.Reply.{Reply}
 use Rattle.session_phase.specs.declared.Reply.the-variants.{Refused, Closed as ClosedReply}
@@ -30,19 +31,21 @@ called r out = record { session = r .session; reply = r .reply; buffer = out }
 unfoldable pub refused : ℕ → Session → List ℕ → Called
 refused n s buf = record { session = s; reply = Refused n; buffer = buf }
 
-unfoldable pub accepted : Moved → Called
-accepted m = record { session = record { state = m .state }; reply = m .reply; buffer = m .buffer }
+-- beside the entries filled with zeros so far
+unfoldable pub accepted : ℕ → Moved → Called
+accepted before m =
+    record { session = record { state = m .state; zeros = summed before (m .zeros) }; reply = m .reply; buffer = m .buffer }
 
 -- silence closes the session without decision; nothing else changes
 unfoldable pub closedState : State → State
 closedState s = changed Closed (s .tvr) (s .tsi) (s .cursor) s
 
 unfoldable pub closedAfter : Session → List ℕ → Called
-closedAfter s buf = record { session = record { state = closedState (s .state) }; reply = ClosedReply; buffer = buf }
+closedAfter s buf = record { session = record { state = closedState (s .state); zeros = s .zeros }; reply = ClosedReply; buffer = buf }
 
 -- an event that is taken
 unfoldable pub taken : Session → Entry → List ℕ → Called
-taken s e buf = pick (eqb (e .kind) silence) (closedAfter s buf) (accepted (step (s .state) (e .payload) buf))
+taken s e buf = pick (eqb (e .kind) silence) (closedAfter s buf) (accepted (s .zeros) (step (s .state) (e .payload) buf))
 
 unfoldable pub unless : ℕ → Session → List ℕ → Called → Called
 unless n s buf took = pick (eqb n 0) took (refused n s buf)
@@ -51,4 +54,4 @@ unfoldable pub call : Session → Entry → List ℕ → Called
 call s e buf = unless (callRefusal (s .state .waiting) e buf) s buf (taken s e buf)
 
 unfoldable pub freshSession : Session
-freshSession = record { state = freshState }
+freshSession = record { state = freshState; zeros = 0 }

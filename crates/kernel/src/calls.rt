@@ -2,6 +2,7 @@
 // lent buffer; a decision, a word that is due, a silence and a call that is turned away touch no byte of it.
 use crate::Session;
 use crate::Step;
+use dol_fill::count::sum;
 use kernel_refusals::refusal;
 use session_events::event;
 use session_moves::Step as Move;
@@ -17,15 +18,17 @@ ghost use mathlib.Core.Path.{_≡_};
 ghost use mathlib.Core.List.{List, []};
 ghost use Rattle.tape_read.specs.Entries.{entry, start as startKind, answer as answerKind, silence as silenceKind, host as hostKind};
 ghost use Rattle.session_phase.specs.declared.Reply.the-variants.{Refused, Closed as ClosedReply};
+ghost use Rattle.dol_fill.specs.Filled.{summed};
 ghost use Rattle.kernel.specs.Calls.{called, call, closedState, freshSession};
 
-fn accept(m: Move) -> Step
-    ensures { λ r. ⌜ (r .session .state ≡ m .state) × (r .reply ≡ m .reply) ⌝ }
+fn accept(before: usize, m: Move) -> Step
+    ensures { λ r. ⌜ (r .session .state ≡ m .state) × (r .session .zeros ≡ summed before (m .zeros)) × (r .reply ≡ m .reply) ⌝ }
 {
     let state = m.state;
     let reply = m.reply;
+    let zeros = sum(before, m.zeros);
     Step {
-        session: Session { state },
+        session: Session { state, zeros },
         reply,
     }
 }
@@ -40,8 +43,8 @@ fn turn_away(s: Session, why: usize) -> Step
 }
 
 // The card says nothing: the session is closed without a decision.
-fn close(state: State) -> Step
-    ensures { λ r. ⌜ (r .session .state ≡ closedState state) × (r .reply ≡ ClosedReply) ⌝ }
+fn close(state: State, zeros: usize) -> Step
+    ensures { λ r. ⌜ (r .session .state ≡ closedState state) × (r .session .zeros ≡ zeros) × (r .reply ≡ ClosedReply) ⌝ }
 {
     let tvr = state.tvr;
     let tsi = state.tsi;
@@ -49,6 +52,7 @@ fn close(state: State) -> Step
     Step {
         session: Session {
             state: change::change(state, Waiting::Closed, tvr, tsi, place),
+            zeros,
         },
         reply: Reply::Closed,
     }
@@ -60,6 +64,7 @@ impl Session {
     {
         Session {
             state: change::fresh(),
+            zeros: 0,
         }
     }
 
@@ -68,15 +73,23 @@ impl Session {
         ensures { λ r. ⌜ called r (now (command .exit)) ≡ call self (entry kind (now (payload .entry))) (now (command .entry)) ⌝ }
     {
         let state = self.state;
+        let zeros = self.zeros;
         let waiting = state.waiting;
         let why = refusal(waiting, kind, payload, command);
         if why != 0 {
             return turn_away(self, why);
         }
         if kind == SILENCE {
-            return close(state);
+            return close(state, zeros);
         }
-        accept(event::step(state, payload, command))
+        accept(zeros, event::step(state, payload, command))
+    }
+
+    // How many entries of the lists filled so far are zeros for want of a value.
+    pub fn filled_with_zeros(self) -> usize
+        ensures { λ r. ⌜ r ≡ self .zeros ⌝ }
+    {
+        self.zeros
     }
 
     pub fn start(self, terminal: &[u8], command: &mut [u8]) -> Step

@@ -4,9 +4,11 @@ mod calls;
 use session_phase::Reply;
 use session_state::State;
 
-// What can be read off a session is read off its state.
+// What can be read off a session is read off its state; beside it, how many entries of the lists filled so far are zeros for want of a
+// value.
 pub struct Session {
     pub state: State,
+    pub zeros: usize,
 }
 
 pub struct Step {

@@ -42,17 +42,17 @@ decision-read s outcome reason z h =
     ap (λ (x : Waiting). outcomeOf x ∷ reasonOf x ∷ (s .tvr ++ s .tsi)) (h .waits) ∙ sym (stands-decision s outcome reason z h)
 
 module _ (σ : Machine) (e : Entry) (buf : List ℕ) (m : Moved) (room : longest ≤ length buf) where
-  pub step-gives : (p : Phase) → Steps σ e p buf m → Gives p buf (accepted m)
+  pub step-gives : (zeros : ℕ) (p : Phase) → Steps σ e p buf m → Gives p buf (accepted zeros m)
   unfolding Gives accepted replyIn bufferIn
-  step-gives (asks w) f =
+  step-gives zeros (asks w) f =
       let most = command-most (m .state) w (f .stands) in
       let fits : length (commandOf w) ≤ length buf = omega arith in (
         f .reply ∙ command-reply w buf fits,
         ap (take (length (commandOf w))) (f .buffer) ∙ command-there w buf fits,
         ap (drop (length (commandOf w))) (f .buffer) ∙ command-rest w buf fits,
       )
-  step-gives (hears h) f = (f .reply, f .buffer)
-  step-gives (decides outcome reason z) f = (f .reply, decision-read (m .state) outcome reason z (f .stands), f .buffer)
+  step-gives zeros (hears h) f = (f .reply, f .buffer)
+  step-gives zeros (decides outcome reason z) f = (f .reply, decision-read (m .state) outcome reason z (f .stands), f .buffer)
 
 -- what is logged is the event, and the command or the decision of the phase
 pub gives-logged : (e : Entry) (p : Phase) (buf : List ℕ) (r : Called) → Gives p buf r → loggedBy r e ≡ e ∷ ruled p

@@ -3,6 +3,7 @@ pub mod Words
 pub mod Giving
 pub mod Taking
 pub mod Lasting
+pub mod Counting
 pub mod Lawful
 pub mod Refusing
 pub mod Ending

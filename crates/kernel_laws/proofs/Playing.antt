@@ -25,6 +25,7 @@ use Rattle.rulebook.proofs.Payloads.{payload-most}
 use Rattle.rulebook.proofs.Running.{due-entry, due-test, said-allowed, said-payload, chosen, taken, no-state, session-run}
 use Rattle.session_phase.specs.Waiting.{kindOf}
 use Rattle.session_phase.specs.declared.Speaker.{Speaker}
+use Rattle.dol_fill.specs.Filled.{summed}
 use Rattle.session_state.specs.Reading.{heardBy}
 use Rattle.session_state.specs.declared.State.{State}
 use Rattle.session_moves.specs.Moves.{Moved, questionOf, speakerOf, keptAs}
@@ -79,18 +80,18 @@ module _ (buf : List ℕ) (room : longest ≤ length buf) where
 
   -- ---- an event that is taken
   module _ (s : Session) (e : Entry) (σ : Machine) (p : Phase) (m : Moved) (free : callRefusal (s .state .waiting) e buf ≡ 0)
-      (same : made s (record { event = e; buffer = buf }) ≡ accepted m) (steps : Steps σ e p buf m) (event : given e ≡ false) where
+      (same : made s (record { event = e; buffer = buf }) ≡ accepted (s .zeros) m) (steps : Steps σ e p buf m) (event : given e ≡ false) where
     abbrev one : Call
     one = record { event = e; buffer = buf }
 
     abbrev further : List Entry → Played
-    further log = record { session = record { state = m .state }; log = log }
+    further log = record { session = record { state = m .state; zeros = summed (s .zeros) (m .zeros) }; log = log }
 
     after-one : (log : List Entry) → after (record { session = s; log = log }) one ≡ further (log ++ (e ∷ ruled p))
     unfolding after accepted
     after-one log =
         ap (λ (r : Called). record { session = r .session; log = log ++ loggedBy r e }) same
-        ∙ ap (λ (l : List Entry). further (log ++ l)) (gives-logged e p buf (accepted m) (step-gives σ e buf m room p steps))
+        ∙ ap (λ (l : List Entry). further (log ++ l)) (gives-logged e p buf (accepted (s .zeros) m) (step-gives σ e buf m room (s .zeros) p steps))
 
     goes-one : (es : List Entry) (τ : Machine) → Goes (at p) es τ → (log : List Entry)
         → playsFrom (record { session = s; log = log ++ [] }) (callsIn buf (e ∷ es)) .log ≡ (log ++ (e ∷ es)) ++ pending τ
@@ -100,11 +101,11 @@ module _ (buf : List ℕ) (room : longest ≤ length buf) where
         ∙ (ap (λ (q : Played). playsFrom q (callsIn buf es) .log)
         (after-one (log ++ [])
         ∙ ap further (ap (λ (l : List Entry). l ++ (e ∷ ruled p)) (append-nil log) ∙ sym (append-assoc log (e ∷ []) (ruled p))))
-        ∙ (rest (record { state = m .state }) (steps .stands) (log ++ (e ∷ [])) ∙ longer log es e τ))
+        ∙ (rest (record { state = m .state; zeros = summed (s .zeros) (m .zeros) }) (steps .stands) (log ++ (e ∷ [])) ∙ longer log es e τ))
 
   -- a call that is taken and is no silence
   steps-as : (s : Session) (e : Entry) → callRefusal (s .state .waiting) e buf ≡ 0 → (e .kind ≡ silence → ⊥)
-      → made s (record { event = e; buffer = buf }) ≡ accepted (step (s .state) (e .payload) buf)
+      → made s (record { event = e; buffer = buf }) ≡ accepted (s .zeros) (step (s .state) (e .payload) buf)
   unfolding made
   steps-as s e free n = call-taken s e buf free ∙ taken-step s e buf n
 

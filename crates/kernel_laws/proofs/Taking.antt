@@ -74,13 +74,13 @@ waits-card (Decided outcome reason) e = absurd (omega arith)
 waits-card Closed e = absurd (omega arith)
 
 -- ---- an event that is taken, and is no silence: the machine stands where it is due, and the call is a step of the session's
-pub record Taken (es : List Entry) (e : Entry) (buf : List ℕ) (r : Called) : Type 0 where
+pub record Taken (es : List Entry) (e : Entry) (buf : List ℕ) (before : ℕ) (r : Called) : Type 0 where
   pub from : Machine
   pub read : run es (at opens) ≡ some from
   pub to : Phase
   pub moved : Moved
   pub steps : Steps from e to buf moved
-  pub same : r ≡ accepted moved
+  pub same : r ≡ accepted before moved
 
 module _ (s : Session) (es : List Entry) (buf : List ℕ) (there : Reached (s .state) es) (e : Entry) (passed : Passed s e buf) where
   abbrev p : List ℕ
@@ -90,7 +90,7 @@ module _ (s : Session) (es : List Entry) (buf : List ℕ) (there : Reached (s .s
   stepped = step (s .state) p buf
 
   module _ (bytes : areBytes p ≡ true) (n : e .kind ≡ silence → ⊥) where
-    on-card : (question : Question) → s .state .waiting ≡ ForCard question → Taken es e buf (accepted stepped)
+    on-card : (question : Question) → s .state .waiting ≡ ForCard question → Taken es e buf (s .zeros) (accepted (s .zeros) stepped)
     unfolding awaited answerBad
     on-card question k =
         let w = reached-asked (s .state) es there question k in
@@ -107,7 +107,7 @@ module _ (s : Session) (es : List Entry) (buf : List ℕ) (there : Reached (s .s
           same = refl;
         }
 
-    on-word : (speaker : Speaker) → s .state .waiting ≡ ForWord speaker → Taken es e buf (accepted stepped)
+    on-word : (speaker : Speaker) → s .state .waiting ≡ ForWord speaker → Taken es e buf (s .zeros) (accepted (s .zeros) stepped)
     unfolding awaited Knows
     on-word speaker k =
         let there′ = reached-word (s .state) es there speaker k in
@@ -133,14 +133,14 @@ module _ (s : Session) (es : List Entry) (buf : List ℕ) (there : Reached (s .s
     over : {A : Type 0} (x : Waiting) → s .state .waiting ≡ x → isOver x ≡ true → A
     over x k h = absurd (false≢true (sym (passed .goes) ∙ (ap isOver k ∙ h)))
 
-    by-waiting : (x : Waiting) → s .state .waiting ≡ x → Taken es e buf (accepted stepped)
+    by-waiting : (x : Waiting) → s .state .waiting ≡ x → Taken es e buf (s .zeros) (accepted (s .zeros) stepped)
     unfolding isOver awaited
     by-waiting (ForCard question) k = on-card question k
     by-waiting (ForWord speaker) k = on-word speaker k
     by-waiting (Decided outcome reason) k = over (Decided outcome reason) k refl
     by-waiting Closed k = over Closed k refl
 
-    pub taken-event : Taken es e buf (accepted stepped)
+    pub taken-event : Taken es e buf (s .zeros) (accepted (s .zeros) stepped)
     taken-event = by-waiting (s .state .waiting) refl
 
   -- a silence that is taken closes what waits for the card
@@ -164,9 +164,9 @@ module _ (s : Session) (es : List Entry) (buf : List ℕ) (there : Reached (s .s
         }
 
 -- ---- what follows of a call that is taken
-module _ (es : List Entry) (e : Entry) (buf : List ℕ) (r : Called) (room : longest ≤ length buf) (t : Taken es e buf r) where
+module _ (es : List Entry) (e : Entry) (buf : List ℕ) (before : ℕ) (r : Called) (room : longest ≤ length buf) (t : Taken es e buf before r) where
   pub taken-gives : Gives (t .to) buf r
-  taken-gives = subst (Gives (t .to) buf) (sym (t .same)) (step-gives (t .from) e buf (t .moved) room (t .to) (t .steps))
+  taken-gives = subst (Gives (t .to) buf) (sym (t .same)) (step-gives (t .from) e buf (t .moved) room before (t .to) (t .steps))
 
   pub taken-logged : loggedBy r e ≡ e ∷ ruled (t .to)
   taken-logged = gives-logged e (t .to) buf r taken-gives

@@ -65,7 +65,7 @@ module _ (p : Played) (c : Call) (bytes : areBytes (c .event .payload) ≡ true)
         let q = passed s e buf h in
         follows
         (subst (Follows (p .log) e buf) (sym (call-taken s e buf h ∙ taken-step s e buf n))
-        (taken-follows (p .log) e buf (accepted (step (s .state) (e .payload) buf)) (q .room) (taken-event s (p .log) buf there e q bytes n)))
+        (taken-follows (p .log) e buf (s .zeros) (accepted (s .zeros) (step (s .state) (e .payload) buf)) (q .room) (taken-event s (p .log) buf there e q bytes n)))
 
     closed : e .kind ≡ silence → Replies p c
     unfolding made closedAfter

@@ -10,6 +10,7 @@ use Rattle.commands.specs.Commands.{longest}
 use Rattle.tape_read.specs.Entries.{Entry}
 use Rattle.rulebook.specs.Session.{Session as WholeSession, Open}
 use Rattle.rulebook.specs.Roles.{RightKernel}
+use Rattle.rulebook_zeros.specs.Zeros.{Zeros}
 use Rattle.session_laws.specs.Bits.{Keeps}
 use Rattle.session_phase.specs.Waiting.{isDecided, isClosed}
 use Rattle.kernel.specs.declared.Session.{Session}
@@ -22,6 +23,7 @@ use Rattle.kernel_laws.specs.Saying.{Lawfully, Says, Replies, Unchanged}
 use Rattle.kernel_laws.proofs.Lawful.{any-calls}
 use Rattle.kernel_laws.proofs.Refusing.{refused-unchanged}
 use Rattle.kernel_laws.proofs.Ending.{decided-ended, closed-ended, silence-is-open, silence-is-no-session}
+use Rattle.kernel_laws.proofs.Counting.{plays-zeros}
 use Rattle.kernel_laws.proofs.Holding.{plays-keeps}
 use Rattle.kernel_laws.proofs.Telling.{plays-says, plays-replies}
 use Rattle.kernel_laws.proofs.Deciding.{decision-last}
@@ -35,6 +37,7 @@ pub record Kernel : Type 0 where
   pub ends : (cs : List Call) → allBytes cs ≡ true → EndsDecided (plays cs .session) (plays cs .log)
   pub complete : (buf : List ℕ) → longest ≤ length buf → (es : List Entry) → WholeSession es → Reproduces buf es
   pub rightly : (buf : List ℕ) → longest ≤ length buf → RightKernel (givenAfter buf)
+  pub zeros : (cs : List Call) → allBytes cs ≡ true → Zeros (plays cs .log) (plays cs .session .zeros)
   pub keeps : (cs more : List Call) → allBytes cs ≡ true → allBytes more ≡ true → Keeps (plays cs .session .state) (plays (cs ++ more) .session .state)
   pub decided : (cs : List Call) → isDecided (plays cs .session .state .waiting) ≡ true → Ended cs
   pub closed : (cs : List Call) → isClosed (plays cs .session .state .waiting) ≡ true → Ended cs
@@ -55,6 +58,7 @@ kernel =
       ends = decision-last;
       complete = session-logged;
       rightly = right;
+      zeros = plays-zeros;
       keeps = plays-keeps;
       decided = decided-ended;
       closed = closed-ended;

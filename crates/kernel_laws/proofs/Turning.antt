@@ -49,7 +49,7 @@ module _ (s : Session) (e : Entry) (buf : List ℕ) where
   unfolding taken
   taken-silence k = pick-yes _ _ _ (eq-eqb (e .kind) silence k)
 
-  pub taken-step : (e .kind ≡ silence → ⊥) → taken s e buf ≡ accepted (step (s .state) (e .payload) buf)
+  pub taken-step : (e .kind ≡ silence → ⊥) → taken s e buf ≡ accepted (s .zeros) (step (s .state) (e .payload) buf)
   unfolding taken
   taken-step k = pick-no _ _ _ (ne-eqb (e .kind) silence k)
 

@@ -119,11 +119,11 @@ not-left-alone wrong =
     let e = entry (dueKind terminal) begin in
     let free = word-free freshSession lent also-room Terminal refl begin valid in
     let m = step (freshSession .state) begin lent in
-    let same : made freshSession (record { event = e; buffer = lent }) ≡ accepted m =
+    let same : made freshSession (record { event = e; buffer = lent }) ≡ accepted 0 m =
     call-taken freshSession e lent free ∙ taken-step freshSession e lent (λ k. omega arith)
     in
     let steps = word-step (freshSession .state) terminal begin lent fresh-stands valid held in
-    let gives = step-gives (at opens) e lent m also-room (opened (readingOf begin)) steps in
+    let gives = step-gives (at opens) e lent m also-room 0 (opened (readingOf begin)) steps in
     let left : m .buffer ≡ lent = ap (λ (r : Called). r .buffer) (sym same) ∙ wrong freshSession (record { event = e; buffer = lent }) in
     let select = commandOf (selecting (begun (readingOf begin))) in
     let there : take (length select) lent ≡ select = ap (take (length select)) (sym left) ∙ gives .1 in

@@ -10,14 +10,13 @@ use decide_requests::requests::given_by;
 use decide_requests::requests::second_allowed;
 use decide_tvr::results::tsi_after_first_answer;
 use session_moves::Step;
+use session_moves::command::missing;
+use session_moves::ends::ask;
 use session_moves::ends::decide;
 use session_moves::ends::end;
-use session_moves::ends::wait;
 use session_moves::known::at_options;
 use session_online::by_first;
 use session_phase::Question;
-use session_phase::Reply;
-use session_phase::Waiting;
 use session_records::records::bytes_of;
 use session_records::records::with_record;
 use session_records_read::read_on;
@@ -44,8 +43,10 @@ pub fn on_select(s: State, a: &[u8], buf: &mut [u8]) -> Step
         return end(s, why);
     }
     let known = at_options(s);
-    let n = write::options(answer_select::pdol(a), terminal, &known, buf);
-    wait(s, Waiting::ForCard(Question::Options), Reply::Command(n))
+    let list = answer_select::pdol(a);
+    let n = write::options(list, terminal, &known, buf);
+    let zeros = missing(s, list, &known);
+    ask(s, Question::Options, n, zeros)
 }
 
 pub fn on_options(s: State, a: &[u8], buf: &mut [u8]) -> Step

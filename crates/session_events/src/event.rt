@@ -33,6 +33,7 @@ fn on_start(terminal: &[u8], buf: &mut [u8]) -> Step
     Step {
         state: begun(terminal),
         reply: Reply::Command(n),
+        zeros: 0,
     }
 }
 
@@ -74,11 +75,12 @@ fn on_answer(s: State, question: Question, a: &[u8], buf: &mut [u8]) -> Step
 }
 
 fn stay(s: State) -> Step
-    ensures { λ r. ⌜ (r .state ≡ s) × (r .reply ≡ Refused 4) ⌝ }
+    ensures { λ r. ⌜ (r .state ≡ s) × (r .reply ≡ Refused 4) × (r .zeros ≡ 0) ⌝ }
 {
     Step {
         state: s,
         reply: Reply::Refused(4),
+        zeros: 0,
     }
 }
 

@@ -53,7 +53,7 @@ follows-as : (σ : Machine) (e : Entry) (p : Phase) (s : State) (buf : List ℕ)
     → Follows σ e p buf m
 unfolding moved
 follows-as σ e p s buf m same n f =
-    subst (Follows σ e p buf) (sym same) (record { taken = n; stands = fits-stands p s f; reply = refl; buffer = refl })
+    subst (Follows σ e p buf) (sym same) (record { taken = n; stands = fits-stands p s f; reply = refl; buffer = refl; zeros = refl })
 
 pub fresh-stands : StandsAt fresh opens
 unfolding Knows heardBy speakerOf keptAs tvrOf tsiOf fresh stateAt

@@ -8,6 +8,7 @@ use lib.ListN.{length}
 use Rattle.tape_read.specs.Entries.{Entry, entry, command, decision}
 use Rattle.rulebook.specs.Phase.{Phase, opens, asks, hears, decides, commandOf, decisionOf}
 use Rattle.rulebook.specs.Machine.{Machine, at, owes, done, next, run}
+use Rattle.rulebook_zeros.specs.Zeros.{unsuppliedIn}
 use Rattle.session_state.specs.declared.State.{State}
 use Rattle.session_moves.specs.Moves.{Moved, replyIn, bufferIn}
 use Rattle.session_laws.specs.Agreeing.{StandsAt}
@@ -23,12 +24,14 @@ landing (asks w) = owes w
 landing (hears h) = at (hears h)
 landing (decides outcome reason z) = done
 
--- an event takes the machine to a phase; the state left behind stands there, and the reply and the buffer are the phase's
+-- an event takes the machine to a phase; the state left behind stands there, and the reply, the buffer and what is added to the
+-- entries filled with zeros are the phase's
 pub record Follows (σ : Machine) (event : Entry) (p : Phase) (buf : List ℕ) (m : Moved) : Type 0 where
   pub taken : next σ event ≡ some (at p)
   pub stands : StandsAt (m .state) p
   pub reply : m .reply ≡ replyIn (length buf) p
   pub buffer : m .buffer ≡ bufferIn p buf
+  pub zeros : m .zeros ≡ unsuppliedIn p
 
 -- a tape's entries lead to a phase, its own entry among them, and the state stands there
 pub record Reached (s : State) (es : List Entry) : Type 0 where

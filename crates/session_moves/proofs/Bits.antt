@@ -7,6 +7,7 @@ use lib.ListN.{length}
 use Rattle.rulebook.specs.Phase.{Asked, selecting, optioning, reading, first, second, Phase, asks, hears, decides, tvrOf, tsiOf}
 use Rattle.answer_afl.specs.Cursor.{stepped}
 use Rattle.answer_afl.specs.declared.cursor.Cursor.{Cursor}
+use Rattle.rulebook_zeros.specs.Zeros.{unsuppliedIn}
 use Rattle.session_records.specs.Runs.{inRun}
 use Rattle.session_state.specs.Keeping.{changed}
 use Rattle.session_state.specs.declared.State.{State}
@@ -31,5 +32,5 @@ pub bits-moved : (p : Phase) (waiting : Waiting) (tvr tsi : List ℕ) (s : State
     → moved p (changed waiting tvr tsi (s .cursor) s) buf ≡ moved p s buf
 unfolding moved standing changed
 bits-moved p waiting tvr tsi s buf =
-    ap (λ (c : Cursor). record { state = changed (keptAs p) (tvrOf p) (tsiOf p) c s; reply = replyIn (length buf) p; buffer = bufferIn p buf })
+    ap (λ (c : Cursor). record { state = changed (keptAs p) (tvrOf p) (tsiOf p) c s; reply = replyIn (length buf) p; buffer = bufferIn p buf; zeros = unsuppliedIn p })
     (same-cursor p (changed waiting tvr tsi (s .cursor) s) s refl refl)

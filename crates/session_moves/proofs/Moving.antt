@@ -18,6 +18,7 @@ use Rattle.answer_afl.specs.declared.cursor.Cursor.{Cursor}
 use Rattle.rulebook.specs.Situation.{Situation}
 use Rattle.rulebook.specs.Phase.{Asked, Heard, Phase, asks, hears, decides, situationOf, commandOf, dueKind, tvrOf, tsiOf, ended}
 use Rattle.rulebook.specs.Turn.{goesOn}
+use Rattle.rulebook_zeros.specs.Zeros.{unsuppliedAsking, unsuppliedIn}
 use Rattle.session_state.specs.Reading.{situationWith, early, late}
 use Rattle.session_records.specs.Runs.{inRun}
 use Rattle.session_state.specs.Keeping.{changed}
@@ -26,7 +27,7 @@ use Rattle.session_state.specs.declared.State.{State}
 use Rattle.session_phase.specs.declared.Waiting.the-variants.{ForCard, ForWord, Decided}
 use Rattle.session_phase.specs.declared.Reply.the-variants.{Command, Due, Decided as DecidedReply, Refused}
 use Rattle.session_moves.specs.declared.Step.{Step}
-use Rattle.session_moves.specs.Moves.{Moved, played, questionOf, speakerOf, keptAs, cursorAsking, cursorAfter, standing, replyIn, bufferIn, moved, unmoved, waitingFor}
+use Rattle.session_moves.specs.Moves.{Moved, played, questionOf, speakerOf, keptAs, cursorAsking, cursorAfter, standing, replyIn, bufferIn, moved, unmoved, waitingFor, askedFor}
 
 -- the bytes of a run, as the code cuts them out
 module _ (r : Run) (n : ℕ) (b : List ℕ) (same : b ≡ r .bytes) (part : take n (r .bytes) ≡ inRun r) where
@@ -57,42 +58,44 @@ module _ (s : State) (buf : List ℕ) where
   -- a step to a decision
   module _ (outcome reason : ℕ) {r : Step} (e : r ≡ waitingFor (Decided outcome reason) DecidedReply s) where
     pub late-decided : played r buf ≡ moved (decides outcome reason (late s)) s buf
-    unfolding played waitingFor moved standing keptAs cursorAfter replyIn bufferIn tvrOf tsiOf late situationWith
+    unfolding played waitingFor moved standing keptAs cursorAfter replyIn bufferIn unsuppliedIn tvrOf tsiOf late situationWith
     late-decided = ap (λ (x : Step). played x buf) e
 
     pub early-decided : played r buf ≡ moved (decides outcome reason (early s)) s buf
-    unfolding played waitingFor moved standing keptAs cursorAfter replyIn bufferIn tvrOf tsiOf early situationWith
+    unfolding played waitingFor moved standing keptAs cursorAfter replyIn bufferIn unsuppliedIn tvrOf tsiOf early situationWith
     early-decided = ap (λ (x : Step). played x buf) e
 
   -- to somebody else's word
   pub hearing : (h : Heard) {r : Step} → r ≡ waitingFor (ForWord (speakerOf h)) (Due (dueKind h)) s → s .tvr ≡ tvrOf (hears h) → s .tsi ≡ tsiOf (hears h)
       → played r buf ≡ moved (hears h) s buf
-  unfolding played waitingFor moved standing keptAs cursorAfter replyIn bufferIn
+  unfolding played waitingFor moved standing keptAs cursorAfter replyIn bufferIn unsuppliedIn
   hearing h e t u =
       ap (λ (x : Step). played x buf) e
-      ∙ (λ i. record { state = changed (ForWord (speakerOf h)) (t i) (u i) (s .cursor) s; reply = Due (dueKind h); buffer = buf })
+      ∙ (λ i. record { state = changed (ForWord (speakerOf h)) (t i) (u i) (s .cursor) s; reply = Due (dueKind h); buffer = buf; zeros = 0 })
 
   -- to a command
   module _ (w : Asked) {n : ℕ} {out command : List ℕ} (same : command ≡ commandOf w) (size : n ≡ sizeIn (length buf) command) (laidOut : out ≡ laid command 0 buf) where
-    pub asking : {r : Step} → r .reply ≡ Command n → (tvr tsi : List ℕ) (cursor : Cursor) → r .state ≡ changed (ForCard (questionOf w)) tvr tsi cursor s
+    pub asking : {r : Step} → r .reply ≡ Command n → r .zeros ≡ unsuppliedAsking w → (tvr tsi : List ℕ) (cursor : Cursor) → r .state ≡ changed (ForCard (questionOf w)) tvr tsi cursor s
         → tvr ≡ situationOf w .tvr → tsi ≡ situationOf w .tsi → cursor ≡ cursorAsking w s → played r out ≡ moved (asks w) s buf
-    unfolding played moved standing keptAs cursorAfter replyIn bufferIn tvrOf tsiOf
-    asking d tvr tsi cursor e t u c =
+    unfolding played moved standing keptAs cursorAfter replyIn bufferIn unsuppliedIn tvrOf tsiOf
+    asking d z tvr tsi cursor e t u c =
         λ i. record {
           state = (e ∙ (λ j. changed (ForCard (questionOf w)) (t j) (u j) (c j) s)) i;
           reply = (d ∙ (ap Command size ∙ ap (λ (x : List ℕ). Command (sizeIn (length buf) x)) same)) i;
           buffer = (laidOut ∙ ap (λ (x : List ℕ). laid x 0 buf) same) i;
+          zeros = z i;
         }
 
-    pub asking-on : {r : Step} → r ≡ waitingFor (ForCard (questionOf w)) (Command n) s → s .tvr ≡ situationOf w .tvr → s .tsi ≡ situationOf w .tsi
-        → s .cursor ≡ cursorAsking w s → played r out ≡ moved (asks w) s buf
-    unfolding waitingFor
-    asking-on e t u c = asking (ap (λ (x : Step). x .reply) e) (s .tvr) (s .tsi) (s .cursor) (ap (λ (x : Step). x .state) e) t u c
+    pub asking-on : {r : Step} {z : ℕ} → r ≡ askedFor (questionOf w) n z s → z ≡ unsuppliedAsking w → s .tvr ≡ situationOf w .tvr
+        → s .tsi ≡ situationOf w .tsi → s .cursor ≡ cursorAsking w s → played r out ≡ moved (asks w) s buf
+    unfolding askedFor
+    asking-on e z t u c =
+        asking (ap (λ (x : Step). x .reply) e) (ap (λ (x : Step). x .zeros) e ∙ z) (s .tvr) (s .tsi) (s .cursor) (ap (λ (x : Step). x .state) e) t u c
 
   -- a session that is over
-  pub stays : {r : Step} → (r .state ≡ s) × (r .reply ≡ Refused 4) → played r buf ≡ unmoved s buf
+  pub stays : {r : Step} → (r .state ≡ s) × (r .reply ≡ Refused 4) × (r .zeros ≡ 0) → played r buf ≡ unmoved s buf
   unfolding played unmoved
-  stays e = λ i. record { state = e .0 i; reply = e .1 i; buffer = buf }
+  stays e = λ i. record { state = e .0 i; reply = e .1 i; buffer = buf; zeros = e .2 i }
 
 -- a bad answer ends the session for its reason, of which a state keeps a byte
 module _ (s : State) (buf : List ℕ) (why reason : ℕ) (p : Phase) (e : why ≡ reason) (small : reason < 256) (bad : why ≡ 0 → ⊥) {r : Step} (w : r ≡ waitingFor (Decided 3 (why % 256)) DecidedReply s) where

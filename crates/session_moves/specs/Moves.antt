@@ -9,6 +9,7 @@ use Rattle.commands.specs.Commands.{sizeIn}
 use Rattle.answer_afl.specs.Cursor.{stepped}
 use Rattle.answer_afl.specs.declared.cursor.Cursor.{Cursor}
 use Rattle.rulebook.specs.Phase.{Asked, selecting, optioning, reading, first, second, Heard, terminal, issuer, Phase, asks, hears, decides, commandOf, dueKind, tvrOf, tsiOf}
+use Rattle.rulebook_zeros.specs.Zeros.{unsuppliedIn}
 use Rattle.session_phase.specs.declared.Question.{Question}
 use Rattle.session_phase.specs.declared.Question.the-variants.{Select, Options, Record, First, Second}
 use Rattle.session_phase.specs.declared.Speaker.{Speaker}
@@ -22,14 +23,15 @@ use Rattle.session_state.specs.Keeping.{changed}
 use Rattle.session_state.specs.declared.State.{State}
 use Rattle.session_moves.specs.declared.Step.{Step}
 
--- what a step leaves behind: the state, the reply, and the lent buffer
+-- what a step leaves behind: the state, the reply, the lent buffer, and what it adds to the number of entries filled with zeros
 pub record Moved : Type 0 where
   pub state : State
   pub reply : Reply
   pub buffer : List ℕ
+  pub zeros : ℕ
 
 unfoldable pub played : Step → List ℕ → Moved
-played r out = record { state = r .state; reply = r .reply; buffer = out }
+played r out = record { state = r .state; reply = r .reply; buffer = out; zeros = r .zeros }
 
 -- what a state keeps of a phase: whose word is due, and which of the card's answers
 unfoldable pub questionOf : Asked → Question
@@ -78,12 +80,17 @@ bufferIn (hears h) buf = buf
 bufferIn (decides outcome reason s) buf = buf
 
 unfoldable pub moved : Phase → State → List ℕ → Moved
-moved p s buf = record { state = standing p s; reply = replyIn (length buf) p; buffer = bufferIn p buf }
+moved p s buf = record { state = standing p s; reply = replyIn (length buf) p; buffer = bufferIn p buf; zeros = unsuppliedIn p }
 
 -- a session that is over takes nothing: the event is not the one due (01, "When a call is turned away", 4), and nothing changes
 unfoldable pub unmoved : State → List ℕ → Moved
-unmoved s buf = record { state = s; reply = Refused 4; buffer = buf }
+unmoved s buf = record { state = s; reply = Refused 4; buffer = buf; zeros = 0 }
 
 -- the same state, but for what is waited for
 unfoldable pub waitingFor : Waiting → Reply → State → Step
-waitingFor waiting reply s = record { state = changed waiting (s .tvr) (s .tsi) (s .cursor) s; reply = reply }
+waitingFor waiting reply s = record { state = changed waiting (s .tvr) (s .tsi) (s .cursor) s; reply = reply; zeros = 0 }
+
+-- the same with a command out
+unfoldable pub askedFor : Question → ℕ → ℕ → State → Step
+askedFor question n zeros s =
+    record { state = changed (ForCard question) (s .tvr) (s .tsi) (s .cursor) s; reply = Command n; zeros = zeros }

@@ -3,6 +3,7 @@ use answer_afl::cursor;
 use commands::write;
 use decide_requests::requests::Cryptogram;
 use decide_requests::requests::p1;
+use dol_fill::count::unsupplied;
 use session_records::runs::bytes_of;
 use session_records::runs::size_of;
 use session_state::State;
@@ -10,7 +11,7 @@ ghost use mathlib.Core.Path.{_≡_};
 ghost use lib.ListN.{length};
 ghost use Rattle.slices.specs.Writing.{laid};
 ghost use Rattle.start_fields.specs.Reading.{readingOf};
-ghost use Rattle.dol_fill.specs.Filled.{filling};
+ghost use Rattle.dol_fill.specs.Filled.{filling, unsupplied as unsuppliedOf};
 ghost use Rattle.decide_requests.specs.Requests.{p1Of};
 ghost use Rattle.answer_afl.specs.Cursor.{recordAt};
 ghost use Rattle.commands.specs.Commands.{recordCommand, cryptogramCommand, sizeIn};
@@ -24,6 +25,14 @@ pub fn generate(s: State, request: Cryptogram, list: &[u8], known: &[u8], buf: &
 {
     let start = s.start;
     write::cryptogram(p1(request), list, &start, known, buf)
+}
+
+// How many entries of an object list are not supplied.
+pub fn missing(s: State, list: &[u8], known: &[u8]) -> usize
+    ensures { λ r. ⌜ r ≡ unsuppliedOf (readingOf (s .start)) (toldIn (now (known .entry))) (now (list .entry)) ⌝ }
+{
+    let start = s.start;
+    unsupplied(list, &start, known)
 }
 
 // READ RECORD of the record at the cursor.

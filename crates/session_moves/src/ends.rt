@@ -1,12 +1,13 @@
 // A state that waits for what comes next.
 use crate::Step;
+use session_phase::Question;
 use session_phase::Reply;
 use session_phase::Waiting;
 use session_state::State;
 use session_state::change::change;
 ghost use mathlib.Core.Path.{_≡_};
 ghost use Prim.Native.Nat.{_%_};
-ghost use Rattle.session_moves.specs.Moves.{waitingFor};
+ghost use Rattle.session_moves.specs.Moves.{waitingFor, askedFor};
 ghost use Rattle.session_phase.specs.declared.Reply.the-variants.{Decided as DecidedReply};
 ghost use Rattle.session_phase.specs.declared.Waiting.the-variants.{Decided as DecidedKept};
 
@@ -20,6 +21,21 @@ pub fn wait(s: State, waiting: Waiting, reply: Reply) -> Step
     Step {
         state: change(s, waiting, tvr, tsi, cursor),
         reply,
+        zeros: 0,
+    }
+}
+
+// The same state, with a command of n bytes out, and so many entries of its list not supplied.
+pub fn ask(s: State, question: Question, n: usize, zeros: usize) -> Step
+    ensures { λ r. ⌜ r ≡ askedFor question n zeros s ⌝ }
+{
+    let tvr = s.tvr;
+    let tsi = s.tsi;
+    let cursor = s.cursor;
+    Step {
+        state: change(s, Waiting::ForCard(question), tvr, tsi, cursor),
+        reply: Reply::Command(n),
+        zeros,
     }
 }
 

@@ -7,8 +7,10 @@ pub mod known;
 use session_phase::Reply;
 use session_state::State;
 
-// The state afterwards, and what the call is answered with.
+// The state afterwards, what the call is answered with, and how many entries of the list in the command that is now due are zeros for
+// want of a value.
 pub struct Step {
     pub state: State,
     pub reply: Reply,
+    pub zeros: usize,
 }

@@ -6,6 +6,8 @@ use decide_requests::requests::second_request;
 use dol_wanted::is_fillable;
 use session_moves::Step;
 use session_moves::command::generate;
+use session_moves::command::missing;
+use session_moves::ends::ask;
 use session_moves::ends::decide;
 use session_moves::ends::end;
 use session_moves::ends::wait;
@@ -47,11 +49,8 @@ pub fn request_second(s: State, reply: HostReply, code: [u8; 2], buf: &mut [u8])
         let response = response_code(reply, request, code);
         let known = at_second(s, response);
         let n = generate(s, request, value(&told, 0x8D), &known, buf);
-        wait(
-            s,
-            Waiting::ForCard(Question::Second(request)),
-            Reply::Command(n),
-        )
+        let zeros = missing(s, value(&told, 0x8D), &known);
+        ask(s, Question::Second(request), n, zeros)
     } else {
         end(s, 9)
     }

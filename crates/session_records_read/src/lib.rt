@@ -7,9 +7,10 @@ use decide_tvr::results::tsi_after_records;
 use decide_tvr::results::tvr_after_records;
 use session_moves::Step;
 use session_moves::command::generate;
+use session_moves::command::missing;
 use session_moves::command::read;
+use session_moves::ends::ask;
 use session_moves::ends::end;
-use session_moves::ends::wait;
 use session_moves::known::at_first;
 use session_phase::Question;
 use session_phase::Reply;
@@ -96,11 +97,8 @@ fn request_first(s: State, why: usize, buf: &mut [u8]) -> Step
     let request = first_request(&start, &told, tvr);
     let known = at_first(s);
     let n = generate(s, request, value(&told, 0x8C), &known, buf);
-    wait(
-        s,
-        Waiting::ForCard(Question::First(request)),
-        Reply::Command(n),
-    )
+    let zeros = missing(s, value(&told, 0x8C), &known);
+    ask(s, Question::First(request), n, zeros)
 }
 
 // After the last record.
@@ -126,6 +124,7 @@ pub fn read_on(s: State, buf: &mut [u8]) -> Step
         Step {
             state: change(s, Waiting::ForCard(Question::Record), tvr, tsi, place),
             reply: Reply::Command(n),
+            zeros: 0,
         }
     } else {
         all_read(s, buf)

@@ -8,11 +8,12 @@ use mathlib.Core.List.{List, [], _∷_}
 use Prim.Native.Nat.{ℕ}
 use mathlib.Core.Option.{none}
 use Rattle.start_fields.specs.Reading.{readingOf}
-use Rattle.dol_fill.specs.Filled.{filling}
+use Rattle.dol_fill.specs.Filled.{filling, unsupplied}
 use Rattle.commands.specs.Commands.{optionsCommand}
 use Rattle.answer_select.specs.Select.{selectReason, pdolOf}
 use Rattle.rulebook.specs.Phase.{selecting, optioning, asks, situationOf, commandOf}
 use Rattle.rulebook.specs.Turn.{selected, turn}
+use Rattle.rulebook_zeros.specs.Zeros.{unsuppliedAsking}
 use Rattle.session_state.specs.Reading.{situationWith, early}
 use Rattle.session_moves.specs.Moves.{questionOf, cursorAsking}
 use Rattle.session_answers.specs.Keeping.{keeping}
@@ -33,22 +34,24 @@ returns c =
     (c .before .before .select-reason .ensures) (select-small (readingOf (s .start)) a) (c .before .if1 .taken) (c .end .ensures)
 
 returns-2 : tie.Need-returns-2
-unfolding turn selected keeping early situationWith commandOf situationOf questionOf cursorAsking
+unfolding turn selected keeping early situationWith commandOf situationOf questionOf cursorAsking unsuppliedAsking
 returns-2 c =
-    let args = c .before .before .before .before .before .before .before .before .before .before .before .before .before .before .args in
+    let args = c .before .before .before .before .before .before .before .before .before .before .before .before .before .before .before .before .args in
     let s = args .s in
     let a = args .a .now in
     let buf = args .buf .now in
-    let why = c .before .before .before .before .before .before .before .before .before .select-reason .result in
+    let why = c .before .before .before .before .before .before .before .before .before .before .before .select-reason .result in
     let same = ap₂ (λ (k : Facts) (l : List ℕ). optionsCommand (filling (readingOf (s .start)) k l))
-    (c .before .before .before .before .before .before .before .at-options .ensures .1)
-    (c .before .before .before .before .before .before .pdol .ensures) in
-    asking-on s buf (optioning (early s) (pdolOf a)) same (c .before .before .before .options .ensures .0)
-    (c .before .before .before .options .ensures .1) (c .wait .ensures) refl refl refl
+    (c .before .before .before .before .before .before .before .before .before .at-options .ensures .1)
+    (c .before .before .before .before .before .before .before .before .pdol .ensures) in
+    let lacks = c .before .missing .ensures
+    ∙ ap₂ (unsupplied (readingOf (s .start))) (c .before .before .before .before .before .before .before .before .before .at-options .ensures .1) (c .before .before .before .before .before .before .before .before .pdol .ensures) in
+    asking-on s buf (optioning (early s) (pdolOf a)) same (c .before .before .before .before .before .options .ensures .0)
+    (c .before .before .before .before .before .options .ensures .1) (c .ask .ensures) lacks refl refl refl
     ∙ sym
     (reason-next why (selectReason (readingOf (s .start)) a) (early s) (asks (optioning (early s) (pdolOf a))) s buf
-    (c .before .before .before .before .before .before .before .before .before .select-reason .ensures)
-    (c .before .before .before .before .before .before .before .before .if1 .left))
+    (c .before .before .before .before .before .before .before .before .before .before .before .select-reason .ensures)
+    (c .before .before .before .before .before .before .before .before .before .before .if1 .left))
 
 pub on-select-spec : {M : Type 1} → statement M
 on-select-spec =
@@ -59,6 +62,8 @@ on-select-spec =
     (λ c κs. search needs)
     returns
     (λ c κs. search needs)
+    (λ c κs. search needs)
+    (λ c. search needs)
     (λ c κs. search needs)
     (λ c. search needs)
     (λ c κs. search needs)

@@ -8,7 +8,7 @@ use borrow.Author.Needs.{needs}
 use Rattle.slices.proofs.Choice.{pick-yes, pick-no}
 use Rattle.start_fields.specs.Reading.{readingOf}
 use Rattle.dol_wanted.specs.Wanted.{fillable}
-use Rattle.dol_fill.specs.Filled.{filling}
+use Rattle.dol_fill.specs.Filled.{filling, unsupplied}
 use Rattle.commands.specs.Commands.{cryptogramCommand}
 use Rattle.decide_requests.specs.Requests.{p1Of}
 use Rattle.decide_requests.specs.Replies.{responseCode}
@@ -16,6 +16,7 @@ use Rattle.decide_requests.specs.declared.requests.Cryptogram.{Cryptogram}
 use Rattle.rulebook.specs.Situation.{listIn, knownIn}
 use Rattle.rulebook.specs.Phase.{second, Phase, asks, situationOf, commandOf, ended}
 use Rattle.rulebook.specs.Turn.{replied}
+use Rattle.rulebook_zeros.specs.Zeros.{unsuppliedAsking}
 use Rattle.session_records.specs.Slots.{Facts, toldIn, told}
 use Rattle.session_state.specs.Reading.{situationWith, late}
 use Rattle.session_moves.specs.Moves.{questionOf, cursorAsking, moved}
@@ -27,25 +28,27 @@ abbrev listAt : List ℕ → List ℕ
 listAt d = Option·getD (toldIn d 0x8D) []
 
 returns : tie.Need-returns
-unfolding replied late situationWith commandOf situationOf questionOf cursorAsking listIn told
+unfolding replied late situationWith commandOf situationOf questionOf cursorAsking unsuppliedAsking listIn told
 returns c =
-    let args = c .before .before .before .before .before .before .before .before .before .before .before .before .before .before .before .before .before .before .args in
+    let args = c .before .before .before .before .before .before .before .before .before .before .before .before .before .before .before .before .before .before .before .before .before .before .args in
     let s = args .s in
     let buf = args .buf .now in
     let reply = args .reply in
     let code = args .code in
-    let bytes = c .before .before .before .before .before .before .before .before .before .before .before .before .before .before .before .bytes-of .ensures .0 in
-    let q = c .before .before .before .before .before .before .before .before .before .before .second .result in
-    let known = c .before .before .before .before .before .before .before .before .at-second .ensures .1 ∙ ap (λ (x : List ℕ). knownIn (late s) (some x)) (c .before .before .before .before .before .before .before .before .before .response-code .ensures) in
-    let list = c .before .before .before .before .before .before .value2 .ensures ∙ ap listAt bytes in
+    let bytes = c .before .before .before .before .before .before .before .before .before .before .before .before .before .before .before .before .before .before .before .bytes-of .ensures .0 in
+    let q = c .before .before .before .before .before .before .before .before .before .before .before .before .before .before .second .result in
+    let known = c .before .before .before .before .before .before .before .before .before .before .before .before .at-second .ensures .1 ∙ ap (λ (x : List ℕ). knownIn (late s) (some x)) (c .before .before .before .before .before .before .before .before .before .before .before .before .before .response-code .ensures) in
+    let list = c .before .before .before .before .before .before .before .before .before .before .value2 .ensures ∙ ap listAt bytes in
     let same = ap₂ (λ (k : Facts) (l : List ℕ). cryptogramCommand (p1Of q) (filling (readingOf (s .start)) k l)) known list in
-    asking-on s buf (second (late s) q (responseCode reply q code)) same (c .before .before .before .generate .ensures .0)
-    (c .before .before .before .generate .ensures .1) (c .wait .ensures) refl refl refl
-    ∙ (ap (λ (x : Cryptogram). moved (asks (second (late s) x (responseCode reply x code))) s buf) (c .before .before .before .before .before .before .before .before .before .before .second .ensures)
+    let again = c .before .before .before .value3 .ensures ∙ ap listAt bytes in
+    let lacks = c .before .missing .ensures ∙ ap₂ (unsupplied (readingOf (s .start))) known again in
+    asking-on s buf (second (late s) q (responseCode reply q code)) same (c .before .before .before .before .before .before .before .generate .ensures .0)
+    (c .before .before .before .before .before .before .before .generate .ensures .1) (c .ask .ensures) lacks refl refl refl
+    ∙ (ap (λ (x : Cryptogram). moved (asks (second (late s) x (responseCode reply x code))) s buf) (c .before .before .before .before .before .before .before .before .before .before .before .before .before .before .second .ensures)
     ∙ sym
     (ap (λ (p : Phase). moved p s buf)
     (pick-yes _ _ _
-    (sym (c .before .before .before .before .before .before .before .before .before .before .before .before .is-fillable .ensures ∙ ap fillable (c .before .before .before .before .before .before .before .before .before .before .before .before .before .value .ensures ∙ ap listAt bytes)) ∙ c .before .before .before .before .before .before .before .before .before .before .before .if1 .taken))))
+    (sym (c .before .before .before .before .before .before .before .before .before .before .before .before .before .before .before .before .is-fillable .ensures ∙ ap fillable (c .before .before .before .before .before .before .before .before .before .before .before .before .before .before .before .before .before .value .ensures ∙ ap listAt bytes)) ∙ c .before .before .before .before .before .before .before .before .before .before .before .before .before .before .before .if1 .taken))))
 
 returns-2 : tie.Need-returns-2
 unfolding replied ended late situationWith listIn told
@@ -67,6 +70,10 @@ request-second-spec =
     (λ c κs. search needs)
     (λ c κs. search needs)
     (λ c κs. search needs)
+    (λ c κs. search needs)
+    (λ c. search needs)
+    (λ c κs. search needs)
+    (λ c. search needs)
     (λ c κs. search needs)
     (λ c. search needs)
     (λ c κs. search needs)

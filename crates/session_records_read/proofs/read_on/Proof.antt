@@ -8,6 +8,7 @@ use Rattle.answer_afl.specs.Cursor.{isLeft, recordAt, stepped, remaining}
 use Rattle.answer_afl.proofs.Walking.{one-less, none-remain}
 use Rattle.rulebook.specs.Phase.{reading, situationOf, commandOf}
 use Rattle.rulebook.specs.Turn.{readOn}
+use Rattle.rulebook_zeros.specs.Zeros.{unsuppliedAsking}
 use Rattle.session_state.specs.Reading.{situationWith, late, recordsLeft}
 use Rattle.session_records.specs.Runs.{inRun}
 use Rattle.session_moves.specs.Moves.{questionOf, cursorAsking, moved}
@@ -16,7 +17,7 @@ use Rattle.session_records_read.proofs.read_on.Statement.{statement}
 use Rattle.session_records_read.proofs.read_on.Tie as tie
 
 returns : tie.Need-returns
-unfolding recordsLeft readOn commandOf situationOf questionOf cursorAsking late situationWith
+unfolding recordsLeft readOn unsuppliedAsking commandOf situationOf questionOf cursorAsking late situationWith
 returns c =
     let args = c .before .before .before .before .before .before .before .before .before .before .before .args in
     let s = args .s in
@@ -27,7 +28,7 @@ returns c =
     .before .before .before .before .before .if1 .taken in
     asking s buf (reading (late s) (recordAt v k .0) (recordAt v k .1) (remaining v (stepped v k))) refl
     (c .before .before .before .before .before .before .read .ensures .0)
-    (c .before .before .before .before .before .before .read .ensures .1) refl (s .tvr) (s .tsi) (c .before .next .result)
+    (c .before .before .before .before .before .before .read .ensures .1) refl refl (s .tvr) (s .tsi) (c .before .next .result)
     (c .change .ensures) refl refl (c .before .next .ensures)
     ∙ sym (ap (λ (l : List (ℕ × ℕ)). moved (readOn (late s) l) s buf) (one-less v k left))
 

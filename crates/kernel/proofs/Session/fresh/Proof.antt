@@ -9,7 +9,7 @@ use Rattle.kernel.proofs.Session.fresh.Tie as tie
 
 returns : tie.Need-returns
 unfolding freshSession
-returns c = ap (λ (s : State). record { state = s }) (c .fresh .ensures)
+returns c = ap (λ (s : State). record { state = s; zeros = 0 }) (c .fresh .ensures)
 
 pub fresh-spec : {M : Type 1} → statement M
 fresh-spec = tie.close (tie.spec (λ c κs. search needs) returns)

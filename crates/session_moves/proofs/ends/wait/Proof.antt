@@ -9,7 +9,7 @@ use Rattle.session_moves.proofs.ends.wait.Tie as tie
 
 returns : tie.Need-returns
 unfolding waitingFor
-returns c = ap (λ (x : State). record { state = x; reply = c .before .before .before .before .args .reply }) (c .change .ensures)
+returns c = ap (λ (x : State). record { state = x; reply = c .before .before .before .before .args .reply; zeros = 0 }) (c .change .ensures)
 
 pub wait-spec : {M : Type 1} → statement M
 wait-spec = tie.close (tie.spec (λ c κs. search needs) returns)
