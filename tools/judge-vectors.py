@@ -5,22 +5,23 @@
 
 REFERENCE is the reference program (reference/target/release/reference). Its generator's fixed table goes through every outcome, every way
 to spoil an answer, to cut or change the entries and to damage a block; every few of those tapes are taken, the smallest kinds of each
-label and some that are as long as a tape can be. A FOLDER has further tapes (tapes/) and `NAME VERDICT place code` lines for them
-(expected.txt), made by another independent program. The reference must say the same of the last FOLDER's; of earlier ones, made before
-a rule was amended, those are taken of which it does. Each tape stands behind its length in four bytes, big-endian.
+label and some that are as long as a tape can be. A FOLDER has further tapes (tapes/) and `NAME VERDICT place code zeros` lines for them
+(expected.txt), made by another independent program; before R-6 the line had no fourth number. The reference must say the same of the
+last FOLDER's, as far as the line goes; of earlier ones, made before a rule was amended, those are taken of which it does. Each tape
+stands behind its length in four bytes, big-endian.
 """
 import os, subprocess, sys, tempfile
 
 reference = os.path.abspath(sys.argv[1])
 here = os.path.join(os.path.dirname(os.path.abspath(__file__)), "..", "crates", "bench_judge")
-tapes = [(b"", "INCONCLUSIVE 0 0"), (b"\x00", "UNREADABLE 0 2")]  # 01, "Sessions on the bench"
+tapes = [(b"", "INCONCLUSIVE 0 0 0"), (b"\x00", "UNREADABLE 0 2 0")]  # 01, "Sessions on the bench"
 for folder in sys.argv[2:]:
     for line in open(os.path.join(folder, "expected.txt")):
         name, said = line.rstrip("\n").split(" ", 1)
         tape = open(os.path.join(folder, "tapes", name), "rb").read()
-        same = subprocess.run([reference, "judge"], input=tape, capture_output=True).stdout.decode() == said + "\n"
-        if same:
-            tapes.append((tape, said))
+        whole = subprocess.run([reference, "judge"], input=tape, capture_output=True).stdout.decode().rstrip("\n")
+        if whole.split(" ")[: len(said.split(" "))] == said.split(" "):
+            tapes.append((tape, whole))
         elif folder == sys.argv[-1]:
             sys.exit(f"{folder}: the reference does not say {line}")
 with tempfile.TemporaryDirectory() as work:

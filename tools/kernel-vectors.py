@@ -2,7 +2,7 @@
 """Calls for crates/bench_kernel: writes its stdin, and the stdout that it must give.
 
 The replies come from two programs that were written from the scope paper and share nothing with the proved code: those of
-crates/bench_kernel/calls.jsonl were stored with the calls, the others are given by `reference make-calls`, and by `reference play` for
+crates/bench_kernel/calls.jsonl and zeros.jsonl (with R-6's number) were stored with the calls, the others are given by `reference make-calls`, and by `reference play` for
 the scripts of samples/. Build it first (cd reference && cargo build --release --offline), then run this in the repository's
 root.
 """
@@ -12,7 +12,7 @@ import subprocess
 
 FOLDER = "crates/bench_kernel/"
 REFERENCE = "reference/target/release/reference"
-STORED = "crates/bench_kernel/calls.jsonl"
+STORED = ["crates/bench_kernel/calls.jsonl", "crates/bench_kernel/zeros.jsonl"]
 COUNT, SEED = 300, 1
 
 # Answers over this length make up most of the generator's text. They are turned away, whatever their bytes, and a call that
@@ -29,12 +29,13 @@ def reply_line(reply):
 
 def sequence(line):
     calls = json.loads(line)["calls"]
-    return [(c["event"], c["payload"].upper(), c["room"], reply_line(c["reply"])) for c in calls]
+    return [(c["event"], c["payload"].upper(), c["room"], reply_line(c["reply"]), c.get("zeros")) for c in calls]
 
 
 def stored():
-    with open(STORED) as lines:
-        return [sequence(line) for line in lines]
+    for name in STORED:
+        with open(name) as lines:
+            yield from map(sequence, lines)
 
 
 def made():
@@ -60,20 +61,24 @@ def scripts():
         calls = [(line + " ").split(" ")[:2] for line in lines.splitlines()]
         replies = played.stdout.splitlines()
         assert len(calls) == len(replies)
-        yield [(event, payload, 261, reply) for (event, payload), reply in zip(calls, replies)]
+        yield [(event, payload, 261, reply, None) for (event, payload), reply in zip(calls, replies)]
 
 
 def main():
     asked, expected = [], []
     for calls in [*stored(), *made(), *scripts()]:
         asked.append("SESSION")
-        lent = None
-        for event, payload, room, reply in calls:
+        lent, told = None, 0
+        for event, payload, room, reply, zeros in calls:
             if room != lent:
                 asked.append(f"ROOM {room}")
                 lent = room
             asked.append(f"{event} {payload}".rstrip())
             expected.append(reply)
+            if zeros is not None and (zeros != told or reply.startswith(("DECISION", "CLOSED"))):
+                asked.append("ZEROS")
+                expected.append(f"ZEROS {zeros}")
+                told = zeros
     for name, lines in (("stdin", asked), ("stdout", expected)):
         with open(FOLDER + name, "w") as out:
             out.write("".join(line + "\n" for line in lines))

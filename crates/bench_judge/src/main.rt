@@ -4,6 +4,7 @@ use libc::STDIN_FILENO;
 use libc::STDOUT_FILENO;
 use slices::byte;
 use slices::part;
+use verdict_line::LONGEST;
 use verdict_line::line;
 ghost use Prim.Native.Nat.{_≤_};
 ghost use lib.ListN.{length};
@@ -47,7 +48,7 @@ fn within(n: usize, buf: &[u8]) -> usize
 fn tell(buf: &mut [u8], n: usize) {
     let most = within(n, buf);
     let got = io::read_full(STDIN_FILENO, &mut buf[..most]);
-    let mut out = [0u8; 64];
+    let mut out = [0u8; LONGEST];
     let size = line(judge(part(buf, 0, got)), &mut out);
     io::write_all(STDOUT_FILENO, part(&out, 0, size));
 }

@@ -6,6 +6,7 @@
 //     ANSWER bytes   the card's answer,
 //     HOST bytes     the issuer's reply,
 //     SILENCE        the card says nothing
+//     ZEROS          how many list entries were filled with zeros so far is printed
 mod call;
 
 use kernel::Session;
@@ -55,6 +56,14 @@ fn session_after(s: Session, room: usize, line: &[u8]) -> Session {
     match byte(line, 3) as u8 {
         b'S' => Session::fresh(),
         b'M' => s,
+        b'O' => tell_zeros(s),
         event => call::play(s, event, after_word(line), room),
     }
+}
+
+fn tell_zeros(s: Session) -> Session {
+    text_print::text(b"ZEROS ");
+    text_print::number(s.filled_with_zeros());
+    text_print::text(b"\n");
+    s
 }

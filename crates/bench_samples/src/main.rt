@@ -26,6 +26,7 @@ use text_hex::unhex;
 use text_input::Line;
 use text_input::read_line;
 use text_lines::after_word;
+use verdict_line::LONGEST as LINE;
 use verdict_line::line as line_of;
 
 // A session, and the writer of its tape.
@@ -145,7 +146,7 @@ fn bytes_of(blocks: usize) -> usize {
 
 fn judged(played: Played, tape: &[u8]) -> Played {
     let writer = played.writer;
-    let mut out = [0u8; 64];
+    let mut out = [0u8; LINE];
     let n = line_of(
         judge(part(tape, 0, bytes_of(writer.used as usize))),
         &mut out,

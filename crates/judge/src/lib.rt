@@ -10,18 +10,33 @@ use tape_read::code;
 use tape_read::kind;
 use tape_read::payload;
 use tape_read::session;
-use verdict::Answer;
+use verdict::Finding;
+ghost use mathlib.Core.Path.{_≡_};
+ghost use Rattle.verdict.specs.Saying.{says};
+ghost use Rattle.verdict.specs.declared.Verdict.{Verdict as Said};
 ghost use Rattle.verdict_judged.specs.Judged.{Judged};
+ghost use Rattle.verdict_judged.specs.Zeroed.{Zeroed};
 
-// The verdict of any bytes.
-pub fn judge(tape: &[u8]) -> Answer
-    ensures { λ r. ⌜ Judged (now (tape .entry)) r ⌝ }
+// Of an unreadable tape nothing is counted.
+fn damaged(place: usize, code: usize) -> Finding
+    ensures { λ r. ⌜ (r .answer ≡ says Said.Unreadable place code) × (r .zeros ≡ 0) ⌝ }
+{
+    Finding {
+        answer: unreadable(place, code),
+        zeros: 0,
+    }
+}
+
+// The verdict of any bytes, and the number of list entries filled with zeros.
+pub fn judge(tape: &[u8]) -> Finding
+    ensures verdict { λ r. ⌜ Judged (now (tape .entry)) (r .answer) ⌝ }
+    ensures zeros { λ r. ⌜ Zeroed (now (tape .entry)) (r .zeros) ⌝ }
 {
     if TAPE < tape.len() {
-        return unreadable(0, 1);
+        return damaged(0, 1);
     }
     if tape.len() % BLOCK != 0 {
-        return unreadable(tape.len() / BLOCK, 2);
+        return damaged(tape.len() / BLOCK, 2);
     }
     let number = session(block_at(tape, 0));
     let mut j = follow::begin();
@@ -30,12 +45,15 @@ pub fn judge(tape: &[u8]) -> Answer
         let block = block_at(tape, k);
         let why = code(block, k, number);
         if why != 0 {
-            return unreadable(k, why as usize);
+            return damaged(k, why as usize);
         }
         let next = follow::feed(j, k, kind(block), payload(block));
         j = next;
         k += 1;
     }
     let stage = j.stage;
-    conclude(stage, k)
+    Finding {
+        answer: conclude(stage, k),
+        zeros: j.zeros,
+    }
 }

@@ -8,6 +8,7 @@ use lib.Dec.{eqb}
 use borrow.Author.Tests.{eq-eqb, ne-eqb}
 use Rattle.slices.specs.Choice.{pick}
 use Rattle.slices.proofs.Choice.{pick-yes, pick-no}
+use Rattle.dol_fill.specs.Filled.{summed}
 use Rattle.session_moves.specs.Moves.{Moved, played}
 use Rattle.session_moves.specs.declared.Step.{Step}
 use Rattle.judge_stages.specs.declared.Stage.{Stage}
@@ -27,7 +28,8 @@ module _ {A : Type 0} (kind due : ℕ) (test : Bool) (yes no : A) where
   test-holds e t = sym (pick-yes _ _ _ (eq-eqb kind due e) ∙ pick-yes _ _ _ t)
 
 -- a step of the dialogue, put together as a judgement
-pub as-moving : (m : Step) (stage : Stage) (out : List ℕ) (to : Moved) → stage ≡ stageOf (m .reply) → played m out ≡ to
-    → _≡_ {A = Judgement} (record { stage = stage; state = m .state; command = out }) (moving to)
+pub as-moving : (m : Step) (before zeros : ℕ) (stage : Stage) (out : List ℕ) (to : Moved) → zeros ≡ summed before (m .zeros) → stage ≡ stageOf (m .reply)
+    → played m out ≡ to → _≡_ {A = Judgement} (record { stage = stage; state = m .state; command = out; zeros = zeros }) (moving before to)
 unfolding played moving
-as-moving m stage out to e p = (λ i. record { stage = e i; state = m .state; command = out }) ∙ ap moving p
+as-moving m before zeros stage out to z e p =
+    (λ i. record { stage = e i; state = m .state; command = out; zeros = z i }) ∙ ap (moving before) p

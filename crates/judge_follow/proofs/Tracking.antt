@@ -1,9 +1,10 @@
 -- The judge stands where the rulebook's machine stands: what it expects next is the machine's, and so each entry leads both on alike.
 -- Assumes nothing.
-use mathlib.Core.Path.{_≡_, refl, sym, ap, _∙_, subst}
+use mathlib.Core.Path.{_≡_, refl, sym, ap, ap₂, _∙_, subst}
 use mathlib.Core.Bool.{Bool, true, false}
 use mathlib.Core.List.{List, [], _∷_, _++_}
-use Prim.Native.Nat.{ℕ, _+_, _≤_}
+use Prim.Native.Nat.{ℕ, _+_, _%_, _^_, _≤_}
+use native.Mathlib.Nat.{add-zero}
 use native.Mathlib.Omega.{arith}
 use lib.Dec.{eqb}
 use lib.ListN.{length, take}
@@ -21,6 +22,9 @@ use Rattle.rulebook.specs.Phase.{Asked, Heard, Phase, opens, asks, hears, decid
 use Rattle.rulebook.specs.Turn.{turn, allowed, after}
 use Rattle.rulebook.specs.Session.{isPayload}
 use Rattle.rulebook.specs.Machine.{Machine, at, owes, done}
+use Rattle.dol_fill.specs.Filled.{summed}
+use Rattle.rulebook_zeros.specs.Zeros.{unsuppliedIn}
+use Rattle.rulebook_zeros.specs.Summing.{newIn}
 use Rattle.session_phase.specs.Waiting.{kindOf, outcomeOf, reasonOf}
 use Rattle.session_phase.specs.declared.Speaker.{Speaker}
 use Rattle.session_phase.specs.declared.Waiting.{Waiting}
@@ -38,7 +42,7 @@ use Rattle.session_laws.proofs.Commanding.{command-most, command-reply, command
 use Rattle.session_laws.proofs.Stepping.{fresh-stands, answer-step, word-step}
 use Rattle.verdict.specs.Saying.{says}
 use Rattle.verdict.specs.declared.Verdict.the-variants.{Pass, Inconclusive}
-use Rattle.verdict_judged.specs.Progress.{Progress, reached, closed, broken, reads, concluded}
+use Rattle.verdict_judged.specs.Progress.{Progress, reached, closed, broken, reads, newBy, concluded}
 use Rattle.verdict_judged.proofs.Taking.{reads-heard, heard-invalid, heard-missing, reads-command, command-wrong, command-missing, reads-answer, reads-silence, silence-wrong, answer-missing, reads-decision, decision-wrong, decision-missing, reads-after-end, reads-after-silence, reads-after-break}
 use Rattle.judge_stages.specs.declared.Stage.{Stage}
 use Rattle.judge_stages.specs.declared.Stage.the-variants.{Word, Command, Answer, Decision, Done, Closed, Broken}
@@ -61,64 +65,87 @@ Tracking k j (reached σ n) = (n ≡ k) × Expects j σ
 Tracking k j (closed n) = (n ≡ k) × (j .stage ≡ Closed)
 Tracking k j (broken place) = j .stage ≡ Broken place
 
-pub record Tracks (k : ℕ) (j : Judgement) (m : Progress) : Type 0 where
+-- and `zeros` entries of its lists filled with zeros
+pub record Tracks (k zeros : ℕ) (j : Judgement) (m : Progress) : Type 0 where
   pub room : length (j .command) ≡ longest
+  pub counted : j .zeros ≡ zeros % 2 ^ 64
   pub tracking : Tracking k j m
 
-pub tracks-begun : Tracks 0 begun (reached (at opens) 0)
+pub tracks-begun : Tracks 0 0 begun (reached (at opens) 0)
 unfolding Tracking Expects begun
-tracks-begun = record { room = zeros-length longest; tracking = (refl, (refl, fresh-stands)) }
+tracks-begun = record { room = zeros-length longest; counted = refl; tracking = (refl, (refl, fresh-stands)) }
 
 -- a step of the session is expected to go on as the phase says
-stands-next : (σ : Machine) (e : Entry) (p : Phase) (buf : List ℕ) (m : Moved) → length buf ≡ longest → Follows σ e p buf m → Expects (moving m) (at p)
+stands-next : (σ : Machine) (e : Entry) (p : Phase) (buf : List ℕ) (m : Moved) → length buf ≡ longest → Follows σ e p buf m → (z : ℕ) → Expects (moving z m) (at p)
 unfolding Expects moving stageOf replyIn
-stands-next σ e (asks w) buf m l f =
+stands-next σ e (asks w) buf m l f z =
     let most = command-most (m .state) w (f .stands) in
     let fits : length (commandOf w) ≤ length buf = omega arith in
     (length (commandOf w), (ap stageOf (f .reply ∙ command-reply w buf fits), ap (take (length (commandOf w))) (f .buffer) ∙ command-there w buf fits, f .stands))
-stands-next σ e (hears h) buf m l f = (ap stageOf (f .reply), f .stands)
-stands-next σ e (decides outcome reason z) buf m l f = (ap stageOf (f .reply), f .stands)
+stands-next σ e (hears h) buf m l f z = (ap stageOf (f .reply), f .stands)
+stands-next σ e (decides outcome reason s) buf m l f z = (ap stageOf (f .reply), f .stands)
 
 -- on equal judgements and equal progress
-carried : (k : ℕ) {x y : Judgement} {m n : Progress} → y ≡ x → m ≡ n → Tracks k y n → Tracks k x m
-carried k {x} {y} {m} {n} e f t = subst (λ (q : Progress). Tracks k x q) (sym f) (subst (λ (z : Judgement). Tracks k z n) e t)
+carried : (k z : ℕ) {x y : Judgement} {m n : Progress} → y ≡ x → m ≡ n → Tracks k (z + newBy n) y n → Tracks k (z + newBy m) x m
+carried k z {x} {y} {m} {n} e f t =
+    subst (λ (q : Progress). Tracks k (z + newBy q) x q) (sym f) (subst (λ (i : Judgement). Tracks k (z + newBy n) i n) e t)
+
+mod-on : (z n : ℕ) → (z % 2 ^ 64 + n) % 2 ^ 64 ≡ (z + n) % 2 ^ 64
+mod-on z n = omega arith
+
+-- a sum that wraps, and one more
+sum-on : (z n before more : ℕ) → before ≡ z % 2 ^ 64 → more ≡ n → (before + more) % 2 ^ 64 ≡ (z + n) % 2 ^ 64
+sum-on z n before more e f = ap₂ (λ (x y : ℕ). (x + y) % 2 ^ 64) e f ∙ mod-on z n
 
 different : (a b : List ℕ) → alike a b ≡ false → a ≡ b → ⊥
 different a b n e = let z : true ≡ false = sym (same-alike b) ∙ (ap (λ (x : List ℕ). alike x b) (sym e) ∙ n) in let k : _≡_ {A = ℕ} 0 1 = cc in omega arith
 
-module _ (k : ℕ) (j : Judgement) (kind : ℕ) (p : List ℕ) (ok : isPayload p ≡ true) (room : length (j .command) ≡ longest) where
-  breaks : Tracks (k + 1) (staged (Broken k) j) (broken k)
-  unfolding Tracking staged
-  breaks = record { room = room; tracking = refl }
+module _ (k total : ℕ) (j : Judgement) (kind : ℕ) (p : List ℕ) (ok : isPayload p ≡ true) (room : length (j .command) ≡ longest)
+    (counted : j .zeros ≡ total % 2 ^ 64) where
+  -- after the entry, with what it added
+  abbrev Goes : Judgement → Progress → Type 0
+  Goes i m = Tracks (k + 1) (total + newBy m) i m
+
+  -- an entry that adds nothing
+  as-before : j .zeros ≡ (total + 0) % 2 ^ 64
+  as-before = counted ∙ ap (λ (n : ℕ). n % 2 ^ 64) (sym (add-zero total))
+
+  breaks : Goes (staged (Broken k) j) (broken k)
+  unfolding Tracking staged newBy
+  breaks = record { room = room; counted = as-before; tracking = refl }
 
   -- an entry of the kind that is due, under that kind's name
   as-kind : (due : ℕ) → kind ≡ due → (m : Progress) → reads m (entry kind p) ≡ reads m (entry due p)
   as-kind due e m = ap (λ (q : ℕ). reads m (entry q p)) e
 
-  answering : (w : Asked) → StandsAt (j .state) (asks w) → Tracks (k + 1) (staged Answer j) (reached (owes w) (k + 1))
-  unfolding Tracking Expects staged
-  answering w s = record { room = room; tracking = (refl, (refl, s)) }
+  answering : (w : Asked) → StandsAt (j .state) (asks w) → Goes (staged Answer j) (reached (owes w) (k + 1))
+  unfolding Tracking Expects staged newBy newIn
+  answering w s = record { room = room; counted = as-before; tracking = (refl, (refl, s)) }
 
-  closing : Tracks (k + 1) (staged Closed j) (closed (k + 1))
-  unfolding Tracking staged
-  closing = record { room = room; tracking = (refl, refl) }
+  closing : Goes (staged Closed j) (closed (k + 1))
+  unfolding Tracking staged newBy
+  closing = record { room = room; counted = as-before; tracking = (refl, refl) }
 
-  ending : Tracks (k + 1) (staged Done j) (reached done (k + 1))
-  unfolding Tracking Expects staged
-  ending = record { room = room; tracking = (refl, refl) }
+  ending : Goes (staged Done j) (reached done (k + 1))
+  unfolding Tracking Expects staged newBy newIn
+  ending = record { room = room; counted = as-before; tracking = (refl, refl) }
 
   decision-due : (outcome reason : ℕ) (z : Situation) → StandsAt (j .state) (decides outcome reason z) → decisionIn (j .state) ≡ decisionOf outcome reason z
   unfolding decisionIn outcomeOf reasonOf keptAs
   decision-due outcome reason z s =
       ap (λ (x : Waiting). outcomeOf x ∷ reasonOf x ∷ (j .state .tvr ++ j .state .tsi)) (s .waits) ∙ sym (stands-decision (j .state) outcome reason z s)
 
-  moves : (σ : Machine) (e : Entry) (q : Phase) (m : Moved) → Follows σ e q (j .command) m → Tracks (k + 1) (moving m) (reached (at q) (k + 1))
-  unfolding Tracking moving
+  moves : (σ : Machine) (e : Entry) (q : Phase) (m : Moved) → Follows σ e q (j .command) m → Goes (moving (j .zeros) m) (reached (at q) (k + 1))
+  unfolding Tracking moving summed newBy newIn
   moves σ e q m f =
-      record { room = ap length (f .buffer) ∙ (buffer-length q (j .command) ∙ room); tracking = (refl, stands-next σ e q (j .command) m room f) }
+      record {
+        room = ap length (f .buffer) ∙ (buffer-length q (j .command) ∙ room);
+        counted = sum-on total (unsuppliedIn q) (j .zeros) (m .zeros) counted (f .zeros);
+        tracking = (refl, stands-next σ e q (j .command) m room f (j .zeros));
+      }
 
   command-tracks : (w : Asked) (n : ℕ) → take n (j .command) ≡ commandOf w → StandsAt (j .state) (asks w)
-      → Tracks (k + 1) (atCommand n j k kind p) (reads (reached (at (asks w)) k) (entry kind p))
+      → Goes (atCommand n j k kind p) (reads (reached (at (asks w)) k) (entry kind p))
   unfolding atCommand
   command-tracks w n c s =
       let test = alike p (take n (j .command)) in
@@ -127,18 +154,18 @@ module _ (k : ℕ) (j : Judgement) (kind : ℕ) (p : List ℕ) (ok : isPayload p
       let e = eqb-true kind command y in
       either test
       (λ v.
-      carried (k + 1) (test-holds kind command test (staged Answer j) (staged (Broken k) j) e v)
+      carried (k + 1) total (test-holds kind command test (staged Answer j) (staged (Broken k) j) e v)
       (as-kind command e (reached (at (asks w)) k) ∙ reads-command k w p (alike-same p (take n (j .command)) v ∙ c))
       (answering w s))
       (λ v.
-      carried (k + 1) (test-fails kind command test (staged Answer j) (staged (Broken k) j) e v)
+      carried (k + 1) total (test-fails kind command test (staged Answer j) (staged (Broken k) j) e v)
       (command-wrong k w p kind (λ q. different p (take n (j .command)) v (q ∙ sym c)))
       breaks))
       (λ n.
       let h = eqb-false kind command n in
-      carried (k + 1) (other-kind kind command test (staged Answer j) (staged (Broken k) j) h) (command-missing k w p kind h) breaks)
+      carried (k + 1) total (other-kind kind command test (staged Answer j) (staged (Broken k) j) h) (command-missing k w p kind h) breaks)
 
-  silence-tracks : (w : Asked) → (kind ≡ answer → ⊥) → Tracks (k + 1) (atSilence j k kind p) (reads (reached (owes w) k) (entry kind p))
+  silence-tracks : (w : Asked) → (kind ≡ answer → ⊥) → Goes (atSilence j k kind p) (reads (reached (owes w) k) (entry kind p))
   unfolding atSilence
   silence-tracks w a =
       either (eqb kind silence)
@@ -146,27 +173,27 @@ module _ (k : ℕ) (j : Judgement) (kind : ℕ) (p : List ℕ) (ok : isPayload p
       let e = eqb-true kind silence y in
       either (eqb (length p) 0)
       (λ v.
-      carried (k + 1) (test-holds kind silence (eqb (length p) 0) (staged Closed j) (staged (Broken k) j) e v)
+      carried (k + 1) total (test-holds kind silence (eqb (length p) 0) (staged Closed j) (staged (Broken k) j) e v)
       (as-kind silence e (reached (owes w) k) ∙ reads-silence k w p (none-left p (eqb-true (length p) 0 v)))
       closing)
       (λ v.
-      carried (k + 1) (test-fails kind silence (eqb (length p) 0) (staged Closed j) (staged (Broken k) j) e v)
+      carried (k + 1) total (test-fails kind silence (eqb (length p) 0) (staged Closed j) (staged (Broken k) j) e v)
       (as-kind silence e (reached (owes w) k) ∙ silence-wrong k w p (λ q. eqb-false (length p) 0 v (ap length q)))
       breaks))
       (λ n.
       let h = eqb-false kind silence n in
-      carried (k + 1) (other-kind kind silence (eqb (length p) 0) (staged Closed j) (staged (Broken k) j) h) (answer-missing k w p kind a h) breaks)
+      carried (k + 1) total (other-kind kind silence (eqb (length p) 0) (staged Closed j) (staged (Broken k) j) h) (answer-missing k w p kind a h) breaks)
 
-  answer-tracks : (w : Asked) → StandsAt (j .state) (asks w) → Tracks (k + 1) (atAnswer j k kind p) (reads (reached (owes w) k) (entry kind p))
+  answer-tracks : (w : Asked) → StandsAt (j .state) (asks w) → Goes (atAnswer j k kind p) (reads (reached (owes w) k) (entry kind p))
   unfolding atAnswer advanced
   answer-tracks w s =
       either (eqb kind answer)
       (λ y.
       let e = eqb-true kind answer y in
-      carried (k + 1) (sym (pick-yes _ _ _ y))
+      carried (k + 1) total (sym (pick-yes _ _ _ y))
       (as-kind answer e (reached (owes w) k) ∙ reads-answer k w p ok)
       (moves (owes w) (entry answer p) (turn w p) (step (j .state) p (j .command)) (answer-step (j .state) w p (j .command) s ok)))
-      (λ n. carried (k + 1) (sym (pick-no _ _ _ n)) refl (silence-tracks w (eqb-false kind answer n)))
+      (λ n. carried (k + 1) total (sym (pick-no _ _ _ n)) refl (silence-tracks w (eqb-false kind answer n)))
 
   -- somebody else's word: the speaker that the state waits for is the machine's
   module _ (h : Heard) (s : StandsAt (j .state) (hears h)) where
@@ -177,12 +204,12 @@ module _ (k : ℕ) (j : Judgement) (kind : ℕ) (p : List ℕ) (ok : isPayload p
     abbrev standing : Progress
     standing = reached (at (hears h)) k
 
-    spoken-tracks : Tracks (k + 1) (spoken (speakerOf h) j k kind p) (reads standing (entry kind p))
+    spoken-tracks : Goes (spoken (speakerOf h) j k kind p) (reads standing (entry kind p))
     unfolding spoken advanced
     spoken-tracks =
         let due = kindOf (speakerOf h) in
         let test = allowedBy (speakerOf h) p in
-        let on = moving (step (j .state) p (j .command)) in
+        let on = moving (j .zeros) (step (j .state) p (j .command)) in
         either (eqb kind due)
         (λ y.
         let e = eqb-true kind due y in
@@ -190,22 +217,22 @@ module _ (k : ℕ) (j : Judgement) (kind : ℕ) (p : List ℕ) (ok : isPayload p
         either test
         (λ v.
         let fits = sym may-say ∙ v in
-        carried (k + 1) (test-holds kind due test on (staged (Broken k) j) e v) (named ∙ reads-heard k h p fits ok)
+        carried (k + 1) total (test-holds kind due test on (staged (Broken k) j) e v) (named ∙ reads-heard k h p fits ok)
         (moves (at (hears h)) (entry (dueKind h) p) (after h p) (step (j .state) p (j .command)) (word-step (j .state) h p (j .command) s fits ok)))
         (λ v.
-        carried (k + 1) (test-fails kind due test on (staged (Broken k) j) e v) (named ∙ heard-invalid k h p (sym may-say ∙ v)) breaks))
+        carried (k + 1) total (test-fails kind due test on (staged (Broken k) j) e v) (named ∙ heard-invalid k h p (sym may-say ∙ v)) breaks))
         (λ n.
         let other = eqb-false kind due n in
-        carried (k + 1) (other-kind kind due test on (staged (Broken k) j) other)
+        carried (k + 1) total (other-kind kind due test on (staged (Broken k) j) other)
         (heard-missing k h p kind (λ e. other (e ∙ sym (kind-due h))))
         breaks)
 
-    word-tracks : Tracks (k + 1) (wordAt (j .state .waiting) j k kind p) (reads standing (entry kind p))
+    word-tracks : Goes (wordAt (j .state .waiting) j k kind p) (reads standing (entry kind p))
     unfolding wordAt keptAs
-    word-tracks = carried (k + 1) (sym (ap (λ (x : Waiting). wordAt x j k kind p) (s .waits))) refl spoken-tracks
+    word-tracks = carried (k + 1) total (sym (ap (λ (x : Waiting). wordAt x j k kind p) (s .waits))) refl spoken-tracks
 
   decision-tracks : (outcome reason : ℕ) (z : Situation) → StandsAt (j .state) (decides outcome reason z)
-      → Tracks (k + 1) (atDecision j k kind p) (reads (reached (at (decides outcome reason z)) k) (entry kind p))
+      → Goes (atDecision j k kind p) (reads (reached (at (decides outcome reason z)) k) (entry kind p))
   unfolding atDecision
   decision-tracks outcome reason z s =
       let test = alike p (decisionIn (j .state)) in
@@ -215,53 +242,54 @@ module _ (k : ℕ) (j : Judgement) (kind : ℕ) (p : List ℕ) (ok : isPayload p
       let e = eqb-true kind decision y in
       either test
       (λ v.
-      carried (k + 1) (test-holds kind decision test (staged Done j) (staged (Broken k) j) e v)
+      carried (k + 1) total (test-holds kind decision test (staged Done j) (staged (Broken k) j) e v)
       (as-kind decision e (reached (at (decides outcome reason z)) k) ∙ reads-decision k outcome reason z p (alike-same p (decisionIn (j .state)) v ∙ due))
       ending)
       (λ v.
-      carried (k + 1) (test-fails kind decision test (staged Done j) (staged (Broken k) j) e v)
+      carried (k + 1) total (test-fails kind decision test (staged Done j) (staged (Broken k) j) e v)
       (decision-wrong k outcome reason z p kind (λ q. different p (decisionIn (j .state)) v (q ∙ sym due)))
       breaks))
       (λ n.
       let h = eqb-false kind decision n in
-      carried (k + 1) (other-kind kind decision test (staged Done j) (staged (Broken k) j) h) (decision-missing k outcome reason z p kind h) breaks)
+      carried (k + 1) total (other-kind kind decision test (staged Done j) (staged (Broken k) j) h) (decision-missing k outcome reason z p kind h) breaks)
 
 -- every entry
-pub fed-tracks : (k : ℕ) (j : Judgement) (m : Progress) (kind : ℕ) (p : List ℕ) → isPayload p ≡ true → Tracks k j m → Tracks (k + 1) (fed j k kind p) (reads m (entry kind p))
-unfolding fed fedAt Tracking Expects
-fed-tracks k j (reached (at (asks w)) n) kind p ok t =
+pub fed-tracks : (k total : ℕ) (j : Judgement) (m : Progress) (kind : ℕ) (p : List ℕ) → isPayload p ≡ true → Tracks k total j m
+    → Tracks (k + 1) (total + newBy (reads m (entry kind p))) (fed j k kind p) (reads m (entry kind p))
+unfolding fed fedAt Tracking Expects newBy
+fed-tracks k total j (reached (at (asks w)) n) kind p ok t =
     let c = t .tracking .1 in
-    carried (k + 1) (sym (ap (λ (x : Stage). fedAt x j k kind p) (c .1 .0))) (ap (λ (q : ℕ). reads (reached (at (asks w)) q) (entry kind p)) (t .tracking .0))
-    (command-tracks k j kind p ok (t .room) w (c .0) (c .1 .1) (c .1 .2))
-fed-tracks k j (reached (at (hears h)) n) kind p ok t =
+    carried (k + 1) total (sym (ap (λ (x : Stage). fedAt x j k kind p) (c .1 .0))) (ap (λ (q : ℕ). reads (reached (at (asks w)) q) (entry kind p)) (t .tracking .0))
+    (command-tracks k total j kind p ok (t .room) (t .counted) w (c .0) (c .1 .1) (c .1 .2))
+fed-tracks k total j (reached (at (hears h)) n) kind p ok t =
     let c = t .tracking .1 in
-    carried (k + 1) (sym (ap (λ (x : Stage). fedAt x j k kind p) (c .0))) (ap (λ (q : ℕ). reads (reached (at (hears h)) q) (entry kind p)) (t .tracking .0))
-    (word-tracks k j kind p ok (t .room) h (c .1))
-fed-tracks k j (reached (at (decides outcome reason z)) n) kind p ok t =
+    carried (k + 1) total (sym (ap (λ (x : Stage). fedAt x j k kind p) (c .0))) (ap (λ (q : ℕ). reads (reached (at (hears h)) q) (entry kind p)) (t .tracking .0))
+    (word-tracks k total j kind p ok (t .room) (t .counted) h (c .1))
+fed-tracks k total j (reached (at (decides outcome reason z)) n) kind p ok t =
     let c = t .tracking .1 in
-    carried (k + 1) (sym (ap (λ (x : Stage). fedAt x j k kind p) (c .0))) (ap (λ (q : ℕ). reads (reached (at (decides outcome reason z)) q) (entry kind p)) (t .tracking .0))
-    (decision-tracks k j kind p ok (t .room) outcome reason z (c .1))
-fed-tracks k j (reached (owes w) n) kind p ok t =
+    carried (k + 1) total (sym (ap (λ (x : Stage). fedAt x j k kind p) (c .0))) (ap (λ (q : ℕ). reads (reached (at (decides outcome reason z)) q) (entry kind p)) (t .tracking .0))
+    (decision-tracks k total j kind p ok (t .room) (t .counted) outcome reason z (c .1))
+fed-tracks k total j (reached (owes w) n) kind p ok t =
     let c = t .tracking .1 in
-    carried (k + 1) (sym (ap (λ (x : Stage). fedAt x j k kind p) (c .0))) (ap (λ (q : ℕ). reads (reached (owes w) q) (entry kind p)) (t .tracking .0))
-    (answer-tracks k j kind p ok (t .room) w (c .1))
-fed-tracks k j (reached done n) kind p ok t =
-    carried (k + 1) (sym (ap (λ (x : Stage). fedAt x j k kind p) (t .tracking .1))) (reads-after-end n (entry kind p) ∙ ap broken (t .tracking .0))
-    (breaks k j kind p ok (t .room))
-fed-tracks k j (closed n) kind p ok t =
-    carried (k + 1) (sym (ap (λ (x : Stage). fedAt x j k kind p) (t .tracking .1))) (reads-after-silence n (entry kind p) ∙ ap broken (t .tracking .0))
-    (breaks k j kind p ok (t .room))
-fed-tracks k j (broken place) kind p ok t =
-    carried (k + 1) (sym (ap (λ (x : Stage). fedAt x j k kind p) (t .tracking))) (reads-after-break place (entry kind p))
-    (record { room = t .room; tracking = t .tracking })
+    carried (k + 1) total (sym (ap (λ (x : Stage). fedAt x j k kind p) (c .0))) (ap (λ (q : ℕ). reads (reached (owes w) q) (entry kind p)) (t .tracking .0))
+    (answer-tracks k total j kind p ok (t .room) (t .counted) w (c .1))
+fed-tracks k total j (reached done n) kind p ok t =
+    carried (k + 1) total (sym (ap (λ (x : Stage). fedAt x j k kind p) (t .tracking .1))) (reads-after-end n (entry kind p) ∙ ap broken (t .tracking .0))
+    (breaks k total j kind p ok (t .room) (t .counted))
+fed-tracks k total j (closed n) kind p ok t =
+    carried (k + 1) total (sym (ap (λ (x : Stage). fedAt x j k kind p) (t .tracking .1))) (reads-after-silence n (entry kind p) ∙ ap broken (t .tracking .0))
+    (breaks k total j kind p ok (t .room) (t .counted))
+fed-tracks k total j (broken place) kind p ok t =
+    carried (k + 1) total (sym (ap (λ (x : Stage). fedAt x j k kind p) (t .tracking))) (reads-after-break place (entry kind p))
+    (record { room = t .room; counted = t .counted ∙ ap (λ (n : ℕ). n % 2 ^ 64) (sym (add-zero total)); tracking = t .tracking })
 
 -- what is said at the end
-pub said : (k : ℕ) (j : Judgement) (m : Progress) → Tracks k j m → saidAt (j .stage) k ≡ concluded m
+pub said : (k total : ℕ) (j : Judgement) (m : Progress) → Tracks k total j m → saidAt (j .stage) k ≡ concluded m
 unfolding saidAt concluded Tracking Expects
-said k j (reached (at (asks w)) n) t = ap (λ (x : Stage). saidAt x k) (t .tracking .1 .1 .0) ∙ ap (λ (q : ℕ). says Inconclusive q 0) (sym (t .tracking .0))
-said k j (reached (at (hears h)) n) t = ap (λ (x : Stage). saidAt x k) (t .tracking .1 .0) ∙ ap (λ (q : ℕ). says Inconclusive q 0) (sym (t .tracking .0))
-said k j (reached (at (decides outcome reason z)) n) t = ap (λ (x : Stage). saidAt x k) (t .tracking .1 .0) ∙ ap (λ (q : ℕ). says Inconclusive q 0) (sym (t .tracking .0))
-said k j (reached (owes w) n) t = ap (λ (x : Stage). saidAt x k) (t .tracking .1 .0) ∙ ap (λ (q : ℕ). says Inconclusive q 0) (sym (t .tracking .0))
-said k j (reached done n) t = ap (λ (x : Stage). saidAt x k) (t .tracking .1) ∙ ap (λ (q : ℕ). says Pass q 0) (sym (t .tracking .0))
-said k j (closed n) t = ap (λ (x : Stage). saidAt x k) (t .tracking .1) ∙ ap (λ (q : ℕ). says Inconclusive q 0) (sym (t .tracking .0))
-said k j (broken place) t = ap (λ (x : Stage). saidAt x k) (t .tracking)
+said k total j (reached (at (asks w)) n) t = ap (λ (x : Stage). saidAt x k) (t .tracking .1 .1 .0) ∙ ap (λ (q : ℕ). says Inconclusive q 0) (sym (t .tracking .0))
+said k total j (reached (at (hears h)) n) t = ap (λ (x : Stage). saidAt x k) (t .tracking .1 .0) ∙ ap (λ (q : ℕ). says Inconclusive q 0) (sym (t .tracking .0))
+said k total j (reached (at (decides outcome reason z)) n) t = ap (λ (x : Stage). saidAt x k) (t .tracking .1 .0) ∙ ap (λ (q : ℕ). says Inconclusive q 0) (sym (t .tracking .0))
+said k total j (reached (owes w) n) t = ap (λ (x : Stage). saidAt x k) (t .tracking .1 .0) ∙ ap (λ (q : ℕ). says Inconclusive q 0) (sym (t .tracking .0))
+said k total j (reached done n) t = ap (λ (x : Stage). saidAt x k) (t .tracking .1) ∙ ap (λ (q : ℕ). says Pass q 0) (sym (t .tracking .0))
+said k total j (closed n) t = ap (λ (x : Stage). saidAt x k) (t .tracking .1) ∙ ap (λ (q : ℕ). says Inconclusive q 0) (sym (t .tracking .0))
+said k total j (broken place) t = ap (λ (x : Stage). saidAt x k) (t .tracking)

@@ -8,6 +8,7 @@ use Rattle.slices.specs.Choice.{pick}
 use Rattle.slices.specs.Tests.{alike}
 use Rattle.slices.specs.Writing.{zeros}
 use Rattle.tape_read.specs.Entries.{command, answer, silence, decision}
+use Rattle.dol_fill.specs.Filled.{summed}
 use Rattle.commands.specs.Commands.{longest}
 use Rattle.session_phase.specs.Waiting.{kindOf}
 use Rattle.session_phase.specs.declared.Speaker.{Speaker}
@@ -24,7 +25,7 @@ use Rattle.judge_stages.specs.declared.Stage.the-variants.{Word, Command, Answe
 use Rattle.judge_follow.specs.declared.Judgement.{Judgement}
 
 unfoldable pub begun : Judgement
-begun = record { stage = Word; state = fresh; command = zeros longest }
+begun = record { stage = Word; state = fresh; command = zeros longest; zeros = 0 }
 
 -- what is due after a step; one on a session that is over, which no tape leads to, leaves it closed
 unfoldable pub stageOf : Reply → Stage
@@ -35,14 +36,14 @@ stageOf ClosedReply = Closed
 stageOf (Refused n) = Closed
 
 unfoldable pub staged : Stage → Judgement → Judgement
-staged stage j = record { stage = stage; state = j .state; command = j .command }
+staged stage j = record { stage = stage; state = j .state; command = j .command; zeros = j .zeros }
 
--- a step of the session
-unfoldable pub moving : Moved → Judgement
-moving m = record { stage = stageOf (m .reply); state = m .state; command = m .buffer }
+-- a step of the session, beside the entries filled with zeros before it
+unfoldable pub moving : ℕ → Moved → Judgement
+moving before m = record { stage = stageOf (m .reply); state = m .state; command = m .buffer; zeros = summed before (m .zeros) }
 
 unfoldable pub advanced : Judgement → List ℕ → Judgement
-advanced j p = moving (step (j .state) p (j .command))
+advanced j p = moving (j .zeros) (step (j .state) p (j .command))
 
 -- the entry at an index, by what is due
 unfoldable pub atCommand : ℕ → Judgement → ℕ → ℕ → List ℕ → Judgement

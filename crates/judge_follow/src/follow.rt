@@ -1,6 +1,7 @@
 // One entry further.
 use crate::Judgement;
 use commands::write::LONGEST;
+use dol_fill::count::sum;
 use judge_stages::Stage;
 use session_events::event;
 use session_phase::Reply;
@@ -27,6 +28,7 @@ pub fn begin() -> Judgement
         stage: Stage::Word,
         state: fresh(),
         command: [0; LONGEST],
+        zeros: 0,
     }
 }
 
@@ -52,6 +54,7 @@ fn stage(j: Judgement, stage: Stage) -> Judgement
         stage,
         state,
         command,
+        zeros: j.zeros,
     }
 }
 
@@ -64,10 +67,12 @@ fn advance(j: Judgement, payload: &[u8]) -> Judgement
     let step = event::step(before, payload, &mut command);
     let state = step.state;
     let reply = step.reply;
+    let zeros = sum(j.zeros, step.zeros);
     Judgement {
         stage: stage_of(reply),
         state,
         command,
+        zeros,
     }
 }
 

@@ -5,9 +5,11 @@ use commands::write::LONGEST;
 use judge_stages::Stage;
 use session_state::State;
 
-// The command that is due stands in the first bytes of `command`.
+// The command that is due stands in the first bytes of `command`; `zeros` counts the list entries that were filled with zeros for want
+// of a value.
 pub struct Judgement {
     pub stage: Stage,
     pub state: State,
     pub command: [u8; LONGEST],
+    pub zeros: usize,
 }

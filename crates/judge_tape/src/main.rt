@@ -1,10 +1,11 @@
-// The verdict of the tape on standard input, in one line: verdict, place, code. Where the input cannot be read there is no verdict:
+// The verdict of the tape on standard input, in one line: verdict, place, code, and the number of list entries filled with zeros. Where the input cannot be read there is no verdict:
 // nothing goes to standard output, and standard error says why. Where the line cannot be written, standard error says so: a program
 // has no exit status here, and a verdict that is lost must not look like one that nobody asked for.
 use judge::judge;
 use libc::STDIN_FILENO;
 use libc::STDOUT_FILENO;
 use slices::part;
+use verdict_line::LONGEST;
 use verdict_line::line;
 
 enum Input {
@@ -39,7 +40,7 @@ fn read_all(buf: &mut [u8]) -> Input {
 }
 
 fn tell(tape: &[u8]) {
-    let mut out = [0u8; 64];
+    let mut out = [0u8; LONGEST];
     let n = line(judge(tape), &mut out);
     if !io::write_all(STDOUT_FILENO, part(&out, 0, n)) {
         os::fail(b"judge_tape: the line could not be written");

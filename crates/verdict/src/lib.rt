@@ -1,4 +1,5 @@
-// What is said of a tape: a verdict, a place and a code (01, "The tape").
+// What is said of a tape: a verdict, a place and a code (01, "The tape"), and beside these how many entries of its object lists were
+// filled with zeros for want of a value (02, R-6).
 pub enum Verdict {
     Pass,
     Fail,
@@ -10,4 +11,9 @@ pub struct Answer {
     pub verdict: Verdict,
     pub place: usize,
     pub code: usize,
+}
+
+pub struct Finding {
+    pub answer: Answer,
+    pub zeros: usize,
 }

@@ -7,3 +7,4 @@ pub mod Endings
 pub mod Silence
 pub mod Stored
 pub mod ShutOut
+pub mod Zeroing

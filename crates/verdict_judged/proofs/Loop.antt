@@ -36,9 +36,31 @@ pub finally-damaged : (m : Progress) (place code : ℕ) → finally m (unreadabl
 unfolding finally
 finally-damaged m place code = refl
 
+-- what is left of the tape after k blocks
+abbrev pub restFrom : ℕ → ℕ → List ℕ → Reading
+restFrom k session t = readFrom k session (drop (k * blockSize) t)
+
+module _ (k session : ℕ) (t : List ℕ) where
+  pub rest-end : length t < (k + 1) * blockSize → restFrom k session t ≡ entries []
+  rest-end h = read-end k session (drop (k * blockSize) t) (omega (arith, length-drop (k * blockSize) t))
+
+  module _ (there : (k + 1) * blockSize ≤ length t) where
+    more : blockSize ≤ length (drop (k * blockSize) t)
+    more = omega (arith, length-drop (k * blockSize) t)
+
+    pub rest-bad : (codeOf k session (blockAt k t) ≡ 0 → ⊥) → restFrom k session t ≡ unreadable k (codeOf k session (blockAt k t))
+    unfolding blockAt
+    rest-bad bad = read-bad k session (drop (k * blockSize) t) more bad
+
+    pub rest-good : codeOf k session (blockAt k t) ≡ 0 → restFrom k session t ≡ preceded (entryIn (blockAt k t)) (restFrom (k + 1) session t)
+    unfolding blockAt
+    rest-good good =
+        read-good k session (drop (k * blockSize) t) more good
+        ∙ ap (λ (rest : List ℕ). preceded (entryIn (blockAt k t)) (readFrom (k + 1) session rest)) (rest-next k t)
+
 -- what is said in the end, k blocks of the tape being read, each with this session number
 unfoldable pub verdictFrom : Progress → ℕ → ℕ → List ℕ → Answer
-verdictFrom m k session t = finally m (readFrom k session (drop (k * blockSize) t))
+verdictFrom m k session t = finally m (restFrom k session t)
 
 -- ---- before the loop
 
@@ -61,22 +83,16 @@ module _ (t : List ℕ) where
 module _ (m : Progress) (k session : ℕ) (t : List ℕ) where
   pub loop-end : length t < (k + 1) * blockSize → verdictFrom m k session t ≡ concluded m
   unfolding verdictFrom
-  loop-end h = ap (finally m) (read-end k session (drop (k * blockSize) t) (omega (arith, length-drop (k * blockSize) t))) ∙ finally-end m
+  loop-end h = ap (finally m) (rest-end k session t h) ∙ finally-end m
 
   module _ (there : (k + 1) * blockSize ≤ length t) where
-    more : blockSize ≤ length (drop (k * blockSize) t)
-    more = omega (arith, length-drop (k * blockSize) t)
-
     pub loop-bad : (codeOf k session (blockAt k t) ≡ 0 → ⊥) → verdictFrom m k session t ≡ says Unreadable k (codeOf k session (blockAt k t))
-    unfolding verdictFrom blockAt
-    loop-bad bad = ap (finally m) (read-bad k session (drop (k * blockSize) t) more bad) ∙ finally-damaged m _ _
+    unfolding verdictFrom
+    loop-bad bad = ap (finally m) (rest-bad k session t there bad) ∙ finally-damaged m _ _
 
     pub loop-good : codeOf k session (blockAt k t) ≡ 0 → verdictFrom m k session t ≡ verdictFrom (reads m (entryIn (blockAt k t))) (k + 1) session t
-    unfolding verdictFrom blockAt
-    loop-good good =
-        let e = entryIn (blockAt k t) in
-        ap (finally m) (read-good k session (drop (k * blockSize) t) more good)
-        ∙ (finally-next m e _ ∙ ap (λ (rest : List ℕ). finally (reads m e) (readFrom (k + 1) session rest)) (rest-next k t))
+    unfolding verdictFrom
+    loop-good good = ap (finally m) (rest-good k session t there good) ∙ finally-next m (entryIn (blockAt k t)) (restFrom (k + 1) session t)
 
 -- ---- what a block of bytes holds
 

@@ -1,3 +1,4 @@
 -- The verdict of a tape, and how it is found entry by entry.
 pub mod Judged
+pub mod Zeroed
 pub mod Progress

@@ -11,6 +11,7 @@ use Rattle.tape_read.specs.Entries.{Entry, silence}
 use Rattle.tape_read.specs.Tapes.{Reading, entries, unreadable, readTape}
 use Rattle.rulebook.specs.Phase.{opens}
 use Rattle.rulebook.specs.Machine.{Machine, at, owes, done, next}
+use Rattle.rulebook_zeros.specs.Summing.{newIn}
 use Rattle.verdict.specs.Saying.{says}
 use Rattle.verdict.specs.declared.Verdict.the-variants.{Pass, Fail, Inconclusive, Unreadable}
 use Rattle.verdict.specs.declared.Answer.{Answer}
@@ -54,6 +55,12 @@ readsAll m (e ∷ es) = readsAll (reads m e) es
 
 abbrev pub progressOf : List Entry → Progress
 progressOf es = readsAll begun es
+
+-- what the last entry added to the number of list entries filled with zeros: nothing, where it was not taken
+unfoldable pub newBy : Progress → ℕ
+newBy (reached σ n) = newIn σ
+newBy (closed n) = 0
+newBy (broken k) = 0
 
 -- what is said where the entries end
 unfoldable pub concluded : Progress → Answer

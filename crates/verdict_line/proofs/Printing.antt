@@ -13,7 +13,7 @@ use Rattle.slices.proofs.Choice.{pick-yes, pick-no}
 use Rattle.slices.proofs.Writing.{put-length, put-step, put-start, laid-fits, laid-short}
 use Rattle.verdict_line.specs.Line.{wordOf, decimal, fieldOf, lineOf, lineSize}
 use Rattle.verdict.specs.declared.Verdict.{Verdict}
-use Rattle.verdict.specs.declared.Answer.{Answer}
+use Rattle.verdict.specs.declared.Finding.{Finding}
 use Rattle.verdict_line.proofs.Digits.{decimal-small, decimal-large, large-length, field-length, decimal-most}
 
 one-store : (d : List ℕ) (p x : ℕ) → p < length d → set d p x ≡ put (x ∷ []) p d
@@ -71,40 +71,49 @@ then-put x y d out p e h o =
     let here : p ≡ 0 + length x = omega arith in
     ap (put y p) o ∙ (ap (λ (k : ℕ). put y k (put x 0 d)) here ∙ sym (put-step x y 0 d (omega arith)))
 
-pub line-length : (a : Answer) → length (lineOf a) ≡ length (wordOf (a .verdict)) + (length (fieldOf (a .place)) + (length (fieldOf (a .code)) + 1))
+pub line-length : (a : Finding)
+    → length (lineOf a)
+    ≡ length (wordOf (a .answer .verdict)) + (length (fieldOf (a .answer .place)) + (length (fieldOf (a .answer .code)) + (length (fieldOf (a .zeros)) + 1)))
 unfolding lineOf
 line-length a = simp length-append
 
-module _ (a : Answer) (blank : List ℕ) where
+module _ (a : Finding) (blank : List ℕ) where
   abbrev word : List ℕ
-  word = wordOf (a .verdict)
+  word = wordOf (a .answer .verdict)
 
   abbrev first : List ℕ
-  first = fieldOf (a .place)
+  first = fieldOf (a .answer .place)
 
   abbrev second : List ℕ
-  second = fieldOf (a .code)
+  second = fieldOf (a .answer .code)
 
-  pub line-laid : (t u v : List ℕ) (w f e : ℕ) → w ≡ length word → f ≡ w + length first → e ≡ f + length second → e < length blank
-      → t ≡ laid word 0 blank → u ≡ put first w t → v ≡ put second f u → set v e 0x0A ≡ put (lineOf a) 0 blank
+  abbrev third : List ℕ
+  third = fieldOf (a .zeros)
+
+  pub line-laid : (t u v x : List ℕ) (w f g e : ℕ) → w ≡ length word → f ≡ w + length first → g ≡ f + length second → e ≡ g + length third
+      → e < length blank → t ≡ laid word 0 blank → u ≡ put first w t → v ≡ put second f u → x ≡ put third g v
+      → set x e 0x0A ≡ put (lineOf a) 0 blank
   unfolding lineOf
-  line-laid t u v w f e hw hf he room ot ou ov =
+  line-laid t u v x w f g e hw hf hg he room ot ou ov ox =
       let one : t ≡ put word 0 blank = ot ∙ laid-fits word 0 blank (omega arith) in
       let two : u ≡ put (word ++ first) 0 blank = ou ∙ then-put word first blank t w hw (omega arith) one in
       let m = length-append word first in
       let three : v ≡ put ((word ++ first) ++ second) 0 blank = ov ∙ then-put (word ++ first) second blank u f (omega arith) (omega arith) two in
       let k = length-append (word ++ first) second in
-      let long : length v ≡ length blank = ap length three ∙ put-length ((word ++ first) ++ second) 0 blank (omega arith) in
-      one-store v e 0x0A (omega arith)
-      ∙ (then-put ((word ++ first) ++ second) (0x0A ∷ []) blank v e (omega arith) (omega arith) three
+      let four : x ≡ put (((word ++ first) ++ second) ++ third) 0 blank
+      = ox ∙ then-put ((word ++ first) ++ second) third blank v g (omega arith) (omega arith) three in
+      let l = length-append ((word ++ first) ++ second) third in
+      let long : length x ≡ length blank = ap length four ∙ put-length (((word ++ first) ++ second) ++ third) 0 blank (omega arith) in
+      one-store x e 0x0A (omega arith)
+      ∙ (then-put (((word ++ first) ++ second) ++ third) (0x0A ∷ []) blank x e (omega arith) (omega arith) four
       ∙ ap (λ (l : List ℕ). put l 0 blank) (simp append-assoc))
 
 -- what stands at the start of the text is the line
-pub line-taken : (a : Answer) (blank text : List ℕ) (n : ℕ) → n ≡ length (lineOf a) → text ≡ put (lineOf a) 0 blank → take n text ≡ lineOf a
+pub line-taken : (a : Finding) (blank text : List ℕ) (n : ℕ) → n ≡ length (lineOf a) → text ≡ put (lineOf a) 0 blank → take n text ≡ lineOf a
 line-taken a blank text n e o =
     ap (λ (k : ℕ). take k text) e ∙ (ap (take (length (lineOf a))) (o ∙ put-start (lineOf a) blank) ∙ take-append-seam (lineOf a) _)
 
-module _ (a : Answer) (buf : List ℕ) where
+module _ (a : Finding) (buf : List ℕ) where
   pub unwritten : length buf < length (lineOf a) → (0 ≡ lineSize (length buf) a) × (buf ≡ laid (lineOf a) 0 buf)
   unfolding lineSize
   unwritten h = (sym (pick-no _ _ _ (lt-leb (length (lineOf a)) (length buf) h)), sym (laid-short (lineOf a) 0 buf (omega arith)))

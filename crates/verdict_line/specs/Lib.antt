@@ -1,2 +1,2 @@
--- The line that says a verdict, its place and its code.
+-- The line that says a verdict, its place, its code and the fourth number.
 pub mod Line

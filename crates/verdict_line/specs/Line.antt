@@ -1,4 +1,5 @@
--- The line that says a verdict (01, "The tape": verdict, place, code, and a line feed).
+-- The line that says a verdict (01, "The tape": verdict, place, code, and a line feed; 02, R-6: the number of list entries filled with
+-- zeros behind the code).
 -- Assumes nothing.
 use mathlib.Core.List.{List, [], _∷_, _++_}
 use Prim.Native.Nat.{ℕ, zero, suc, _+_, _/_, _%_}
@@ -7,7 +8,7 @@ use lib.ListN.{length}
 use Rattle.slices.specs.Choice.{pick}
 use Rattle.verdict.specs.declared.Verdict.{Verdict}
 use Rattle.verdict.specs.declared.Verdict.the-variants.{Pass, Fail, Inconclusive, Unreadable}
-use Rattle.verdict.specs.declared.Answer.{Answer}
+use Rattle.verdict.specs.declared.Finding.{Finding}
 
 -- PASS, FAIL, INCONCLUSIVE, UNREADABLE
 unfoldable pub wordOf : Verdict → List ℕ
@@ -29,9 +30,10 @@ decimal n = digitsOf (suc n) n
 unfoldable pub fieldOf : ℕ → List ℕ
 fieldOf n = 0x20 ∷ decimal n
 
-unfoldable pub lineOf : Answer → List ℕ
-lineOf a = wordOf (a .verdict) ++ (fieldOf (a .place) ++ (fieldOf (a .code) ++ (0x0A ∷ [])))
+unfoldable pub lineOf : Finding → List ℕ
+lineOf f =
+    wordOf (f .answer .verdict) ++ (fieldOf (f .answer .place) ++ (fieldOf (f .answer .code) ++ (fieldOf (f .zeros) ++ (0x0A ∷ []))))
 
 -- how many bytes of a buffer the line takes: none where it has no room, and then it is not written
-unfoldable pub lineSize : ℕ → Answer → ℕ
+unfoldable pub lineSize : ℕ → Finding → ℕ
 lineSize room a = pick (leb (length (lineOf a)) room) (length (lineOf a)) 0

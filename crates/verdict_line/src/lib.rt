@@ -1,6 +1,6 @@
 // The line that says a verdict.
 use slices::lay;
-use verdict::Answer;
+use verdict::Finding;
 use verdict::Verdict;
 ghost use mathlib.Core.Path.{_≡_};
 ghost use Prim.Native.Nat.{_+_, _≤_};
@@ -8,21 +8,24 @@ ghost use lib.ListN.{length};
 ghost use Rattle.slices.specs.Writing.{put, laid};
 ghost use Rattle.verdict_line.specs.Line.{wordOf, decimal, fieldOf, lineOf, lineSize};
 
-// The longest line is INCONCLUSIVE with two numbers of 20 digits: 55 bytes.
-const LONGEST: usize = 64;
+// The longest line is INCONCLUSIVE with three numbers of 20 digits: 76 bytes.
+pub const LONGEST: usize = 80;
 
 // The line is written at the start of the buffer, and its length is the answer; where it has no room nothing is written.
-pub fn line(answer: Answer, buf: &mut [u8]) -> usize
-    ensures size { λ r. ⌜ r ≡ lineSize (length (now (buf .entry))) answer ⌝ }
-    ensures text { λ _. ⌜ now (buf .exit) ≡ laid (lineOf answer) 0 (now (buf .entry)) ⌝ }
+pub fn line(found: Finding, buf: &mut [u8]) -> usize
+    ensures size { λ r. ⌜ r ≡ lineSize (length (now (buf .entry))) found ⌝ }
+    ensures text { λ _. ⌜ now (buf .exit) ≡ laid (lineOf found) 0 (now (buf .entry)) ⌝ }
 {
+    let answer = found.answer;
+    let zeros = found.zeros;
     let verdict = answer.verdict;
     let place = answer.place;
     let code = answer.code;
     let mut text = [0u8; LONGEST];
     let word = lay_word(&mut text, verdict);
     let first = lay_field(&mut text, word, place);
-    let end = lay_field(&mut text, first, code);
+    let second = lay_field(&mut text, first, code);
+    let end = lay_field(&mut text, second, zeros);
     text[end] = b'\n';
     if buf.len() < end + 1 {
         return 0;

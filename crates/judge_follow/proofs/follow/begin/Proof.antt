@@ -12,7 +12,7 @@ use Rattle.judge_follow.proofs.follow.begin.Tie as tie
 
 returns : tie.Need-returns
 unfolding begun zeros
-returns c = ap (λ (s : State). record { stage = Word; state = s; command = zeros longest }) (c .fresh .ensures)
+returns c = ap (λ (s : State). record { stage = Word; state = s; command = zeros longest; zeros = 0 }) (c .fresh .ensures)
 
 pub begin-spec : {M : Type 1} → statement M
 begin-spec = tie.close (tie.spec (λ c κs. search needs) returns)
