@@ -13,14 +13,14 @@ use Rattle.tape_read.specs.Entries.{blockSize, tapeMost}
 use Rattle.tape_read.specs.Blocks.{codeOf, entryIn}
 use Rattle.tape_read.specs.Tapes.{entries, unreadable, preceded, cut, blocksOf, readBlocks, readFrom, sessionOf, readTape}
 
--- no whole block is left
-blocks-end : (t : List ℕ) → length t < blockSize → blocksOf t ≡ []
+-- no whole block is left, or one and those of the rest
+pub blocks-end : (t : List ℕ) → length t < blockSize → blocksOf t ≡ []
 unfolding blocksOf cut
 blocks-end t h =
     let none : length t / blockSize ≡ 0 = omega arith in
     ap (λ (k : ℕ). cut k t) none
 
-blocks-more : (t : List ℕ) → blockSize ≤ length t → blocksOf t ≡ take blockSize t ∷ blocksOf (drop blockSize t)
+pub blocks-more : (t : List ℕ) → blockSize ≤ length t → blocksOf t ≡ take blockSize t ∷ blocksOf (drop blockSize t)
 unfolding blocksOf cut
 blocks-more t h =
     let one : length t / blockSize ≡ suc (length (drop blockSize t) / blockSize) = omega (arith, length-drop blockSize t) in
