@@ -1,0 +1,2 @@
+-- What is left of a damaged tape.
+pub mod Salvage

@@ -1,0 +1,61 @@
+-- What is left of a damaged tape (02, R-9: every block which passes the check and the tests of codes 6 to 9, in steps of a block from the
+-- start, with its own number and session number, in tape order).
+-- Assumes nothing.
+use mathlib.Core.Bool.{Bool}
+use mathlib.Core.List.{List, [], _∷_}
+use Prim.Native.Nat.{ℕ, _+_, _*_, _%_}
+use lib.Dec.{eqb}
+use lib.ListN.{length, take, drop}
+use Rattle.slices.specs.Choice.{pick, firstOf}
+use Rattle.tape_read.specs.Entries.{blockSize}
+use Rattle.tape_read.specs.Blocks.{numberIn, sessionIn, kindIn, payloadAt, payloadIn, checkBad, contentTests}
+use Rattle.tape_read.specs.Tapes.{blocksOf}
+use Rattle.recover.specs.declared.Found.{Found}
+use Rattle.recover.specs.declared.Found.the-variants.{Block, End}
+
+-- the check, and the tests of codes 6 to 9; neither number (4) nor session number (5) is tested
+unfoldable pub isGood : List ℕ → Bool
+isGood b = eqb (firstOf ((checkBad b, 3) ∷ contentTests b)) 0
+
+-- a good block: the step it stands at, counted from 0, and what it says
+pub record Salvaged : Type 0 where
+  pub step : ℕ
+  pub number : ℕ
+  pub session : ℕ
+  pub kind : ℕ
+  pub payload : List ℕ
+
+abbrev pub standing : ℕ → List ℕ → Salvaged
+standing n b = record { step = n; number = numberIn b; session = sessionIn b; kind = kindIn b; payload = payloadIn b }
+
+-- the good ones of some blocks, the first of which stands at step n
+unfoldable pub goodOf : ℕ → List (List ℕ) → List Salvaged
+goodOf n [] = []
+goodOf n (b ∷ bs) = pick (isGood b) (standing n b ∷ goodOf (n + 1) bs) (goodOf (n + 1) bs)
+
+-- every good block of any bytes
+unfoldable pub salvaged : List ℕ → List Salvaged
+salvaged t = goodOf 0 (blocksOf t)
+
+-- "a short tail is reported by its length": the bytes after the last whole step
+abbrev pub tailOf : List ℕ → ℕ
+tailOf t = length t % blockSize
+
+-- ---- from one good block to the next
+
+-- a good block as it is told: its numbers and kind, and where in the bytes its payload starts and how long it is
+abbrev pub told : ℕ → List ℕ → Found
+told n b = Block n (numberIn b) (sessionIn b) (kindIn b) (n * blockSize + payloadAt) (length (payloadIn b))
+
+unfoldable pub firstGood : ℕ → List (List ℕ) → Found
+firstGood n [] = End
+firstGood n (b ∷ bs) = pick (isGood b) (told n b) (firstGood (n + 1) bs)
+
+-- the next good block at or after a step
+unfoldable pub nextFrom : List ℕ → ℕ → Found
+nextFrom t step = firstGood step (blocksOf (drop (step * blockSize) t))
+
+-- the payload of what was found: that part of the bytes themselves
+abbrev pub payloadOf : List ℕ → Found → List ℕ
+payloadOf t (Block step number session kind start size) = take size (drop start t)
+payloadOf t End = []
