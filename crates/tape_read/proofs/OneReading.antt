@@ -19,7 +19,7 @@ use Rattle.tape_read.proofs.Steps.{read-end, read-bad, read-good, tape-
 use Rattle.tape_read.proofs.Unique.{block-is}
 
 -- a reading cannot be entries and unreadable
-apart : (r : Reading) (es : List Entry) (place code : ℕ) → r ≡ entries es → r ≡ unreadable place code → ⊥
+pub apart : (r : Reading) (es : List Entry) (place code : ℕ) → r ≡ entries es → r ≡ unreadable place code → ⊥
 apart r es place code p q =
     let z : _≡_ {A = ℕ} 0 1 = cc in
     omega arith
@@ -31,13 +31,13 @@ unpreceded e (entries fs) es p = (fs, refl, cc)
 unpreceded e (unreadable place code) es p = absurd (apart (unreadable place code) es place code p refl)
 
 -- the first block of bytes that read as entries, and what comes after it
-record First (n s : ℕ) (t : List ℕ) (es : List Entry) : Type 0 where
-  others : List Entry
-  good : codeOf n s (take blockSize t) ≡ 0
-  reads : readFrom (n + 1) s (drop blockSize t) ≡ entries others
-  split : es ≡ entryIn (take blockSize t) ∷ others
+pub record First (n s : ℕ) (t : List ℕ) (es : List Entry) : Type 0 where
+  pub others : List Entry
+  pub good : codeOf n s (take blockSize t) ≡ 0
+  pub reads : readFrom (n + 1) s (drop blockSize t) ≡ entries others
+  pub split : es ≡ entryIn (take blockSize t) ∷ others
 
-first : (n s : ℕ) (t : List ℕ) (es : List Entry) → blockSize ≤ length t → readFrom n s t ≡ entries es → First n s t es
+pub first : (n s : ℕ) (t : List ℕ) (es : List Entry) → blockSize ≤ length t → readFrom n s t ≡ entries es → First n s t es
 first n s t es more r = go (ℕ-discrete (codeOf n s (take blockSize t)) 0)
   where
     go : Dec (codeOf n s (take blockSize t) ≡ 0) → First n s t es
