@@ -1,0 +1,9 @@
+pub mod Steps
+pub mod Meaning
+pub mod Listing
+pub mod Overwriting
+pub mod Appending
+pub mod Walking
+pub mod Stores
+pub mod Naming
+pub mod Theorem
