@@ -10,7 +10,7 @@ use borrow.Author.Tests.{eq-eqb, eqb-true}
 use Rattle.slices.specs.Choice.{firstOf}
 use Rattle.slices.proofs.Choice.{either}
 use Rattle.tape_read.specs.Blocks.{numberIn, sessionIn, checkBad, numberBad, sessionBad, contentTests, codeOf}
-use Rattle.tape_read.proofs.Extra.{first-hit, first-skip, first-none}
+use Rattle.tape_read.proofs.Extra.{first-hit, first-skip}
 use Rattle.tape_read.proofs.Codes.{code-check, code-content, Good, code-good}
 use Rattle.recover.specs.Salvage.{isGood}
 

@@ -25,8 +25,12 @@ pub record Salvaged : Type 0 where
   pub kind : ℕ
   pub payload : List ℕ
 
+abbrev pub salvage : ℕ → ℕ → ℕ → ℕ → List ℕ → Salvaged
+salvage step number session kind payload =
+    record { step = step; number = number; session = session; kind = kind; payload = payload }
+
 abbrev pub standing : ℕ → List ℕ → Salvaged
-standing n b = record { step = n; number = numberIn b; session = sessionIn b; kind = kindIn b; payload = payloadIn b }
+standing n b = salvage n (numberIn b) (sessionIn b) (kindIn b) (payloadIn b)
 
 -- the good ones of some blocks, the first of which stands at step n
 unfoldable pub goodOf : ℕ → List (List ℕ) → List Salvaged

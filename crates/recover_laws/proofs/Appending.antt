@@ -2,7 +2,7 @@
 -- tail that is no whole block adds nothing, and neither does a last block that fails its check: what an append leaves that was cut short,
 -- on a tape that ends there or over older bytes.
 -- Assumes nothing.
-use mathlib.Core.Path.{_≡_, refl, sym, ap, ap₂, _∙_}
+use mathlib.Core.Path.{_≡_, sym, ap, ap₂, _∙_}
 use mathlib.Core.Bool.{true}
 use mathlib.Core.List.{List, [], _∷_, _++_, append-nil}
 use Prim.Native.Nat.{ℕ, _+_, _*_, _%_, _≤_, _<_}
@@ -39,7 +39,8 @@ module _ (t r : List ℕ) where
         ap₂ (λ (n : ℕ) (l : List ℕ). goodOf n (blocksOf l)) here (drop-at t r (k * blockSize) (omega arith))
         ∙ sym (ap (λ (l : List Salvaged). l ++ goodOf (steps t) (blocksOf r)) (good-end t k (omega arith)))
 
-    in-front : (k : ℕ) → k < steps t → goodFrom (t ++ r) (k + 1) ≡ goodFrom t (k + 1) ++ others → goodFrom (t ++ r) k ≡ goodFrom t k ++ others
+    in-front : (k : ℕ) → k < steps t → goodFrom (t ++ r) (k + 1) ≡ goodFrom t (k + 1) ++ others
+        → goodFrom (t ++ r) k ≡ goodFrom t k ++ others
     in-front k there rest =
         let b = blockAt k t in
         good-step (t ++ r) k (omega (arith, length-append t r))
@@ -81,7 +82,8 @@ module _ (t r : List ℕ) where
 
 -- ---- an append that was torn, over older bytes
 
-module _ (t old b : List ℕ) (n : ℕ) (whole : length t % blockSize ≡ 0) (last : length old ≡ blockSize) (full : length b ≡ blockSize) (most : n ≤ blockSize) where
+module _ (t : List ℕ) (whole : length t % blockSize ≡ 0) (old b : List ℕ) (last : length old ≡ blockSize) (full : length b ≡ blockSize)
+    (n : ℕ) (most : n ≤ blockSize) where
   torn-last : stored (torn n (record { step = steps t; bytes = b }) ∷ []) (t ++ old) ≡ t ++ (take n b ++ drop n old)
   unfolding stored put
   torn-last =

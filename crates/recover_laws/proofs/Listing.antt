@@ -1,7 +1,7 @@
 -- Of a readable tape the list is its blocks, all of them and in order: a block that passes where its number and session number are due is
 -- good, and says just these.
 -- Assumes nothing.
-use mathlib.Core.Path.{_≡_, refl, sym, ap, ap₂, _∙_}
+use mathlib.Core.Path.{_≡_, sym, ap, ap₂, _∙_}
 use mathlib.Core.Bool.{true}
 use mathlib.Core.List.{List, [], _∷_}
 use Prim.Native.Nat.{ℕ, _+_, _^_, _/_, _%_, _≤_, _<_}
@@ -17,7 +17,7 @@ use Rattle.tape_read.proofs.Codes.{Good, code-good}
 use Rattle.tape_read.proofs.Steps.{read-end, blocks-end, blocks-more, tape-long, tape-ragged, tape-blocks}
 use Rattle.tape_read.proofs.Roundtrip.{written-reads}
 use Rattle.tape_read.proofs.OneReading.{apart, First, first}
-use Rattle.recover.specs.Salvage.{isGood, Salvaged, standing, goodOf, salvaged}
+use Rattle.recover.specs.Salvage.{salvage, standing, goodOf, salvaged}
 use Rattle.recover.proofs.Own.{passes-good}
 use Rattle.recover_laws.specs.Damage.{listed}
 
@@ -34,8 +34,8 @@ module _ (n s : ℕ) (b : List ℕ) (good : codeOf n s b ≡ 0) where
   unfolding sessionBad
   session-due = eqb-true _ _ (not-false _ (passed .session))
 
-  pub standing-due : standing n b ≡ record { step = n; number = n; session = s; kind = kindIn b; payload = payloadIn b }
-  standing-due = λ i. record { step = n; number = number-due i; session = session-due i; kind = kindIn b; payload = payloadIn b }
+  standing-due : standing n b ≡ salvage n n s (kindIn b) (payloadIn b)
+  standing-due = ap₂ (λ (number session : ℕ). salvage n number session (kindIn b) (payloadIn b)) number-due session-due
 
 -- bytes that read as no entries have no whole block
 none-listed : (n s : ℕ) (t : List ℕ) → readFrom n s t ≡ entries [] → length t < blockSize
@@ -74,7 +74,7 @@ read-listed n s (e ∷ es) t r =
     ap (goodOf n) (blocks-more t (some .0))
     ∙ (pick-yes _ _ _ (passes-good b n s (f .good))
     ∙ ap₂ _∷_
-    (standing-due n s b (f .good) ∙ ap (λ (x : Entry). record { step = n; number = n; session = s; kind = x .kind; payload = x .payload }) same)
+    (standing-due n s b (f .good) ∙ ap (λ (x : Entry). salvage n n s (x .kind) (x .payload)) same)
     (read-listed (n + 1) s es (drop blockSize t) (f .reads ∙ ap entries others)))
 
 -- as many whole blocks as entries
@@ -111,6 +111,7 @@ unfolding salvaged
 readable-listed t es r = read-listed 0 (sessionOf t) es t (is-readable t es r .reads)
 
 -- and of entries that were written one after the other, also of more than a tape holds
-pub written-listed : (s : ℕ) (es : List Entry) → allStorable es ≡ true → length es ≤ 2 ^ 32 → s < 2 ^ 32 → salvaged (written 0 s es) ≡ listed 0 s es
+pub written-listed : (s : ℕ) (es : List Entry) → allStorable es ≡ true → length es ≤ 2 ^ 32 → s < 2 ^ 32
+    → salvaged (written 0 s es) ≡ listed 0 s es
 unfolding salvaged
 written-listed s es h most known = read-listed 0 s es (written 0 s es) (written-reads 0 s es h (omega arith) known)

@@ -16,5 +16,6 @@ use Rattle.recover.proofs.Own.{good-passes, passes-good}
 pub written-good : (n s : ℕ) (e : Entry) → storable e ≡ true → n < 2 ^ 32 → s < 2 ^ 32 → isGood (block n s e) ≡ true
 written-good n s e h hn hs = passes-good (block n s e) n s (block-code n s e h hn hs)
 
-pub good-written : (b : List ℕ) → areBytes b ≡ true → length b ≡ blockSize → isGood b ≡ true → b ≡ block (numberIn b) (sessionIn b) (entryIn b)
+pub good-written : (b : List ℕ) → areBytes b ≡ true → length b ≡ blockSize → isGood b ≡ true
+    → b ≡ block (numberIn b) (sessionIn b) (entryIn b)
 good-written b bytes size good = block-is (numberIn b) (sessionIn b) b bytes size (good-passes b good)

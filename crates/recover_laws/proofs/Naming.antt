@@ -1,13 +1,13 @@
 -- The judge on an overwritten tape: the blocks before the first overwritten one pass as they did, and that one fails its check, which is
 -- tested before all else. So the tape is unreadable there, with code 3.
 -- Assumes nothing.
-use mathlib.Core.Path.{_≡_, refl, sym, ap, ap₂, _∙_, subst}
+use mathlib.Core.Path.{_≡_, sym, ap, ap₂, _∙_, subst}
 use mathlib.Core.Bool.{Bool, true, false}
 use mathlib.Core.List.{List}
 use Prim.Native.Nat.{ℕ, zero, suc, _+_, _*_, _%_, _≤_, _<_}
 use native.Mathlib.Omega.{arith}
 use lib.Dec.{ltb}
-use lib.ListN.{length, take, drop, length-drop}
+use lib.ListN.{drop, length-drop}
 use borrow.Author.Tests.{ltb-true, ltb-false}
 use Rattle.slices.proofs.Choice.{either}
 use Rattle.tape_read.specs.Entries.{Entry, blockSize}
@@ -59,7 +59,8 @@ module _ (hit : ℕ → Bool) (t u : List ℕ) (es : List Entry) (readable : Rea
     before-pass j h =
         let none : 0 + j ≡ j = omega arith in
         ap₂ (codeOf j) (ap sessionIn (w .kept 0 (first-hit .before 0 (omega arith)))) (w .kept j (first-hit .before j h))
-        ∙ subst (λ (i : ℕ). codeOf i (sessionOf t) (blockAt i t) ≡ 0) none (codes-pass (sessionOf t) t j 0 es (omega arith) (readable .reads))
+        ∙ subst (λ (i : ℕ). codeOf i (sessionOf t) (blockAt i t) ≡ 0) none
+        (codes-pass (sessionOf t) t j 0 es (omega arith) (readable .reads))
 
     pub first-named : readTape u ≡ unreadable k 3
     first-named =

@@ -3,10 +3,9 @@
 -- Assumes nothing.
 use mathlib.Core.Path.{_≡_, refl, sym, ap, ap₂, _∙_}
 use mathlib.Core.Bool.{Bool, true, false}
-use mathlib.Core.List.{List, [], _∷_}
-use Prim.Native.Nat.{ℕ, _+_, _/_, _≤_, _<_}
+use mathlib.Core.List.{List, _∷_}
+use Prim.Native.Nat.{ℕ, _+_, _/_, _<_}
 use native.Mathlib.Omega.{arith}
-use lib.ListN.{length}
 use Rattle.slices.specs.Choice.{pick}
 use Rattle.slices.proofs.Choice.{pick-yes, pick-no, picked, pick-ap, either}
 use Rattle.tape_read.specs.Entries.{blockSize}
@@ -65,9 +64,3 @@ overwritten-left hit t u w =
     sym (from-start u)
     ∙ (steps-left hit t u (ap (λ (n : ℕ). n / blockSize) (w .size)) (λ k there h. w .kept k h) (w .fails) 0
     ∙ ap (untouched hit) (from-start t))
-
--- where nothing is marked, everything is left
-pub none-hit : (bs : List Salvaged) → untouched (λ k. false) bs ≡ bs
-unfolding untouched
-none-hit [] = refl
-none-hit (b ∷ bs) = pick-no _ _ _ refl ∙ ap (λ (l : List Salvaged). b ∷ l) (none-hit bs)

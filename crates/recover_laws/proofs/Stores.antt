@@ -1,5 +1,5 @@
--- Stores within the steps of a tape, whole or torn, overwrite in place: every step that none of them went to is as it was. Where each of the
--- others fails its check afterwards, that is damage of the kind that leaves exactly the untouched blocks.
+-- Stores within the steps of a tape, whole or torn, overwrite in place: every step that none of them went to is as it was. Where each
+-- of the others fails its check afterwards, that is damage of the kind that leaves exactly the untouched blocks.
 -- Assumes nothing.
 use mathlib.Core.Path.{_≡_, refl, sym, ap, _∙_}
 use mathlib.Core.Bool.{true, false, _&&_}
@@ -10,7 +10,6 @@ use lib.Dec.{eqb, ltb, leb}
 use lib.ListN.{length, take, drop, length-take, length-drop}
 use lib.Seq.{length-take-le, take-add, take-append-add, drop-at}
 use borrow.Author.Tests.{ltb-true, ltb-false, leb-true, lt-ltb, le-leb, eqb-true, eq-eqb, ne-eqb}
-use Rattle.slices.specs.Choice.{pick}
 use Rattle.slices.specs.Writing.{put}
 use Rattle.slices.proofs.Choice.{pick-yes, pick-no, either, and-left, and-right, and-both}
 use Rattle.slices.proofs.Writing.{put-length}
@@ -31,7 +30,9 @@ module _ (w : Store) (t : List ℕ) (there : w .step < steps t) (small : length 
   unfolding blockAt
   one-other k other =
       either (ltb k (w .step))
-      (λ y. let low = ltb-true k (w .step) y in put-before blockSize (k * blockSize) (w .bytes) (w .step * blockSize) t (omega arith) (omega arith))
+      (λ y.
+      let low = ltb-true k (w .step) y in
+      put-before blockSize (k * blockSize) (w .bytes) (w .step * blockSize) t (omega arith) (omega arith))
       (λ n.
       let high = ltb-false k (w .step) n in
       let above : w .step < k = omega (arith, other) in
@@ -75,7 +76,8 @@ stored-size (w ∷ ws) t ok =
     (ap (λ (n : ℕ). inPlace (n / blockSize) ws) size ∙ others-in _ w ws ok)
     ∙ size
 
-pub stored-other : (ws : List Store) (t : List ℕ) → inPlace (steps t) ws ≡ true → (k : ℕ) → struck ws k ≡ false → blockAt k (stored ws t) ≡ blockAt k t
+pub stored-other : (ws : List Store) (t : List ℕ) → inPlace (steps t) ws ≡ true → (k : ℕ) → struck ws k ≡ false
+    → blockAt k (stored ws t) ≡ blockAt k t
 unfolding stored
 stored-other [] t ok k h = refl
 stored-other (w ∷ ws) t ok k h =
@@ -96,7 +98,8 @@ module _ (w : Store) (n : ℕ) (t : List ℕ) (there : w .step < steps t) (small
   unfolding inPlace
   torn-in-place =
       and-both _ true
-      (and-both (ltb (w .step) (steps t)) _ (lt-ltb _ _ there) (le-leb (length (take n (w .bytes))) blockSize (omega (arith, length-take n (w .bytes)))))
+      (and-both (ltb (w .step) (steps t)) _ (lt-ltb _ _ there)
+      (le-leb (length (take n (w .bytes))) blockSize (omega (arith, length-take n (w .bytes)))))
       refl
 
   torn-alone : (k : ℕ) → struck (torn n w ∷ []) k ≡ true → k ≡ w .step

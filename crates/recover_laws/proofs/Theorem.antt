@@ -1,14 +1,13 @@
 -- R-9 of a good tape, overwritten: the list is the untouched blocks, and the judge names the first of the others. A tape is good where the
 -- judge can read it, and so is every tape that was written entry by entry.
 -- Assumes nothing.
-use mathlib.Core.Path.{_≡_, refl, sym, ap, _∙_, subst}
+use mathlib.Core.Path.{_≡_, refl, sym, ap, _∙_}
 use mathlib.Core.Bool.{Bool, true}
-use mathlib.Core.List.{List, [], _∷_}
-use Prim.Native.Nat.{ℕ, _+_, _*_, _%_, _^_, _≤_, _<_}
+use mathlib.Core.List.{List}
+use Prim.Native.Nat.{ℕ, _*_, _%_, _^_, _≤_, _<_}
 use native.Mathlib.Omega.{arith}
 use lib.ListN.{length, take}
 use Rattle.tape_read.specs.Entries.{Entry, blockSize, blocksMost, allStorable}
-use Rattle.tape_read.specs.Blocks.{sessionIn}
 use Rattle.tape_read.specs.Tapes.{entries, unreadable, sessionOf, readTape, written}
 use Rattle.tape_read.proofs.Roundtrip.{tape-back}
 use Rattle.tape_write.specs.Appending.{appendAll, fresh}
@@ -18,10 +17,8 @@ use Rattle.verdict.specs.declared.Verdict.the-variants.{Pass, Unreadable}
 use Rattle.verdict.specs.declared.Answer.{Answer}
 use Rattle.verdict_judged.specs.Judged.{Judged, damaged}
 use Rattle.verdict_judged.proofs.Exactly.{unreadable-exactly}
-use Rattle.recover.specs.Salvage.{salvaged}
 use Rattle.recover_laws.specs.Damage.{Overwritten, FirstHit, untouched, listed}
 use Rattle.recover_laws.specs.Recovers.{Recovers}
-use Rattle.recover_laws.proofs.Steps.{steps}
 use Rattle.recover_laws.proofs.Listing.{Readable, is-readable, readable-listed, read-count, written-listed}
 use Rattle.recover_laws.proofs.Overwriting.{overwritten-left}
 use Rattle.recover_laws.proofs.Naming.{first-named, least}
@@ -72,3 +69,9 @@ written-recovers hit s es u h most known w =
       only = all .only;
       no-pass = all .no-pass;
     }
+
+-- and what a writer appended on an empty tape
+pub appended-recovers : (hit : ℕ → Bool) (s : ℕ) (es : List Entry) (t u : List ℕ) → allStorable es ≡ true → length es ≤ blocksMost
+    → length es * blockSize ≤ length t → s < 2 ^ 32 → Overwritten hit (take (length es * blockSize) (appendAll (fresh s) es t .tape)) u
+    → Recovers hit (sessionOf (take (length es * blockSize) (appendAll (fresh s) es t .tape))) es u
+appended-recovers hit s es t u h most room known w = recovers hit _ u es (appends-read s es t h most room known) w

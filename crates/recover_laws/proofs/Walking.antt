@@ -1,9 +1,9 @@
 -- Asked from one good block to the next, or block by block, `next` and `payload` give exactly the list: what is next from a step on is the
 -- first of the good blocks from there on, and its payload lies within its block.
 -- Assumes nothing.
-use mathlib.Core.Path.{_≡_, refl, sym, ap, ap₂, _∙_}
+use mathlib.Core.Path.{_≡_, sym, ap, _∙_}
 use mathlib.Core.Bool.{true, false}
-use mathlib.Core.List.{List, [], _∷_}
+use mathlib.Core.List.{List, _∷_}
 use Prim.Native.Nat.{ℕ, zero, suc, _+_, _*_, _≤_, _<_}
 use native.Mathlib.Omega.{arith}
 use lib.ListN.{length, take, drop, length-drop, take-append-drop}
@@ -14,7 +14,7 @@ use Rattle.slices.proofs.Choice.{pick-yes, pick-no, either}
 use Rattle.tape_read.specs.Entries.{blockSize, payloadMost}
 use Rattle.tape_read.specs.Blocks.{numberIn, sessionIn, kindIn, payloadAt, lengthIn, lengthBad, payloadIn}
 use Rattle.tape_read.specs.Tapes.{blockAt, blocksOf}
-use Rattle.recover.specs.Salvage.{isGood, Salvaged, standing, told, nextFrom, payloadOf, salvaged}
+use Rattle.recover.specs.Salvage.{isGood, Salvaged, salvage, standing, told, nextFrom, payloadOf, salvaged}
 use Rattle.recover.specs.declared.Found.{Found}
 use Rattle.recover.specs.declared.Found.the-variants.{End}
 use Rattle.recover.proofs.Own.{good-passes}
@@ -59,9 +59,7 @@ module _ (t : List ℕ) (k : ℕ) (there : k < steps t) (good : isGood (blockAt 
   taken-here others =
       let b = blockAt k t in
       ap (λ (f : Found). taken t f others) (next-here t k there good)
-      ∙ ap
-      (λ (p : List ℕ). record { step = k; number = numberIn b; session = sessionIn b; kind = kindIn b; payload = p } ∷ others (k + 1))
-      payload-there
+      ∙ ap (λ (p : List ℕ). salvage k (numberIn b) (sessionIn b) (kindIn b) p ∷ others (k + 1)) payload-there
 
 module _ (t : List ℕ) where
   -- the good blocks from a step on begin with what is next
@@ -116,7 +114,8 @@ module _ (b : List ℕ) (whole : length b ≡ blockSize) where
 
   alone-payload : isGood b ≡ true → payloadOf b (told 0 b) ≡ payloadIn b
   alone-payload good =
-      ap (λ (x : List ℕ). payloadOf b (told 0 x)) (sym alone) ∙ (payload-there b 0 (omega arith) (ap isGood alone ∙ good) ∙ ap payloadIn alone)
+      ap (λ (x : List ℕ). payloadOf b (told 0 x)) (sym alone)
+      ∙ (payload-there b 0 (omega arith) (ap isGood alone ∙ good) ∙ ap payloadIn alone)
 
   placed-step : (n : ℕ) (others : List Salvaged) → placed n b (nextFrom b 0) others ≡ pick (isGood b) (standing n b ∷ others) others
   unfolding placed
@@ -124,7 +123,7 @@ module _ (b : List ℕ) (whole : length b ≡ blockSize) where
       either (isGood b)
       (λ good.
       ap (λ (f : Found). placed n b f others) (alone-good good)
-      ∙ (ap (λ (p : List ℕ). record { step = n; number = numberIn b; session = sessionIn b; kind = kindIn b; payload = p } ∷ others) (alone-payload good)
+      ∙ (ap (λ (p : List ℕ). salvage n (numberIn b) (sessionIn b) (kindIn b) p ∷ others) (alone-payload good)
       ∙ sym (pick-yes _ _ _ good)))
       (λ bad. ap (λ (f : Found). placed n b f others) (alone-bad bad) ∙ sym (pick-no _ _ _ bad))
 

@@ -11,7 +11,7 @@ use Rattle.slices.specs.Writing.{put}
 use Rattle.tape_read.specs.Entries.{Entry, blockSize}
 use Rattle.tape_read.specs.Blocks.{checkBad}
 use Rattle.tape_read.specs.Tapes.{blockAt}
-use Rattle.recover.specs.Salvage.{Salvaged}
+use Rattle.recover.specs.Salvage.{Salvaged, salvage}
 
 -- u is t with the marked steps overwritten in place, and "each overwritten one fails its check"
 pub record Overwritten (hit : ℕ → Bool) (t u : List ℕ) : Type 0 where
@@ -32,8 +32,7 @@ untouched hit (b ∷ bs) = pick (hit (b .step)) (untouched hit bs) (b ∷ untouc
 -- the blocks of a good tape of these entries: each with the number of the step it stands at, the first of them n
 unfoldable pub listed : ℕ → ℕ → List Entry → List Salvaged
 listed n session [] = []
-listed n session (e ∷ es) =
-    record { step = n; number = n; session = session; kind = e .kind; payload = e .payload } ∷ listed (n + 1) session es
+listed n session (e ∷ es) = salvage n n session (e .kind) (e .payload) ∷ listed (n + 1) session es
 
 -- ---- stores
 

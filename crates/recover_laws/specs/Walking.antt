@@ -2,15 +2,14 @@
 -- Assumes nothing.
 use mathlib.Core.List.{List, [], _∷_}
 use Prim.Native.Nat.{ℕ, zero, suc, _+_}
-use Rattle.recover.specs.Salvage.{Salvaged, nextFrom, payloadOf}
+use Rattle.recover.specs.Salvage.{Salvaged, salvage, nextFrom, payloadOf}
 use Rattle.recover.specs.declared.Found.{Found}
 use Rattle.recover.specs.declared.Found.the-variants.{Block, End}
 
 -- what was found and its payload, and then the others, from the step behind it
 unfoldable pub taken : List ℕ → Found → (ℕ → List Salvaged) → List Salvaged
 taken t (Block step number session kind start size) others =
-    record { step = step; number = number; session = session; kind = kind; payload = payloadOf t (Block step number session kind start size) }
-    ∷ others (step + 1)
+    salvage step number session kind (payloadOf t (Block step number session kind start size)) ∷ others (step + 1)
 taken t End others = []
 
 -- `next` asked so many times, from a step on
@@ -21,7 +20,7 @@ walk (suc n) t k = taken t (nextFrom t k) (walk n t)
 -- what `next` finds in one block by itself, at the step where that block stands, and then the others
 unfoldable pub placed : ℕ → List ℕ → Found → List Salvaged → List Salvaged
 placed n b (Block step number session kind start size) others =
-    record { step = n; number = number; session = session; kind = kind; payload = payloadOf b (Block step number session kind start size) } ∷ others
+    salvage n number session kind (payloadOf b (Block step number session kind start size)) ∷ others
 placed n b End others = others
 
 -- blocks handed in one by one, the first of them from step n

@@ -1,7 +1,6 @@
 -- `recover::next` meets its contract. The loop's invariant: what is next from where it stands is what is next from where it began.
 -- Assumes nothing.
 use mathlib.Core.Path.{_≡_, refl, sym, ap, _∙_}
-use mathlib.Core.Bool.{Bool}
 use Prim.Native.Nat.{_-_, _/_}
 use native.Mathlib.Omega.{arith}
 use borrow.Author.Needs.{needs}
@@ -21,7 +20,8 @@ abbrev μ-loop : tie.MeasureT-loop
 
 -- what the test of the block at hand has told
 tested : (c : tie.After-is-good Inv-loop μ-loop)
-    → isGood (blockAt (c .before .before .before .loop .k) (c .before .before .before .before .before .args .bytes .now)) ≡ c .is-good .result
+    → isGood (blockAt (c .before .before .before .loop .k) (c .before .before .before .before .before .args .bytes .now))
+    ≡ c .is-good .result
 tested c = sym (c .is-good .ensures ∙ ap isGood (c .before .block-at .ensures))
 
 returns : tie.Need-returns Inv-loop μ-loop
@@ -29,7 +29,8 @@ returns c =
     let test = c .before .before in
     let here = test .before .before in
     let t = here .before .before .before .args .bytes .now in
-    c .tell .ensures ∙ (sym (next-here t (here .before .loop .k) (here .loop-test .taken) (tested test ∙ c .before .if1 .taken)) ∙ here .before .loop .inv)
+    c .tell .ensures
+    ∙ (sym (next-here t (here .before .loop .k) (here .loop-test .taken) (tested test ∙ c .before .if1 .taken)) ∙ here .before .loop .inv)
 
 loop-again : tie.Need-loop-again Inv-loop μ-loop
 loop-again c =

@@ -1,6 +1,6 @@
 -- `recover::tell` meets its contract: field by field, each from the block that stands at the step. Assumes nothing.
 use mathlib.Core.Path.{_≡_, ap, _∙_}
-use Prim.Native.Nat.{ℕ, _+_, _*_}
+use Prim.Native.Nat.{_+_, _*_}
 use lib.ListN.{length}
 use borrow.Author.Needs.{needs}
 use Rattle.tape_read.specs.Entries.{blockSize}

@@ -1,6 +1,6 @@
 -- `list_all` meets its contract: it is safe and ends, since the steps are counted up to more than there can be. Assumes nothing.
 use mathlib.Core.Path.{_≡_}
-use Prim.Native.Nat.{_-_, _≤_}
+use Prim.Native.Nat.{_-_}
 use native.Mathlib.Omega.{arith}
 use lib.ListN.{length}
 use borrow.Author.Needs.{needs}
