@@ -1,5 +1,5 @@
--- What is left of a damaged tape (02, R-9: every block which passes the check and the tests of codes 6 to 9, in steps of a block from the
--- start, with its own number and session number, in tape order).
+-- What can still be read of a tape, whatever happened to it (02, R-9): the whole blocks, counted in steps from the start, whose check is
+-- right and whose content is in order, each with the numbers that it carries itself.
 -- Assumes nothing.
 use mathlib.Core.Bool.{Bool}
 use mathlib.Core.List.{List, [], _∷_}
@@ -13,7 +13,7 @@ use Rattle.tape_read.specs.Tapes.{blocksOf}
 use Rattle.recover.specs.declared.Found.{Found}
 use Rattle.recover.specs.declared.Found.the-variants.{Block, End}
 
--- the check, and the tests of codes 6 to 9; neither number (4) nor session number (5) is tested
+-- the check (code 3) and the content (6 to 9) are right; which block number (4) and session number (5) it has is not asked
 unfoldable pub isGood : List ℕ → Bool
 isGood b = eqb (firstOf ((checkBad b, 3) ∷ contentTests b)) 0
 
@@ -37,11 +37,11 @@ unfoldable pub goodOf : ℕ → List (List ℕ) → List Salvaged
 goodOf n [] = []
 goodOf n (b ∷ bs) = pick (isGood b) (standing n b ∷ goodOf (n + 1) bs) (goodOf (n + 1) bs)
 
--- every good block of any bytes
+-- the good blocks of any bytes
 unfoldable pub salvaged : List ℕ → List Salvaged
 salvaged t = goodOf 0 (blocksOf t)
 
--- "a short tail is reported by its length": the bytes after the last whole step
+-- how many bytes are left over after the last whole step
 abbrev pub tailOf : List ℕ → ℕ
 tailOf t = length t % blockSize
 

@@ -13,7 +13,7 @@ use Rattle.tape_read.specs.Blocks.{checkBad}
 use Rattle.tape_read.specs.Tapes.{blockAt}
 use Rattle.recover.specs.Salvage.{Salvaged, salvage}
 
--- u is t with the marked steps overwritten in place, and "each overwritten one fails its check"
+-- u is t with the marked steps overwritten in place, and no marked step passes the check afterwards
 pub record Overwritten (hit : ℕ → Bool) (t u : List ℕ) : Type 0 where
   pub size : length u ≡ length t
   pub kept : (k : ℕ) → hit k ≡ false → blockAt k u ≡ blockAt k t
@@ -24,7 +24,7 @@ pub record FirstHit (hit : ℕ → Bool) (k : ℕ) : Type 0 where
   pub here : hit k ≡ true
   pub before : (j : ℕ) → j < k → hit j ≡ false
 
--- "exactly the untouched blocks": those at steps without a mark
+-- the blocks at steps without a mark
 unfoldable pub untouched : (ℕ → Bool) → List Salvaged → List Salvaged
 untouched hit [] = []
 untouched hit (b ∷ bs) = pick (hit (b .step)) (untouched hit bs) (b ∷ untouched hit bs)

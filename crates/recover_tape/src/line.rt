@@ -1,8 +1,9 @@
 // One line, kept: whether the file took it.
+use tape_read::PAYLOAD;
 use text_hex::hex;
 
-// A payload of 496 bytes in hexadecimal has room in it.
-const DIGITS: usize = 1024;
+// The longest payload in hexadecimal.
+const DIGITS: usize = 2 * PAYLOAD;
 
 pub fn block(file: i32, step: usize, number: u32, session: u32, kind: u8, payload: &[u8]) -> bool {
     let a = field(file, b"BLOCK ", step);
