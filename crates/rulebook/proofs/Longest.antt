@@ -1,47 +1,214 @@
 -- One session has as many entries as the bound allows: a card whose AFL names the most records, half of them in each of two files,
--- all that is mandatory in the first, and which asks to go online.
+-- all that is mandatory in the first record, nothing in the others, and which asks to go online. What comes before the records and
+-- after them is computed; the records are read by induction, however many there are.
 -- Assumes nothing.
-use mathlib.Core.Path.{_≡_, refl}
+use mathlib.Core.Path.{_≡_, refl, sym, ap, _∙_, subst}
+use mathlib.Core.Bool.{Bool, true, false, not, _&&_, _||_}
 use mathlib.Core.List.{List, [], _∷_, _++_}
-use Prim.Native.Nat.{ℕ, zero, suc, _-_, _/_}
-use lib.ListN.{length}
+use mathlib.Core.Option.{Option, none, some}
+use Prim.Native.Nat.{ℕ, _+_, _*_, _-_, _/_, _≤_}
+use native.Mathlib.Omega.{arith}
+use lib.Dec.{eqb}
+use lib.ListN.{length, length-append}
+use Rattle.slices.specs.Choice.{pick, firstOf}
+use Rattle.slices.specs.Tables.{anyOf}
+use Rattle.slices.proofs.Choice.{pick-yes, pick-no, pick-same}
+use Rattle.tlv_list.specs.Objects.{isSome}
+use Rattle.tlv_list.specs.Lookup.{Lookup, absent}
 use Rattle.tape_read.specs.Entries.{Entry, entry, start, host}
-use Rattle.answer_afl.specs.Entries.{mostRecords}
-use Rattle.rulebook.specs.Session.{longest, Session}
+use Rattle.start_fields.specs.Reading.{readingOf}
+use Rattle.answer_afl.specs.Entries.{mostRecords, recordCount, toRead}
+use Rattle.answer_afl.proofs.Counting.{read-length}
+use Rattle.answer_common.specs.Answer.{frame}
+use Rattle.answer_common.specs.Content.{recordTag, recordNames}
+use Rattle.answer_common.specs.Named.{listed, direct, told, anyTwice, anyWrong}
+use Rattle.answer_record.specs.Records.{again, anyAgain, recordTwice, recordLines, recordReason, valueIn, namedIn}
+use Rattle.session_records.specs.Slots.{orElse}
+use Rattle.commands.specs.Commands.{recordCommand}
+use Rattle.rulebook.specs.Situation.{Situation, begun}
+use Rattle.rulebook.specs.Phase.{Phase, opens, reading, commandOf}
+use Rattle.rulebook.specs.Turn.{goesOn, allRead, readOn, withProfile, withRecord, recorded as afterRecord, turn}
+use Rattle.rulebook.specs.Session.{longest, isPayload, Plays, exchanged, Session}
+use Rattle.rulebook.specs.Machine.{at, done, andOn, run}
+use Rattle.rulebook.proofs.Running.{ends-follow, follows-ends, run-session}
+use Rattle.rulebook.proofs.Reading.{run-append}
 use Rattle.rulebook.proofs.Opening.{reached}
-use Rattle.rulebook.proofs.Made.{startOf, select, selected, options, readOne, recorded, number, firstAsked, secondAsked, given, tc, arqc, decides, exchange, reads}
+use Rattle.rulebook.proofs.Made.{startOf, select, withList, withNumber, recorded, number, firstAsked, secondAsked, given, tc, arqc, decides, exchange}
 
-abbrev half : ℕ
-half = mostRecords / 2
+-- ---- a record that tells nothing
 
-abbrev others : ℕ
-others = mostRecords - half
+abbrev empty : List ℕ
+empty = 0x70 ∷ 0x00 ∷ 0x90 ∷ 0x00 ∷ []
 
--- the answer to GPO: the files 1 and 2, each from record 1
+not-there : (name : ℕ) → direct recordTag empty name ≡ absent
+unfolding reached
+not-there name = refl
+
+not-again : (before : Bool) (name : ℕ) → again before (direct recordTag empty name) ≡ false
+unfolding reached
+not-again true name = refl
+not-again false name = refl
+
+none-again : (before : ℕ → Bool) (names : List ℕ) → anyAgain before names (direct recordTag empty) ≡ false
+unfolding anyAgain anyOf
+none-again before [] = refl
+none-again before (name ∷ names) = pick-no _ _ _ (not-again (before name) name) ∙ none-again before names
+
+first-told : firstOf (frame (recordTag ∷ []) empty
+    ++ ((anyTwice recordNames (direct recordTag empty) || false, 4) ∷ (anyWrong recordNames (direct recordTag empty), 5) ∷ [])) ≡ 0
+unfolding reached
+first-told = refl
+
+-- it is right whatever was told before
+empty-right : (before : ℕ → Bool) → recordReason before empty ≡ 0
+unfolding recordReason recordLines recordTwice
+empty-right before =
+    ap (λ (b : Bool). firstOf (frame (recordTag ∷ []) empty
+    ++ ((anyTwice recordNames (direct recordTag empty) || b, 4) ∷ (anyWrong recordNames (direct recordTag empty), 5) ∷ [])))
+    (none-again before recordNames)
+    ∙ first-told
+
+or-none : (o : Option (List ℕ)) → orElse o none ≡ o
+unfolding orElse
+or-none none = refl
+or-none (some v) = refl
+
+none-named : (tag : ℕ) → namedIn tag empty ≡ none
+unfolding namedIn valueIn told
+none-named tag = ap (λ (l : Lookup). pick (listed tag recordNames) (told l) none) (not-there tag) ∙ pick-same _ _
+
+module _ (s : Situation) where
+  -- it adds nothing to what is known
+  nothing-new : withRecord s empty ≡ s
+  unfolding withRecord
+  nothing-new i =
+      record {
+        terminal = s .terminal;
+        profile = s .profile;
+        facts = λ tag. (ap (orElse (s .facts tag)) (none-named tag) ∙ or-none (s .facts tag)) i;
+        tvr = s .tvr;
+        tsi = s .tsi;
+      }
+
+  empty-read : (number file : ℕ) (rest : List (ℕ × ℕ)) → turn (reading s number file rest) empty ≡ readOn s rest
+  unfolding turn afterRecord goesOn
+  empty-read number file rest =
+      pick-yes _ _ _ (ap (λ (n : ℕ). eqb n 0) (empty-right (λ tag. isSome (s .facts tag))))
+      ∙ ap (λ (x : Situation). readOn x rest) nothing-new
+
+-- ---- as many records as are named
+
+-- these records, each answered so
+abbrev readAs : List ℕ → List (ℕ × ℕ) → List Entry
+readAs a [] = []
+readAs a (r ∷ rest) = exchange (recordCommand (r .0) (r .1)) a ++ readAs a rest
+
+two-each : (a : List ℕ) (rs : List (ℕ × ℕ)) → length (readAs a rs) ≡ 2 * length rs
+two-each a [] = refl
+two-each a (r ∷ rest) = let others = two-each a rest in omega arith
+
+empty-payload : isPayload empty ≡ true
+unfolding reached
+empty-payload = refl
+
+-- empty records lead to where the last record leads
+read-empty : (s : Situation) (rs : List (ℕ × ℕ)) {es : List Entry} → Plays (allRead s) es → Plays (readOn s rs) (readAs empty rs ++ es)
+unfolding readOn commandOf
+read-empty s [] play = play
+read-empty s (r ∷ rest) {es} play =
+    exchanged refl empty-payload
+    (subst (λ (p : Phase). Plays p (readAs empty rest ++ es)) (sym (empty-read s (r .0) (r .1) rest)) (read-empty s rest play))
+
+-- ---- the session
+
+-- the AFL: each file's byte and its last record, from record 1 on
+abbrev locator : List (ℕ × ℕ) → List ℕ
+locator [] = []
+locator (f ∷ files) = f .0 ∷ 0x01 ∷ f .1 ∷ 0x00 ∷ locator files
+
+-- a record's number is one byte, so a file has at most 255
+abbrev files : List (ℕ × ℕ)
+files = (0x08, mostRecords / 2) ∷ (0x10, mostRecords - mostRecords / 2) ∷ []
+
 abbrev located : List ℕ
 located =
-    0x77 ∷ 0x0E ∷ 0x82 ∷ 0x02 ∷ 0x00 ∷ 0x00 ∷ 0x94 ∷ 0x08
-    ∷ 0x08 ∷ 0x01 ∷ half ∷ 0x00
-    ∷ 0x10 ∷ 0x01 ∷ others ∷ 0x00
-    ∷ 0x90 ∷ 0x00
-    ∷ []
+    0x77 ∷ (6 + length (locator files)) ∷ 0x82 ∷ 0x02 ∷ 0x00 ∷ 0x00 ∷ 0x94 ∷ length (locator files) ∷ (locator files ++ (0x90 ∷ 0x00 ∷ []))
 
--- so many records that tell nothing, from a number on; the file stands in the command's fourth byte
-abbrev readEmpty : ℕ → ℕ → ℕ → List Entry
-readEmpty file n zero = []
-readEmpty file n (suc k) = exchange (0x00 ∷ 0xB2 ∷ n ∷ file ∷ 0x00 ∷ []) (0x70 ∷ 0x00 ∷ 0x90 ∷ 0x00 ∷ []) ++ readEmpty file (suc n) k
+-- START, SELECT and GPO, for a card with a 9F38
+abbrev before : List Entry
+before = entry start (startOf 2) ∷ (exchange select withList ++ exchange withNumber located)
+
+abbrev full : List ℕ
+full = recorded number
+
+-- both GENERATE AC, with HOST between them, and the decision
+abbrev afterwards : List Entry
+afterwards =
+    exchange (firstAsked tc) (given arqc)
+    ++ (entry host (1 ∷ 0x30 ∷ 0x30 ∷ []) ∷ (exchange (secondAsked tc) (given tc) ++ decides 1 0 0x80 0x20))
+
+abbrev optioned : Situation
+optioned = withProfile (begun (readingOf (startOf 2))) (0x00 ∷ 0x00 ∷ [])
+
+before-run : run before (at opens) ≡ some (at (readOn optioned (toRead (locator files))))
+unfolding reached
+before-run = refl
+
+afterwards-run : run afterwards (at (allRead (withRecord optioned full))) ≡ some done
+unfolding reached
+afterwards-run = refl
+
+full-payload : isPayload full ≡ true
+unfolding reached
+full-payload = refl
+
+full-right : recordReason (λ tag. isSome (optioned .facts tag)) full ≡ 0
+unfolding reached
+full-right = refl
+
+full-read : (number file : ℕ) (rest : List (ℕ × ℕ)) → turn (reading optioned number file rest) full ≡ readOn (withRecord optioned full) rest
+unfolding turn afterRecord goesOn
+full-read number file rest = pick-yes _ _ _ (ap (λ (n : ℕ). eqb n 0) full-right)
+
+-- the records: the first tells all, the others nothing
+abbrev records : List (ℕ × ℕ) → List Entry
+records [] = []
+records (r ∷ rest) = readAs full (r ∷ []) ++ readAs empty rest
+
+records-long : (rs : List (ℕ × ℕ)) → length (records rs) ≡ 2 * length rs
+records-long [] = refl
+records-long (r ∷ rest) = let others = two-each empty rest in omega arith
+
+records-read : (rs : List (ℕ × ℕ)) → 1 ≤ length rs → Plays (readOn optioned rs) (records rs ++ afterwards)
+unfolding readOn commandOf
+records-read [] some-named = absurd (omega arith)
+records-read (r ∷ rest) some-named =
+    exchanged refl full-payload
+    (subst (λ (p : Phase). Plays p (readAs empty rest ++ afterwards)) (sym (full-read (r .0) (r .1) rest))
+    (read-empty (withRecord optioned full) rest (ends-follow afterwards (at (allRead (withRecord optioned full))) afterwards-run)))
 
 abbrev pub fullest : List Entry
-fullest =
-    entry start (startOf 2)
-    ∷ (exchange select selected
-    ++ (exchange options located
-    ++ (exchange readOne (recorded number)
-    ++ (readEmpty 0x0C 2 (half - 1)
-    ++ (readEmpty 0x14 1 others
-    ++ (exchange (firstAsked tc) (given arqc)
-    ++ (entry host (1 ∷ 0x30 ∷ 0x30 ∷ []) ∷ (exchange (secondAsked tc) (given tc) ++ decides 1 0 0x80 0x20))))))))
+fullest = before ++ (records (toRead (locator files)) ++ afterwards)
+
+most-named : length (toRead (locator files)) ≡ mostRecords
+unfolding reached
+most-named = read-length (locator files)
+
+fullest-played : Session fullest
+unfolding andOn
+fullest-played =
+    let play = records-read (toRead (locator files)) (let n = most-named in omega arith) in
+    let σ = at (readOn optioned (toRead (locator files))) in
+    run-session fullest
+    (run-append before (records (toRead (locator files)) ++ afterwards) (at opens)
+    ∙ (ap (andOn (run (records (toRead (locator files)) ++ afterwards))) before-run
+    ∙ follows-ends (records (toRead (locator files)) ++ afterwards) σ play))
 
 pub bound-reached : Session fullest × (length fullest ≡ longest)
-unfolding reached
-bound-reached = (reads fullest refl, refl)
+bound-reached = (
+  fullest-played,
+  (let n = most-named in
+      let read = records-long (toRead (locator files)) in
+      let both = length-append (records (toRead (locator files))) afterwards in
+      omega arith),
+)

@@ -60,6 +60,14 @@ profiled profile first last = 0x77 ∷ 0x0A ∷ 0x82 ∷ 0x02 ∷ profile ∷ 0x
 abbrev pub optioned : ℕ → ℕ → List ℕ
 optioned first last = profiled 0x00 first last
 
+-- an answer to SELECT whose 9F38 asks for the unpredictable number, and the GPO that then is due
+abbrev pub withList : List ℕ
+withList =
+    0x6F ∷ 0x0F ∷ 0x84 ∷ 0x05 ∷ 0xA0 ∷ 0 ∷ 0 ∷ 0 ∷ 3 ∷ 0xA5 ∷ 0x06 ∷ 0x9F ∷ 0x38 ∷ 0x03 ∷ 0x9F ∷ 0x37 ∷ 0x04 ∷ 0x90 ∷ 0x00 ∷ []
+
+abbrev pub withNumber : List ℕ
+withNumber = 0x80 ∷ 0xA8 ∷ 0x00 ∷ 0x00 ∷ 0x06 ∷ 0x83 ∷ 0x04 ∷ 0x11 ∷ 0x22 ∷ 0x33 ∷ 0x44 ∷ 0x00 ∷ []
+
 -- READ RECORD, and a record with all that is mandatory and action codes of zeros; its 8C is three bytes, and its 8D is empty where
 -- nothing else is said
 abbrev pub readOne : List ℕ

@@ -16,7 +16,7 @@ use Rattle.rulebook.specs.Session.{Session, Open, BreaksAt}
 use Rattle.rulebook.proofs.Opening.{reached}
 use Rattle.rulebook.proofs.Breaks.{begins-empty}
 use Rattle.rulebook.specs.Roles.{given, Kernel, RightKernel, Verdict, pass, inconclusive, fail, Judge, RightJudge}
-use Rattle.rulebook.proofs.Made.{startOf, select, selected, options, optioned, readOne, recorded, number, firstAsked, secondAsked, given as cryptogram, aac, tc, arqc, decides, exchange, opening, reads, breaks}
+use Rattle.rulebook.proofs.Made.{startOf, select, selected, withList, options, withNumber, optioned, readOne, recorded, number, firstAsked, secondAsked, given as cryptogram, aac, tc, arqc, decides, exchange, opening, reads, breaks}
 use Rattle.rulebook.proofs.Sessions.{offline, approved-offline, approved-online, declined-online, other-list}
 
 -- ---- kernels
@@ -105,14 +105,6 @@ not-settled s p k right f wrong =
 
 differ : (i : ℕ) (c d : List ℕ) → eqb (getD c i 0) (getD d i 0) ≡ false → c ≡ d → ⊥
 differ i c d h e = eqb-false (getD c i 0) (getD d i 0) h (ap (λ (l : List ℕ). getD l i 0) e)
-
--- an answer to SELECT whose 9F38 asks for the unpredictable number, and the GPO that then is due
-abbrev withList : List ℕ
-withList =
-    0x6F ∷ 0x0F ∷ 0x84 ∷ 0x05 ∷ 0xA0 ∷ 0 ∷ 0 ∷ 0 ∷ 3 ∷ 0xA5 ∷ 0x06 ∷ 0x9F ∷ 0x38 ∷ 0x03 ∷ 0x9F ∷ 0x37 ∷ 0x04 ∷ 0x90 ∷ 0x00 ∷ []
-
-abbrev withNumber : List ℕ
-withNumber = 0x80 ∷ 0xA8 ∷ 0x00 ∷ 0x00 ∷ 0x06 ∷ 0x83 ∷ 0x04 ∷ 0x11 ∷ 0x22 ∷ 0x33 ∷ 0x44 ∷ 0x00 ∷ []
 
 -- no bytes end it
 abbrev ending : List Entry
