@@ -23,9 +23,9 @@ use Rattle.rulebook.specs.Turn.{opened, allowed, after}
 use Rattle.rulebook.specs.Session.{isPayload}
 use Rattle.rulebook.specs.Machine.{at}
 use Rattle.rulebook.proofs.Made.{startOf, tc, aac, given as cryptogram, opening, exchange, firstAsked}
-use Rattle.rulebook.proofs.Sessions.{offline, approved-offline}
+use Rattle.rulebook.proofs.Offline.{offline, approved-offline}
 use Rattle.rulebook.proofs.Trichotomy.{snoc-same}
-use Rattle.rulebook.proofs.ShutOut.{Parts, not-terminating, not-always-aac, not-idle, not-settled}
+use Rattle.rulebook_worked.proofs.ShutOut.{Parts, not-terminating, not-always-aac, not-idle, not-settled}
 use Rattle.session_phase.specs.Waiting.{kindOf, isDecided, outcomeOf}
 use Rattle.session_phase.specs.declared.Speaker.the-variants.{Terminal}
 use Rattle.session_state.specs.Results.{decisionIn}

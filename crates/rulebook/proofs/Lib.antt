@@ -13,10 +13,8 @@ pub mod States
 pub mod Roles
 pub mod Opening
 pub mod Made
-pub mod Sessions
-pub mod WrittenOut
+pub mod Offline
 pub mod Longest
-pub mod ShutOut
-pub mod SeenErrors
+pub mod LastEntry
 pub mod Payloads
 pub mod Theorem

@@ -72,29 +72,30 @@ use Rattle.dol_values.specs.Known.{ownField as o230, valueBy as o231, valueFor 
 use Rattle.dol_values.specs.Shape.{shaped as o235, formatOf as o236}
 use Rattle.dol_fill.specs.Filled.{entryBytes as o237, firstBytes as o238, filled as o239, filledBy as o240, filledList as o241}
 use Rattle.dol_fill.specs.Filled.{filling as o242, missing as o243, missingIn as o244, missingBy as o245, unsupplied as o246}
-use Rattle.commands.specs.Commands.{selectCommand as o247, optionsCommand as o248, recordCommand as o249, withLength as o250}
-use Rattle.commands.specs.Commands.{cryptogramCommand as o251, sizeIn as o252, dataSize as o253}
-use Rattle.answer_select.specs.Select.{inner as o254, pdolOf as o255, begins as o256, nameWrong as o257, selectTwice as o258}
-use Rattle.answer_select.specs.Select.{selectWrong as o259, selectLines as o260, selectReason as o261}
-use Rattle.answer_record.specs.Records.{again as o262, anyAgain as o263, recordTwice as o264, recordLines as o265}
-use Rattle.answer_record.specs.Records.{recordReason as o266, valueIn as o267, namedIn as o268, incomplete as o269}
-use Rattle.answer_record.specs.Records.{completeReason as o270, afterRecords as o271}
-use Rattle.answer_forms.specs.Cryptogram.{informationOf as o272, cryptogramOf as o273, cryptogramWrong as o274}
-use Rattle.answer_forms.specs.Cryptogram.{cryptogramLines as o275, cryptogramReason as o276, allows as o277}
-use Rattle.answer_forms.specs.Forms.{lacks as o278}
-use Rattle.answer_forms.specs.Options.{profileOf as o279, locatorOf as o280, optionsWrong as o281, optionsLines as o282}
-use Rattle.answer_forms.specs.Options.{optionsReason as o283}
-use Rattle.rulebook.specs.Machine.{due as o284, sayable as o285, next as o286, andOn as o287}
-use Rattle.rulebook.specs.Phase.{situationOf as o288, commandOf as o289, dueKind as o290, decisionOf as o291}
-use Rattle.rulebook.specs.Phase.{decided as o292, ended as o293, tvrOf as o294, tsiOf as o295}
-use Rattle.rulebook.specs.Roles.{given as o296}
-use Rattle.rulebook.specs.Session.{isPayload as o297, phasesOf as o298}
-use Rattle.rulebook.specs.Situation.{begun as o299, profileKnown as o300, knownIn as o301, listIn as o302}
-use Rattle.rulebook.specs.Turn.{goesOn as o303, opened as o304, selected as o305, managed as o306, requested as o307}
-use Rattle.rulebook.specs.Turn.{allRead as o308, readOn as o309, withProfile as o310, optioned as o311, withRecord as o312}
-use Rattle.rulebook.specs.Turn.{recorded as o313, answered as o314, replied as o315, online as o316, byFirst as o317}
-use Rattle.rulebook.specs.Turn.{firstAllows as o318, secondAllows as o319, firstAnswered as o320, secondAnswered as o321}
-use Rattle.rulebook.specs.Turn.{turn as o322, allowed as o323, replyMade as o324, heard as o325, after as o326}
+use Rattle.dol_fill.specs.Filled.{summed as o247}
+use Rattle.commands.specs.Commands.{selectCommand as o248, optionsCommand as o249, recordCommand as o250, withLength as o251}
+use Rattle.commands.specs.Commands.{cryptogramCommand as o252, sizeIn as o253, dataSize as o254}
+use Rattle.answer_select.specs.Select.{inner as o255, pdolOf as o256, begins as o257, nameWrong as o258, selectTwice as o259}
+use Rattle.answer_select.specs.Select.{selectWrong as o260, selectLines as o261, selectReason as o262}
+use Rattle.answer_record.specs.Records.{again as o263, anyAgain as o264, recordTwice as o265, recordLines as o266}
+use Rattle.answer_record.specs.Records.{recordReason as o267, valueIn as o268, namedIn as o269, incomplete as o270}
+use Rattle.answer_record.specs.Records.{completeReason as o271, afterRecords as o272}
+use Rattle.answer_forms.specs.Cryptogram.{informationOf as o273, cryptogramOf as o274, cryptogramWrong as o275}
+use Rattle.answer_forms.specs.Cryptogram.{cryptogramLines as o276, cryptogramReason as o277, allows as o278}
+use Rattle.answer_forms.specs.Forms.{lacks as o279}
+use Rattle.answer_forms.specs.Options.{profileOf as o280, locatorOf as o281, optionsWrong as o282, optionsLines as o283}
+use Rattle.answer_forms.specs.Options.{optionsReason as o284}
+use Rattle.rulebook.specs.Machine.{due as o285, sayable as o286, next as o287, andOn as o288}
+use Rattle.rulebook.specs.Phase.{situationOf as o289, commandOf as o290, dueKind as o291, decisionOf as o292}
+use Rattle.rulebook.specs.Phase.{decided as o293, ended as o294, tvrOf as o295, tsiOf as o296}
+use Rattle.rulebook.specs.Roles.{given as o297}
+use Rattle.rulebook.specs.Session.{isPayload as o298, phasesOf as o299}
+use Rattle.rulebook.specs.Situation.{begun as o300, profileKnown as o301, knownIn as o302, listIn as o303}
+use Rattle.rulebook.specs.Turn.{goesOn as o304, opened as o305, selected as o306, managed as o307, requested as o308}
+use Rattle.rulebook.specs.Turn.{allRead as o309, readOn as o310, withProfile as o311, optioned as o312, withRecord as o313}
+use Rattle.rulebook.specs.Turn.{recorded as o314, answered as o315, replied as o316, online as o317, byFirst as o318}
+use Rattle.rulebook.specs.Turn.{firstAllows as o319, secondAllows as o320, firstAnswered as o321, secondAnswered as o322}
+use Rattle.rulebook.specs.Turn.{turn as o323, allowed as o324, replyMade as o325, heard as o326, after as o327}
 
 -- the state that a session's entries lead to
 unfoldable pub reached : List Entry → Option Machine
@@ -110,5 +111,5 @@ unfolding o0 o1 o2 o3 o4 o5 o6 o7 o8 o9 o10 o11 o12 o13 o14 o15 o16 o17 o18 o19 
     o245 o246 o247 o248 o249 o250 o251 o252 o253 o254 o255 o256 o257 o258 o259 o260 o261 o262 o263 o264 o265 o266 o267 o268 o269
     o270 o271 o272 o273 o274 o275 o276 o277 o278 o279 o280 o281 o282 o283 o284 o285 o286 o287 o288 o289 o290 o291 o292 o293 o294
     o295 o296 o297 o298 o299 o300 o301 o302 o303 o304 o305 o306 o307 o308 o309 o310 o311 o312 o313 o314 o315 o316 o317 o318 o319
-    o320 o321 o322 o323 o324 o325 o326 run
+    o320 o321 o322 o323 o324 o325 o326 o327 run
 reached es = run es (at opens)

@@ -11,7 +11,7 @@ use Rattle.tape_read.specs.Entries.{Entry, command, silence, decision}
 use Rattle.tape_read.specs.Tapes.{entries, readTape}
 use Rattle.rulebook.specs.Session.{Session, Closed, Open, Lawful}
 use Rattle.rulebook.proofs.Breaks.{after-session, after-closed, break-here}
-use Rattle.rulebook.proofs.SeenErrors.{last-is-decision}
+use Rattle.rulebook.proofs.LastEntry.{last-is-decision}
 use Rattle.verdict.specs.Saying.{says}
 use Rattle.verdict_judged.specs.Judged.{Judges, passes, undecided, fails, Judged, readable, damaged}
 use Rattle.verdict.specs.declared.Verdict.the-variants.{Pass, Fail}

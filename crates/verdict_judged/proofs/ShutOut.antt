@@ -12,8 +12,8 @@ use Rattle.tape_read.proofs.Steps.{read-end, tape-ragged, tape-blocks}
 use Rattle.rulebook.specs.Session.{Open, BreaksAt}
 use Rattle.rulebook.proofs.Breaks.{begins-empty}
 use Rattle.rulebook.proofs.Made.{startOf, select, tc}
-use Rattle.rulebook.proofs.Sessions.{offline, approved-offline}
-use Rattle.rulebook.proofs.ShutOut.{breaks-at-0, breaks-at-1}
+use Rattle.rulebook.proofs.Offline.{offline, approved-offline}
+use Rattle.rulebook_worked.proofs.ShutOut.{breaks-at-0, breaks-at-1}
 use Rattle.verdict.specs.Saying.{says}
 use Rattle.verdict_judged.specs.Judged.{undecided, fails, Judged, readable, damaged}
 use Rattle.verdict.specs.declared.Verdict.{Verdict}

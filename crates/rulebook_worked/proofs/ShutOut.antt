@@ -12,12 +12,13 @@ use lib.ListN.{length, take, getD}
 use borrow.Author.Tests.{eqb-false}
 use Rattle.tlv_list.specs.Objects.{isSome}
 use Rattle.tape_read.specs.Entries.{Entry, entry, start, command, answer, host, decision}
 use Rattle.rulebook.specs.Session.{Session, Open, BreaksAt}
 use Rattle.rulebook.proofs.Opening.{reached}
 use Rattle.rulebook.proofs.Breaks.{begins-empty}
 use Rattle.rulebook.specs.Roles.{given, Kernel, RightKernel, Verdict, pass, inconclusive, fail, Judge, RightJudge}
 use Rattle.rulebook.proofs.Made.{startOf, select, selected, withList, options, withNumber, optioned, readOne, recorded, number, firstAsked, secondAsked, given as cryptogram, aac, tc, arqc, decides, exchange, opening, reads, breaks}
-use Rattle.rulebook.proofs.Sessions.{offline, approved-offline, approved-online, declined-online, other-list}
+use Rattle.rulebook_worked.proofs.Sessions.{approved-online, declined-online, other-list}
+use Rattle.rulebook.proofs.Offline.{offline, approved-offline}
 
 -- ---- kernels
 

@@ -1,27 +1,21 @@
--- Named sessions: one for each outcome, by the terminal types that can have it, and one for each reason. Each is read to its end by
--- computation.
+-- Named sessions: one for each outcome, by the terminal types that can have it (those approved offline are `Offline` of `rulebook`), and
+-- one for each reason. Each is read to its end by computation.
 -- Assumes nothing.
 use mathlib.Core.Path.{refl}
 use mathlib.Core.List.{List, [], _∷_, _++_}
 use Prim.Native.Nat.{ℕ}
 use Rattle.tape_read.specs.Entries.{Entry, entry, start, host, decision}
 use Rattle.rulebook.specs.Session.{Session}
 use Rattle.rulebook.proofs.Opening.{reached}
 use Rattle.rulebook.proofs.Made.{startIn, amountOf, startOf, select, selected, options, optioned, readOne, recordedWith, recorded, expiring, number, firstAsked, secondAsked, given, aac, tc, arqc, decides, exchange, openingWith, opening, reads}
+use Rattle.rulebook.proofs.Offline.{offline}
 
 -- ---- decided sessions
-
-abbrev pub offline : ℕ → ℕ → ℕ → List Entry
-offline kind cid outcome = opening kind ++ (exchange (firstAsked tc) (given cid) ++ decides outcome 0 0x80 0x20)
 
 abbrev pub online : ℕ → ℕ → List ℕ → ℕ → ℕ → List Entry
 online kind first reply second outcome =
     opening kind
     ++ (exchange (firstAsked first) (given arqc) ++ (entry host reply ∷ (exchange (secondAsked second) (given second) ++ decides outcome 0 0x80 0x20)))
-
-pub approved-offline : Session (offline 2 tc 1) × Session (offline 0 tc 1)
-unfolding reached
-approved-offline = (reads _ refl, reads _ refl)
 
 pub declined-offline : Session (offline 2 aac 2) × Session (offline 0 aac 2)
 unfolding reached
@@ -40,11 +34,6 @@ declined-online = (reads _ refl, reads _ refl)
 pub unable : Session (online 1 arqc (3 ∷ 0 ∷ 0 ∷ []) aac 2) × Session (online 2 tc (3 ∷ 0 ∷ 0 ∷ []) tc 1)
 unfolding reached
 unable = (reads _ refl, reads _ refl)
-
--- type 0 has no HOST entry and goes on as unable
-pub offline-only : Session (opening 0 ++ (exchange (firstAsked tc) (given arqc) ++ (exchange (secondAsked tc) (given tc) ++ decides 1 0 0x80 0x20)))
-unfolding reached
-offline-only = reads _ refl
 
 -- ---- terminated sessions, by reason
 

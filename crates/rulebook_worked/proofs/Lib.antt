@@ -1,0 +1,4 @@
+pub mod Sessions
+pub mod WrittenOut
+pub mod ShutOut
+pub mod SeenErrors

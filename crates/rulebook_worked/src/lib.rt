@@ -1,0 +1,1 @@
+// Worked sessions of the rulebook, and what they shut out: see proofs/.
