@@ -10,7 +10,7 @@ use native.Mathlib.Omega.{arith}
 use lib.ListN.{length, drop, length-append}
 use borrow.Author.Tests.{leb-true, le-leb, eqb-true, eq-eqb}
 use Rattle.slices.proofs.Tests.{held, last, first-held}
-use Rattle.answer_afl.specs.Entries.{Entry, firstEntry, entries, wholeEntries, sfi, records, recordsOf, recordCount, run, readEntry, readAll, toRead}
+use Rattle.answer_afl.specs.Entries.{Entry, firstEntry, entries, wholeEntries, sfi, records, recordsOf, recordCount, run, readEntry, readAll, toRead, AndEntries}
 
 pub entries-more : (s : List ℕ) → 4 ≤ length s → entries s ≡ firstEntry s ∷ entries (drop 4 s)
 unfolding entries firstEntry
@@ -62,10 +62,6 @@ all-length (e ∷ es) =
 pub read-length : (s : List ℕ) → length (toRead s) ≡ recordCount s
 unfolding toRead recordCount
 read-length s = all-length (entries s)
-
--- so many bytes, and 4n more, n from 1
-abbrev pub AndEntries : ℕ → List ℕ → Type 0
-AndEntries k v = (n : ℕ) × (1 ≤ n) × (length v ≡ k + 4 * n)
 
 pub whole-exactly : (v : List ℕ) → (wholeEntries v ≡ true) ↔ AndEntries 0 v
 unfolding wholeEntries

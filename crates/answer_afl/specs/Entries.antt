@@ -1,8 +1,9 @@
 -- The application file locator (AFL): which records the card wants read. 01, "What the card must answer", reasons 6 and 7.
 -- Assumes nothing.
+use mathlib.Core.Path.{_≡_}
 use mathlib.Core.Bool.{Bool}
 use mathlib.Core.List.{List, [], _∷_, _++_, map}
-use Prim.Native.Nat.{ℕ, zero, suc, _+_, _-_, _/_, _%_}
+use Prim.Native.Nat.{ℕ, zero, suc, _+_, _*_, _-_, _/_, _%_, _≤_}
 use lib.Dec.{leb, ltb, eqb}
 use lib.ListN.{length, getD}
 use Rattle.slices.specs.Tests.{every, between}
@@ -29,6 +30,10 @@ entries (a ∷ b ∷ c ∷ d ∷ rest) = firstEntry (a ∷ b ∷ c ∷ d ∷ [])
 -- a whole number of entries, one at least
 unfoldable pub wholeEntries : List ℕ → Bool
 wholeEntries v = every (leb 4 (length v) ∷ eqb (length v % 4) 0 ∷ [])
+
+-- so many bytes, and 4n more, n from 1
+abbrev pub AndEntries : ℕ → List ℕ → Type 0
+AndEntries k v = (n : ℕ) × (1 ≤ n) × (length v ≡ k + 4 * n)
 
 -- the file's short identifier
 unfoldable pub sfi : Entry → ℕ

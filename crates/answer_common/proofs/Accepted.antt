@@ -15,6 +15,7 @@ use Rattle.slices.specs.Tables.{anyOf}
 use Rattle.answer_common.specs.Content.{rightValue}
 use Rattle.answer_common.specs.Answer.{sizeBad, statusBad, isOne, outerBad, frame}
 use Rattle.answer_common.specs.Named.{listed, times, wrongValue, anyTimes, anyWrong}
+use Rattle.answer_common.specs.Right.{Framed}
 use Rattle.slices.proofs.Tables.{or-no}
 use Rattle.answer_common.proofs.Alike.{listed-first, listed-also}
 use Rattle.answer_common.proofs.Lines.{Numbered, line-clear}
@@ -55,14 +56,6 @@ no-reason (line ∷ lines) c = pick-no _ _ _ (c .0) ∙ no-reason lines (c .1)
 pub none-applies : (lines : List (Bool × ℕ)) → Numbered lines → firstOf lines ≡ 0 → AllClear lines
 none-applies [] n e = tt
 none-applies (line ∷ lines) n e = let clear = line-clear (line .0) (line .1) lines (n .0) e in (clear .0, none-applies lines (n .1) (clear .1))
-
--- an answer that passes the lines for every answer
-pub record Framed (expected a : List ℕ) : Type 0 where
-  pub fewest : 2 ≤ length a
-  pub most : length a ≤ 258
-  pub first : getD a (length a - 2) 0 ≡ 0x90
-  pub second : getD a (length a - 1) 0 ≡ 0x00
-  pub one : anyOf (map (λ tag. isOne tag a) expected) ≡ true
 
 module _ (expected a : List ℕ) where
   pub frame-accepted : AllClear (frame expected a) → Framed expected a

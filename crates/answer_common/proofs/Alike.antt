@@ -13,6 +13,7 @@ use Rattle.tlv_list.specs.Objects.{Object}
 use Rattle.tlv_list.specs.Lookup.{Lookup, absent, once, twice, met, lookup}
 use Rattle.slices.specs.Tables.{anyOf}
 use Rattle.answer_common.specs.Answer.{sizeBad, statusBad, outerBad, frame}
+use Rattle.answer_common.specs.Right.{Alike}
 use Rattle.answer_common.specs.Named.{membersIn, listed, named, among, times, wrongValue, anyTimes, anyWrong}
 
 pub listed-first : (n : ℕ) (ns : List ℕ) → listed n (n ∷ ns) ≡ true
@@ -87,14 +88,6 @@ tags-alike names s t e name l =
     ap times (sym (lookup-named names name l (membersIn s)))
     ∙ (times-tally name (named names (membersIn s))
     ∙ (ap (tally name) e ∙ (sym (times-tally name (named names (membersIn t))) ∙ ap times (lookup-named names name l (membersIn t)))))
-
--- two answers of a right size, with the same status, each of one object that is expected
-pub record Alike (expected a b : List ℕ) : Type 0 where
-  pub first-size : sizeBad a ≡ false
-  pub second-size : sizeBad b ≡ false
-  pub status : statusBad a ≡ statusBad b
-  pub first-one : outerBad expected a ≡ false
-  pub second-one : outerBad expected b ≡ false
 
 pub frame-alike : (expected a b : List ℕ) → Alike expected a b → (x y : List (Bool × ℕ)) → firstOf x ≡ firstOf y
     → firstOf (frame expected a ++ x) ≡ firstOf (frame expected b ++ y)

@@ -15,26 +15,11 @@ use Rattle.tlv_list.specs.Lookup.{Lookup, absent, once, twice}
 use Rattle.slices.specs.Tables.{anyOf}
 use Rattle.answer_common.specs.Content.{meets, ruleFor, rightValue}
 use Rattle.answer_common.specs.Named.{listed, times, anyTimes, anyWrong}
+use Rattle.answer_common.specs.Right.{There, MayBe, Right, Sized}
 use Rattle.answer_common.specs.declared.content.Rule.{Rule}
 use Rattle.answer_common.specs.declared.content.Rule.the-variants.{Sizes}
 use Rattle.answer_common.proofs.Limits.{between-in}
 use Rattle.answer_common.proofs.Accepted.{named-times, named-right, times-none, wrong-none}
-
--- one value stands there, and it is as P says
-abbrev pub There : (List ℕ → Type 0) → Lookup → Type 0
-There P l = (v : List ℕ) × (l ≡ once v) × P v
-
--- none does, or one as P says
-abbrev pub MayBe : (List ℕ → Type 0) → Lookup → Type 0
-MayBe P l = (l ≡ absent) ⊎ There P l
-
--- as the table of rules wants it under a name
-abbrev pub Right : ℕ → List ℕ → Type 0
-Right name v = rightValue name v ≡ true
-
--- a number of bytes between two limits
-abbrev pub Sized : ℕ → ℕ → List ℕ → Type 0
-Sized fewest most v = (fewest ≤ length v) × (length v ≤ most)
 
 pub of-size : (name fewest most : ℕ) (v : List ℕ) → ruleFor name ≡ Sizes fewest most → Sized fewest most v → Right name v
 unfolding rightValue meets

@@ -4,3 +4,4 @@ pub mod CardNumber
 pub mod Content
 pub mod Answer
 pub mod Named
+pub mod Right

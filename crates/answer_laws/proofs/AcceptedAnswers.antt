@@ -18,10 +18,11 @@ use Rattle.answer_afl.specs.Entries.{mostRecords, wholeEntries, entriesRight, r
 use Rattle.slices.specs.Tables.{anyOf, beside}
 use Rattle.answer_common.specs.Content.{rules, ruleFor, rightValue, meets, recordTag, recordNames, mandatory}
 use Rattle.answer_common.specs.Answer.{isOne, inside, frame}
+use Rattle.answer_common.specs.Right.{Framed}
 use Rattle.answer_common.specs.Named.{listed, direct, times, told, valueOf, anyTimes, anyWrong}
 use Rattle.slices.proofs.Tables.{and-yes}
 use Rattle.answer_common.proofs.Lines.{Numbered}
-use Rattle.answer_common.proofs.Accepted.{AllClear, none-applies, or-clear, any-clear, Framed, frame-accepted, named-once, named-right}
+use Rattle.answer_common.proofs.Accepted.{AllClear, none-applies, or-clear, any-clear, frame-accepted, named-once, named-right}
 use Rattle.answer_common.proofs.Sizes.{sized}
 use Rattle.answer_common.proofs.Members.{inside-size, direct-size, inner-size}
 use Rattle.answer_forms.specs.Forms.{template, joined, bothForms, lacks}

@@ -19,18 +19,16 @@ use Rattle.answer_afl.specs.Entries.{wholeEntries, entriesRight, tooMany}
 use Rattle.slices.specs.Tables.{anyOf, beside}
 use Rattle.answer_common.specs.Content.{meets, rules, ruleFor, rightValue, recordTag, recordNames}
 use Rattle.answer_common.specs.Answer.{isOne, inside}
+use Rattle.answer_common.specs.Right.{Alike}
 use Rattle.answer_common.specs.Named.{membersIn, listed, named, among, direct, times, told, valueOf, wrongValue, anyTimes, anyWrong}
 use Rattle.answer_common.proofs.Lines.{one-more}
-use Rattle.answer_common.proofs.Alike.{any-alike, times-alike, wrong-alike, named-alike, tags-alike, Alike, frame-alike}
+use Rattle.answer_common.proofs.Alike.{any-alike, times-alike, wrong-alike, named-alike, tags-alike, frame-alike}
 use Rattle.answer_forms.specs.Forms.{template, joined, bothForms, lacks}
 use Rattle.answer_select.specs.Select.{selectTag, selectNames, innerNames, inner, pdolOf, nameWrong, selectTwice, selectWrong, selectLines, selectReason}
 use Rattle.answer_forms.specs.Options.{optionNames, profileOf, locatorOf, optionsWrong, optionsLines, optionsReason}
 use Rattle.answer_record.specs.Records.{again, anyAgain, recordTwice, recordLines, recordReason, valueIn}
 use Rattle.answer_forms.specs.Cryptogram.{mandatoryNames, cryptogramNames, informationOf, cryptogramOf, cryptogramWrong, cryptogramLines, cryptogramReason}
-
--- the same named members, in the same order, in two runs of bytes
-abbrev pub SameNamed : List ℕ → List ℕ → List ℕ → Type 0
-SameNamed names s t = named names (membersIn s) ≡ named names (membersIn t)
+use Rattle.answer_laws.specs.AlikeAnswers.{SameNamed, SelectAlike, FormAlike}
 
 -- a choice between the forms that agrees in both
 by-form : {t t′ : Bool} {x x′ y y′ : List ℕ} → t ≡ t′ → x ≡ x′ → y ≡ y′ → pick t x y ≡ pick t′ x′ y′
@@ -75,14 +73,6 @@ module _ (before : ℕ → Bool) (a b : List ℕ) (alike : Alike (recordTag ∷ 
   unfolding valueIn
   record-facts name l = ap told (under name l)
 
--- SELECT: the same named members in 6F and in A5, in the same order, with the same values; of A5 itself its members stand for
--- its value
-pub record SelectAlike (a b : List ℕ) : Type 0 where
-  pub frames : Alike (selectTag ∷ []) a b
-  pub members : map (λ m. m .tag) (named selectNames (membersIn (inside selectTag a))) ≡ map (λ m. m .tag) (named selectNames (membersIn (inside selectTag b)))
-  pub name : SameNamed (0x84 ∷ []) (inside selectTag a) (inside selectTag b)
-  pub within : SameNamed innerNames (valueOf (direct selectTag a 0xA5)) (valueOf (direct selectTag b 0xA5))
-
 module _ (t : Terminal) (a b : List ℕ) (same : SelectAlike a b) where
   as-often : (name : ℕ) → listed name selectNames ≡ true → times (direct selectTag a name) ≡ times (direct selectTag b name)
   unfolding direct
@@ -116,14 +106,6 @@ module _ (t : Terminal) (a b : List ℕ) (same : SelectAlike a b) where
       (one-more 5 _ _ (ap₂ _||_ outer-wrong (ap₂ _||_ (wrong-alike innerNames _ _ inner-same) (ap (nameWrong (t .aid)) name-same)))
       (one-more 8 _ _ (times-alike selectNames _ _ 0 as-often)
       (one-more 9 [] [] (ap (λ (v : List ℕ). not (fillable v)) select-facts) refl))))
-
--- GPO and GENERATE AC: the same form; in a template the same named members, in the same order, else the same joined values
-pub record FormAlike (names a b : List ℕ) : Type 0 where
-  pub frames : Alike bothForms a b
-  pub is-template : isOne template a ≡ isOne template b
-  pub is-joined : isOne joined a ≡ isOne joined b
-  pub members : SameNamed names (inside template a) (inside template b)
-  pub values : inside joined a ≡ inside joined b
 
 module _ (names a b : List ℕ) (same : FormAlike names a b) where
   in-form : (name : ℕ) → listed name names ≡ true → direct template a name ≡ direct template b name

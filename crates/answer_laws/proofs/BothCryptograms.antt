@@ -22,29 +22,12 @@ use Rattle.slices.proofs.Tables.{or-no, and-yes, and-no}
 use Rattle.answer_common.proofs.Lines.{one-more}
 use Rattle.answer_common.proofs.Present.{of-size}
 use Rattle.answer_common.proofs.Limits.{between-in, between-above}
-use Rattle.answer_common.proofs.Alike.{Alike, frame-alike}
+use Rattle.answer_common.proofs.Alike.{frame-alike}
 use Rattle.answer_forms.specs.Forms.{template, joined, bothForms, lacks}
 use Rattle.answer_forms.specs.Cryptogram.{mandatoryNames, cryptogramNames, informationOf, cryptogramOf, cryptogramWrong, cryptogramLines, cryptogramReason}
 use Rattle.answer_common.proofs.Absent.{not-direct, one-form}
+use Rattle.answer_laws.specs.AlikeAnswers.{OrMissing, SameCryptogram}
 use Rattle.answer_laws.proofs.BothForms.{itself}
-
--- a value stands there, or it is empty and nothing does
-abbrev pub OrMissing : Lookup → List ℕ → Type 0
-OrMissing l v = (l ≡ once v) ⊎ ((l ≡ absent) × (v ≡ []))
-
--- a joined answer to GENERATE AC, and a template with the same values
-pub record SameCryptogram (a b information counter cryptogram issuer : List ℕ) : Type 0 where
-  pub frames : Alike bothForms a b
-  pub is-joined : isOne joined a ≡ true
-  pub values : inside joined a ≡ information ++ (counter ++ (cryptogram ++ issuer))
-  pub one-byte : length information ≡ 1
-  pub two-bytes : length counter ≡ 2
-  pub eight-bytes : length cryptogram ≡ 8
-  pub is-template : isOne template b ≡ true
-  pub information-told : direct template b 0x9F27 ≡ once information
-  pub counter-told : direct template b 0x9F36 ≡ once counter
-  pub cryptogram-told : direct template b 0x9F26 ≡ once cryptogram
-  pub issuer-told : OrMissing (direct template b 0x9F10) issuer
 
 -- 11 bytes more, and limits that are 11 higher
 shifted : (n : ℕ) → between 11 43 (11 + n) ≡ between 0 32 n

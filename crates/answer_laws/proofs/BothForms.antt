@@ -20,25 +20,16 @@ use Rattle.answer_common.specs.Answer.{isOne, inside}
 use Rattle.answer_common.specs.Named.{direct, times, told, valueOf, wrongValue, anyTimes, anyWrong}
 use Rattle.slices.proofs.Tables.{or-no, and-yes, and-no}
 use Rattle.answer_common.proofs.Lines.{one-more}
-use Rattle.answer_common.proofs.Alike.{Alike, frame-alike}
+use Rattle.answer_common.proofs.Alike.{frame-alike}
 use Rattle.answer_forms.specs.Forms.{template, joined, bothForms, lacks}
 use Rattle.answer_forms.specs.Options.{optionNames, profileOf, locatorOf, optionsWrong, optionsLines, optionsReason}
 use Rattle.answer_common.proofs.Absent.{not-direct, one-form}
+use Rattle.answer_laws.specs.AlikeAnswers.{SameOptions}
 
 pub itself : (t : Bool) → pick t true false ≡ t
 unfolding pick
 itself true = refl
 itself false = refl
-
--- a joined answer to GPO, and a template with the same values
-pub record SameOptions (a b profile locator : List ℕ) : Type 0 where
-  pub frames : Alike bothForms a b
-  pub is-joined : isOne joined a ≡ true
-  pub values : inside joined a ≡ profile ++ locator
-  pub two : length profile ≡ 2
-  pub is-template : isOne template b ≡ true
-  pub profile-told : direct template b 0x82 ≡ once profile
-  pub locator-told : direct template b 0x94 ≡ once locator
 
 module _ (a b profile locator : List ℕ) (same : SameOptions a b profile locator) where
   not-joined : isOne joined b ≡ false

@@ -14,13 +14,15 @@ use Rattle.dol_wanted.specs.Wanted.{wantedStep, entriesOf, total, fits, fillabl
 use Rattle.slices.specs.Tables.{anyOf, beside}
 use Rattle.answer_common.specs.Content.{meets, rules, ruleFor, rightValue, recordTag, recordNames, mandatory}
 use Rattle.answer_common.specs.Answer.{frame}
+use Rattle.answer_common.specs.Right.{Framed, There, MayBe, Right, Sized}
 use Rattle.answer_common.specs.Named.{listed, direct, times, told, valueOf, anyTimes, anyWrong}
 use Rattle.slices.proofs.Tables.{or-no, and-no}
 use Rattle.answer_common.proofs.Sizes.{sized}
-use Rattle.answer_common.proofs.Accepted.{AllClear, no-reason, or-clear, any-none, Framed, frame-right}
-use Rattle.answer_common.proofs.Present.{There, MayBe, Right, Sized, of-size, there-so, may-be-so, may-be, none-twice, none-wrong, none-missing, by-name}
+use Rattle.answer_common.proofs.Accepted.{AllClear, no-reason, or-clear, any-none, frame-right}
+use Rattle.answer_common.proofs.Present.{of-size, there-so, may-be-so, may-be, none-twice, none-wrong, none-missing, by-name}
 use Rattle.answer_select.specs.Select.{selectTag, selectNames, innerNames, inner, pdolOf, begins, nameWrong, selectTwice, selectWrong, selectLines, selectReason}
 use Rattle.answer_record.specs.Records.{again, anyAgain, recordTwice, recordLines, recordReason, valueIn, incomplete, completeReason}
+use Rattle.answer_laws.specs.RightAnswers.{RightSelect, RightRecord, RightRecords}
 use Rattle.answer_laws.proofs.AcceptedAnswers.{select-clear, select-framed, select-name, select-inner, select-list, record-clear, record-framed, record-told, complete-told, complete-list}
 
 -- no line applies, the first three neither
@@ -29,13 +31,6 @@ unfolding frame
 no-line expected a lines f c =
     let first = frame-right expected a f in
     no-reason (frame expected a ++ lines) (first .0, (first .1 .0, (first .1 .1 .0, c)))
-
--- SELECT: 6F with 84, which begins with the AID, and A5; in A5 there may be 9F38, which can be filled
-pub record RightSelect (aid a : List ℕ) : Type 0 where
-  pub framed : Framed (selectTag ∷ []) a
-  pub name : There (λ v. Sized 5 16 v × (begins aid v ≡ true)) (direct selectTag a 0x84)
-  pub proprietary : There (λ v. Unit {0}) (direct selectTag a 0xA5)
-  pub list : MayBe (λ v. Sized 0 252 v × (fillable v ≡ true)) (inner a 0x9F38)
 
 module _ (t : Terminal) (a : List ℕ) where
   select-right : selectReason t a ≡ 0 → RightSelect (t .aid) a
@@ -81,11 +76,6 @@ module _ (t : Terminal) (a : List ℕ) where
   pub select-exactly : (selectReason t a ≡ 0) ↔ RightSelect (t .aid) a
   select-exactly = (select-right, right-select)
 
--- Record: 70, in which each named object that stands there does so once, rightly, and was not told before
-pub record RightRecord (before : ℕ → Bool) (a : List ℕ) : Type 0 where
-  pub framed : Framed (recordTag ∷ []) a
-  pub told : (name : ℕ) → listed name recordNames ≡ true → MayBe (λ v. Right name v × (before name ≡ false)) (direct recordTag a name)
-
 module _ (before : ℕ → Bool) (a : List ℕ) where
   record-right : recordReason before a ≡ 0 → RightRecord before a
   unfolding recordLines recordTwice valueIn told
@@ -117,11 +107,6 @@ module _ (before : ℕ → Bool) (a : List ℕ) where
 
   pub record-exactly : (recordReason before a ≡ 0) ↔ RightRecord before a
   record-exactly = (record-right, right-record)
-
--- After the last record: all that is mandatory was told, and the first object list can be filled
-pub record RightRecords (there : ℕ → Bool) (list : List ℕ) : Type 0 where
-  pub told : (name : ℕ) → listed name mandatory ≡ true → there name ≡ true
-  pub list-right : fillable list ≡ true
 
 pub complete-exactly : (there : ℕ → Bool) (list : List ℕ) → (completeReason there list ≡ 0) ↔ RightRecords there list
 unfolding completeReason incomplete

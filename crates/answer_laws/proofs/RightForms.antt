@@ -13,20 +13,22 @@ use borrow.Author.Tests.{not-false, le-ltb}
 use Rattle.slices.specs.Choice.{pick}
 use Rattle.slices.proofs.Choice.{pick-yes, either}
 use Rattle.answer_afl.specs.Entries.{entriesRight, mostRecords, recordCount, tooMany}
-use Rattle.answer_afl.proofs.Counting.{AndEntries, whole-exactly}
+use Rattle.answer_afl.proofs.Counting.{whole-exactly}
 use Rattle.slices.specs.Tables.{anyOf, beside}
 use Rattle.answer_common.specs.Content.{meets, rules, ruleFor, rightValue}
 use Rattle.answer_common.specs.Answer.{isOne, inside}
+use Rattle.answer_common.specs.Right.{There, MayBe, Right}
 use Rattle.answer_common.specs.Named.{listed, direct, anyTimes, anyWrong}
 use Rattle.slices.proofs.Tables.{or-no, and-yes, and-no}
 use Rattle.answer_common.proofs.Limits.{between-in, bounds}
 use Rattle.answer_common.proofs.Sizes.{sized}
-use Rattle.answer_common.proofs.Accepted.{or-clear, Framed}
-use Rattle.answer_common.proofs.Present.{There, MayBe, Right, Sized, of-size, there-so, may-be-so, must-be, may-be, none-twice, none-wrong, none-missing, by-name}
+use Rattle.answer_common.proofs.Accepted.{or-clear}
+use Rattle.answer_common.proofs.Present.{of-size, there-so, may-be-so, must-be, may-be, none-twice, none-wrong, none-missing, by-name}
 use Rattle.answer_forms.specs.Forms.{template, joined, bothForms, lacks}
 use Rattle.answer_forms.specs.Options.{optionNames, locatorOf, optionsWrong, optionsLines, optionsReason}
 use Rattle.answer_forms.specs.Cryptogram.{mandatoryNames, cryptogramNames, cryptogramOf, cryptogramWrong, cryptogramLines, cryptogramReason}
 use Rattle.answer_common.proofs.Absent.{not-direct, one-form}
+use Rattle.answer_laws.specs.RightForms.{OptionsApart, OptionsJoined, RightOptions, CryptogramApart, CryptogramJoined, RightCryptogram}
 use Rattle.answer_laws.proofs.AcceptedAnswers.{is-template, options-framed, options-entries, in-template, in-joined, cryptogram-clear, cryptogram-framed, cryptogram-allowed}
 use Rattle.answer_laws.proofs.RightAnswers.{no-line}
 
@@ -48,19 +50,6 @@ module _ (a : List ℕ) where
 
   joined-names : isOne joined a ≡ true → (name : ℕ) → MayBe (Right name) (direct template a name)
   joined-names y name = inl (not-direct template a (not-template y) name)
-
--- GPO: 77 with 82 and 94, or 80 with both values joined
-abbrev pub OptionsApart : List ℕ → Type 0
-OptionsApart a = (isOne template a ≡ true) × There (Sized 2 2) (direct template a 0x82) × There (AndEntries 0) (direct template a 0x94)
-
-abbrev pub OptionsJoined : List ℕ → Type 0
-OptionsJoined a = (isOne joined a ≡ true) × AndEntries 2 (inside joined a)
-
-pub record RightOptions (a : List ℕ) : Type 0 where
-  pub framed : Framed bothForms a
-  pub told : OptionsApart a ⊎ OptionsJoined a
-  pub entries : entriesRight (locatorOf a) ≡ true
-  pub few : recordCount (locatorOf a) ≤ mostRecords
 
 module _ (a : List ℕ) where
   after-two : isOne joined a ≡ true → length (locatorOf a) ≡ length (inside joined a) - 2
@@ -120,22 +109,6 @@ module _ (a : List ℕ) where
 
   pub options-exactly : (optionsReason a ≡ 0) ↔ RightOptions a
   options-exactly = (options-right, right-options)
-
--- GENERATE AC: 77 with 9F27, 9F36, 9F26 and, where the card has any, 9F10, or 80 with the values joined
-pub record CryptogramApart (a : List ℕ) : Type 0 where
-  pub is-apart : isOne template a ≡ true
-  pub information : There (Sized 1 1) (direct template a 0x9F27)
-  pub counter : There (Sized 2 2) (direct template a 0x9F36)
-  pub cryptogram : There (Sized 8 8) (direct template a 0x9F26)
-  pub issuer : MayBe (Sized 0 32) (direct template a 0x9F10)
-
-abbrev pub CryptogramJoined : List ℕ → Type 0
-CryptogramJoined a = (isOne joined a ≡ true) × Sized 11 43 (inside joined a)
-
-pub record RightCryptogram (allowed : ℕ → Bool) (a : List ℕ) : Type 0 where
-  pub framed : Framed bothForms a
-  pub told : CryptogramApart a ⊎ CryptogramJoined a
-  pub as-asked : allowed (cryptogramOf a) ≡ true
 
 module _ (allowed : ℕ → Bool) (a : List ℕ) where
   cryptogram-apart : cryptogramReason allowed a ≡ 0 → isOne template a ≡ true → CryptogramApart a

@@ -10,24 +10,11 @@ use Rattle.tape_read.specs.Entries.{Entry}
 use Rattle.tape_read.specs.Tapes.{entries, unreadable, readTape}
 use Rattle.rulebook.specs.Session.{Session, Open, BreaksAt}
 use Rattle.verdict.specs.Saying.{says}
+use Rattle.verdict_judged.specs.Exactly.{Exactly}
 use Rattle.verdict_judged.specs.Judged.{Judges, passes, undecided, fails, Judged, readable, damaged}
 use Rattle.verdict.specs.declared.Verdict.the-variants.{Pass, Fail, Inconclusive, Unreadable}
 use Rattle.verdict.specs.declared.Answer.{Answer}
 use Rattle.verdict_judged.proofs.Once.{judges-once, judged-once}
-
-pub record Exactly (es : List Entry) (a : Answer) : Type 0 where
-  -- PASS exactly when the entries are a finished session, with their number
-  pub pass : a .verdict ≡ Pass → Session es
-  pub passed : Session es → a ≡ says Pass (length es) 0
-  -- INCONCLUSIVE exactly when they are open, with their number
-  pub inconclusive : a .verdict ≡ Inconclusive → Open es
-  pub left-open : Open es → a ≡ says Inconclusive (length es) 0
-  -- otherwise FAIL, naming the entry at which the rules are first broken
-  pub fail : a .verdict ≡ Fail → BreaksAt es (a .place)
-  pub failed : (Session es → ⊥) → (Open es → ⊥) → a .verdict ≡ Fail
-  -- and never UNREADABLE
-  pub read : a .verdict ≡ Unreadable → ⊥
-  pub code : a .code ≡ 0
 
 module _ (es : List Entry) (a : Answer) where
   is-session : Judges es a → a .verdict ≡ Pass → Session es

@@ -1,4 +1,5 @@
 -- The verdict of a tape, and how it is found entry by entry.
 pub mod Judged
 pub mod Zeroed
+pub mod Exactly
 pub mod Progress
