@@ -3,6 +3,7 @@ pub mod Limits
 pub mod Lines
 pub mod Outer
 pub mod Members
+pub mod Templates
 pub mod Sizes
 pub mod Alike
 pub mod Accepted

@@ -4,4 +4,5 @@ pub mod CardNumber
 pub mod Content
 pub mod Answer
 pub mod Named
+pub mod Forms
 pub mod Right

@@ -25,11 +25,11 @@ use Rattle.answer_common.proofs.Lines.{Numbered}
 use Rattle.answer_common.proofs.Accepted.{AllClear, none-applies, or-clear, any-clear, frame-accepted, named-once, named-right}
 use Rattle.answer_common.proofs.Sizes.{sized}
 use Rattle.answer_common.proofs.Members.{inside-size, direct-size, inner-size}
-use Rattle.answer_forms.specs.Forms.{template, joined, bothForms, lacks}
+use Rattle.answer_common.specs.Forms.{template, joined, bothForms, lacks}
 use Rattle.answer_select.specs.Select.{selectTag, selectNames, innerNames, inner, pdolOf, begins, nameWrong, selectTwice, selectWrong, selectLines, selectReason}
-use Rattle.answer_forms.specs.Options.{optionNames, profileOf, locatorOf, optionsWrong, optionsLines, optionsReason}
+use Rattle.answer_gpo.specs.Options.{optionNames, profileOf, locatorOf, optionsWrong, optionsLines, optionsReason}
 use Rattle.answer_record.specs.Records.{again, anyAgain, recordTwice, recordLines, recordReason, valueIn, incomplete, completeReason}
-use Rattle.answer_forms.specs.Cryptogram.{cryptogramOf, cryptogramLines, cryptogramReason}
+use Rattle.answer_cryptogram.specs.Cryptogram.{cryptogramOf, cryptogramLines, cryptogramReason}
 
 -- the first lines pass, and so do the others
 both-clear : (expected a : List ℕ) (lines : List (Bool × ℕ)) → Numbered lines → firstOf (frame expected a ++ lines) ≡ 0

@@ -23,11 +23,11 @@ use Rattle.answer_common.specs.Right.{Alike}
 use Rattle.answer_common.specs.Named.{membersIn, listed, named, among, direct, times, told, valueOf, wrongValue, anyTimes, anyWrong}
 use Rattle.answer_common.proofs.Lines.{one-more}
 use Rattle.answer_common.proofs.Alike.{any-alike, times-alike, wrong-alike, named-alike, tags-alike, frame-alike}
-use Rattle.answer_forms.specs.Forms.{template, joined, bothForms, lacks}
+use Rattle.answer_common.specs.Forms.{template, joined, bothForms, lacks}
 use Rattle.answer_select.specs.Select.{selectTag, selectNames, innerNames, inner, pdolOf, nameWrong, selectTwice, selectWrong, selectLines, selectReason}
-use Rattle.answer_forms.specs.Options.{optionNames, profileOf, locatorOf, optionsWrong, optionsLines, optionsReason}
+use Rattle.answer_gpo.specs.Options.{optionNames, profileOf, locatorOf, optionsWrong, optionsLines, optionsReason}
 use Rattle.answer_record.specs.Records.{again, anyAgain, recordTwice, recordLines, recordReason, valueIn}
-use Rattle.answer_forms.specs.Cryptogram.{mandatoryNames, cryptogramNames, informationOf, cryptogramOf, cryptogramWrong, cryptogramLines, cryptogramReason}
+use Rattle.answer_cryptogram.specs.Cryptogram.{mandatoryNames, cryptogramNames, informationOf, cryptogramOf, cryptogramWrong, cryptogramLines, cryptogramReason}
 use Rattle.answer_laws.specs.AlikeAnswers.{SameNamed, SelectAlike, FormAlike}
 
 -- a choice between the forms that agrees in both

@@ -23,8 +23,8 @@ use Rattle.answer_common.proofs.Lines.{one-more}
 use Rattle.answer_common.proofs.Present.{of-size}
 use Rattle.answer_common.proofs.Limits.{between-in, between-above}
 use Rattle.answer_common.proofs.Alike.{frame-alike}
-use Rattle.answer_forms.specs.Forms.{template, joined, bothForms, lacks}
-use Rattle.answer_forms.specs.Cryptogram.{mandatoryNames, cryptogramNames, informationOf, cryptogramOf, cryptogramWrong, cryptogramLines, cryptogramReason}
+use Rattle.answer_common.specs.Forms.{template, joined, bothForms, lacks}
+use Rattle.answer_cryptogram.specs.Cryptogram.{mandatoryNames, cryptogramNames, informationOf, cryptogramOf, cryptogramWrong, cryptogramLines, cryptogramReason}
 use Rattle.answer_common.proofs.Absent.{not-direct, one-form}
 use Rattle.answer_laws.specs.AlikeAnswers.{OrMissing, SameCryptogram}
 use Rattle.answer_laws.proofs.BothForms.{itself}

@@ -21,8 +21,8 @@ use Rattle.answer_common.specs.Named.{direct, times, told, valueOf, wrongValue,
 use Rattle.slices.proofs.Tables.{or-no, and-yes, and-no}
 use Rattle.answer_common.proofs.Lines.{one-more}
 use Rattle.answer_common.proofs.Alike.{frame-alike}
-use Rattle.answer_forms.specs.Forms.{template, joined, bothForms, lacks}
-use Rattle.answer_forms.specs.Options.{optionNames, profileOf, locatorOf, optionsWrong, optionsLines, optionsReason}
+use Rattle.answer_common.specs.Forms.{template, joined, bothForms, lacks}
+use Rattle.answer_gpo.specs.Options.{optionNames, profileOf, locatorOf, optionsWrong, optionsLines, optionsReason}
 use Rattle.answer_common.proofs.Absent.{not-direct, one-form}
 use Rattle.answer_laws.specs.AlikeAnswers.{SameOptions}
 

@@ -14,9 +14,9 @@ use Rattle.start_fields.specs.Reading.{Terminal}
 use Rattle.answer_common.specs.Answer.{frame}
 use Rattle.slices.specs.Tables.{anyOf}
 use Rattle.answer_select.specs.Select.{selectLines, selectReason}
-use Rattle.answer_forms.specs.Options.{optionsLines, optionsReason}
+use Rattle.answer_gpo.specs.Options.{optionsLines, optionsReason}
 use Rattle.answer_record.specs.Records.{recordLines, recordReason, incomplete, completeReason, afterRecords}
-use Rattle.answer_forms.specs.Cryptogram.{cryptogramLines, cryptogramReason}
+use Rattle.answer_cryptogram.specs.Cryptogram.{cryptogramLines, cryptogramReason}
 
 small : (lines : List (Bool × ℕ)) → anyOf (map (λ l. leb 256 (l .1)) lines) ≡ false → firstOf lines < 256
 unfolding firstOf anyOf

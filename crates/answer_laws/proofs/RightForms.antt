@@ -24,9 +24,9 @@ use Rattle.answer_common.proofs.Limits.{between-in, bounds}
 use Rattle.answer_common.proofs.Sizes.{sized}
 use Rattle.answer_common.proofs.Accepted.{or-clear}
 use Rattle.answer_common.proofs.Present.{of-size, there-so, may-be-so, must-be, may-be, none-twice, none-wrong, none-missing, by-name}
-use Rattle.answer_forms.specs.Forms.{template, joined, bothForms, lacks}
-use Rattle.answer_forms.specs.Options.{optionNames, locatorOf, optionsWrong, optionsLines, optionsReason}
-use Rattle.answer_forms.specs.Cryptogram.{mandatoryNames, cryptogramNames, cryptogramOf, cryptogramWrong, cryptogramLines, cryptogramReason}
+use Rattle.answer_common.specs.Forms.{template, joined, bothForms, lacks}
+use Rattle.answer_gpo.specs.Options.{optionNames, locatorOf, optionsWrong, optionsLines, optionsReason}
+use Rattle.answer_cryptogram.specs.Cryptogram.{mandatoryNames, cryptogramNames, cryptogramOf, cryptogramWrong, cryptogramLines, cryptogramReason}
 use Rattle.answer_common.proofs.Absent.{not-direct, one-form}
 use Rattle.answer_laws.specs.RightForms.{OptionsApart, OptionsJoined, RightOptions, CryptogramApart, CryptogramJoined, RightCryptogram}
 use Rattle.answer_laws.proofs.AcceptedAnswers.{is-template, options-framed, options-entries, in-template, in-joined, cryptogram-clear, cryptogram-framed, cryptogram-allowed}

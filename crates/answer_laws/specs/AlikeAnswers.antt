@@ -12,7 +12,7 @@ use Rattle.answer_common.specs.Answer.{isOne, inside}
 use Rattle.answer_common.specs.Named.{membersIn, named, direct, valueOf}
 use Rattle.answer_common.specs.Right.{Alike}
 use Rattle.answer_select.specs.Select.{selectTag, selectNames, innerNames}
-use Rattle.answer_forms.specs.Forms.{template, joined, bothForms}
+use Rattle.answer_common.specs.Forms.{template, joined, bothForms}
 
 -- the same named members, in the same order, in two runs of bytes
 abbrev pub SameNamed : List ℕ → List ℕ → List ℕ → Type 0

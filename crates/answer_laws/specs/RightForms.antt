@@ -10,9 +10,9 @@ use Rattle.answer_afl.specs.Entries.{AndEntries, entriesRight, mostRecords, rec
 use Rattle.answer_common.specs.Answer.{isOne, inside}
 use Rattle.answer_common.specs.Named.{direct}
 use Rattle.answer_common.specs.Right.{Framed, There, MayBe, Sized}
-use Rattle.answer_forms.specs.Forms.{template, joined, bothForms}
-use Rattle.answer_forms.specs.Options.{locatorOf}
-use Rattle.answer_forms.specs.Cryptogram.{cryptogramOf}
+use Rattle.answer_common.specs.Forms.{template, joined, bothForms}
+use Rattle.answer_gpo.specs.Options.{locatorOf}
+use Rattle.answer_cryptogram.specs.Cryptogram.{cryptogramOf}
 
 -- GPO: 77 with 82 and 94, or 80 with both values joined
 abbrev pub OptionsApart : List ℕ → Type 0

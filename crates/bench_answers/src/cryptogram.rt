@@ -1,6 +1,6 @@
 // Answers to GENERATE AC.
-use answer_forms::cryptogram::Allowed;
-use answer_forms::cryptogram::cryptogram_reason;
+use answer_cryptogram::Allowed;
+use answer_cryptogram::cryptogram_reason;
 use decide_requests::requests::Cryptogram;
 use decide_requests::requests::Given;
 use decide_requests::requests::first_allowed;
@@ -50,7 +50,7 @@ fn print_answer(allowed: Allowed, answer: &[u8]) {
     let why = cryptogram_reason(allowed, answer);
     text_print::number(why);
     if why == 0 {
-        print_type(answer_forms::cryptogram::cryptogram(answer));
+        print_type(answer_cryptogram::cryptogram(answer));
     }
 }
 

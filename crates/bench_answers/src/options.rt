@@ -1,8 +1,8 @@
 // Answers to GET PROCESSING OPTIONS, and the records to read.
 use answer_afl::cursor;
-use answer_forms::options::locator;
-use answer_forms::options::options_reason;
-use answer_forms::options::profile;
+use answer_gpo::locator;
+use answer_gpo::options_reason;
+use answer_gpo::profile;
 use text_hex::unhex;
 
 pub fn answer(words: &[u8]) {

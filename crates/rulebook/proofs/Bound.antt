@@ -14,9 +14,9 @@ use Rattle.tape_read.specs.Entries.{Entry}
 use Rattle.dol_wanted.specs.Wanted.{fillable}
 use Rattle.answer_afl.specs.Entries.{mostRecords, toRead}
 use Rattle.answer_afl.proofs.Counting.{read-length}
-use Rattle.answer_forms.specs.Options.{profileOf, locatorOf}
+use Rattle.answer_gpo.specs.Options.{profileOf, locatorOf}
 use Rattle.answer_record.specs.Records.{afterRecords}
-use Rattle.answer_forms.specs.Cryptogram.{cryptogramOf}
+use Rattle.answer_cryptogram.specs.Cryptogram.{cryptogramOf}
 use Rattle.answer_laws.proofs.AcceptedAnswers.{options-entries}
 use Rattle.decide_requests.specs.Replies.{codeIn, replyOf}
 use Rattle.decide_requests.specs.declared.reply.HostReply.{HostReply}

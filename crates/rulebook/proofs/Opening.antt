@@ -49,42 +49,42 @@ use Rattle.answer_common.specs.Answer.{tagged as o140, valueUnder as o141, isOn
 use Rattle.answer_common.specs.Answer.{frame as o145}
 use Rattle.answer_common.specs.CardNumber.{halves as o146, digits as o147, onlyF as o148, cardNumber as o149}
 use Rattle.answer_common.specs.Content.{meets as o150, rules as o151, ruleFor as o152, rightValue as o153}
-use Rattle.answer_common.specs.Named.{membersIn as o154, listed as o155, named as o156, among as o157, direct as o158}
-use Rattle.answer_common.specs.Named.{standing as o159, times as o160, told as o161, valueOf as o162, wrongValue as o163}
-use Rattle.answer_common.specs.Named.{anyTimes as o164, anyWrong as o165}
-use Rattle.session_records.specs.Runs.{noRun as o166, keptRun as o167, runHeld as o168, inRun as o169}
-use Rattle.session_records.specs.Slots.{orElse as o170, room as o171, nowhere as o172, placed as o173, total as o174}
-use Rattle.session_records.specs.Slots.{recordSlot as o175, slotFor as o176, cellIn as o177, read as o178, toldIn as o179}
-use Rattle.session_records.specs.Slots.{keptAt as o180, keptIn as o181, keptTold as o182, keptObjects as o183}
-use Rattle.session_records.specs.Slots.{keptPlaces as o184, full as o185, emptyStore as o186, told as o187, withRecord as o188}
-use Rattle.decide_tvr.specs.Bits.{joined as o189, meet as o190, flag as o191}
-use Rattle.decide_tvr.specs.Results.{differentVersions as o192, expired as o193, notYetEffective as o194, riskManaged as o195}
-use Rattle.decide_tvr.specs.Results.{atFloorLimit as o196, drawn as o197, restrictions as o198, risks as o199}
-use Rattle.decide_tvr.specs.Results.{tvrAfterRecords as o200, tsiAfterRecords as o201, tsiAfterFirstAnswer as o202}
-use Rattle.decide_tvr.specs.Selection.{biased as o203, chosen as o204, selected as o205}
-use Rattle.decide_requests.specs.Replies.{codeIn as o206, saidBy as o207, replyOf as o208, isReply as o209, responseCode as o210}
-use Rattle.decide_requests.specs.Requests.{issuerCode as o211, codeMatch as o212, byType as o213, firstRequest as o214}
-use Rattle.decide_requests.specs.Requests.{whenUnable as o215, secondRequest as o216, givenBy as o217}
-use Rattle.dol_wanted.specs.Wanted.{andThen as o218, sizeAt as o219, firstWanted as o220, asks as o221, wantedStep as o222}
-use Rattle.dol_wanted.specs.Wanted.{entriesOf as o223, total as o224, totalBy as o225, totalOf as o226, fits as o227}
-use Rattle.dol_wanted.specs.Wanted.{fillable as o228, tally as o229}
-use Rattle.dol_values.specs.Known.{ownField as o230, valueBy as o231, valueFor as o232, withFormat as o233, supplied as o234}
-use Rattle.dol_values.specs.Shape.{shaped as o235, formatOf as o236}
-use Rattle.dol_fill.specs.Filled.{entryBytes as o237, firstBytes as o238, filled as o239, filledBy as o240, filledList as o241}
-use Rattle.dol_fill.specs.Filled.{filling as o242, missing as o243, missingIn as o244, missingBy as o245, unsupplied as o246}
-use Rattle.dol_fill.specs.Filled.{summed as o247}
-use Rattle.commands.specs.Commands.{selectCommand as o248, optionsCommand as o249, recordCommand as o250, withLength as o251}
-use Rattle.commands.specs.Commands.{cryptogramCommand as o252, sizeIn as o253, dataSize as o254}
-use Rattle.answer_select.specs.Select.{inner as o255, pdolOf as o256, begins as o257, nameWrong as o258, selectTwice as o259}
-use Rattle.answer_select.specs.Select.{selectWrong as o260, selectLines as o261, selectReason as o262}
-use Rattle.answer_record.specs.Records.{again as o263, anyAgain as o264, recordTwice as o265, recordLines as o266}
-use Rattle.answer_record.specs.Records.{recordReason as o267, valueIn as o268, namedIn as o269, incomplete as o270}
-use Rattle.answer_record.specs.Records.{completeReason as o271, afterRecords as o272}
-use Rattle.answer_forms.specs.Cryptogram.{informationOf as o273, cryptogramOf as o274, cryptogramWrong as o275}
-use Rattle.answer_forms.specs.Cryptogram.{cryptogramLines as o276, cryptogramReason as o277, allows as o278}
-use Rattle.answer_forms.specs.Forms.{lacks as o279}
-use Rattle.answer_forms.specs.Options.{profileOf as o280, locatorOf as o281, optionsWrong as o282, optionsLines as o283}
-use Rattle.answer_forms.specs.Options.{optionsReason as o284}
+use Rattle.answer_common.specs.Forms.{lacks as o154}
+use Rattle.answer_common.specs.Named.{membersIn as o155, listed as o156, named as o157, among as o158, direct as o159}
+use Rattle.answer_common.specs.Named.{standing as o160, times as o161, told as o162, valueOf as o163, wrongValue as o164}
+use Rattle.answer_common.specs.Named.{anyTimes as o165, anyWrong as o166}
+use Rattle.session_records.specs.Runs.{noRun as o167, keptRun as o168, runHeld as o169, inRun as o170}
+use Rattle.session_records.specs.Slots.{orElse as o171, room as o172, nowhere as o173, placed as o174, total as o175}
+use Rattle.session_records.specs.Slots.{recordSlot as o176, slotFor as o177, cellIn as o178, read as o179, toldIn as o180}
+use Rattle.session_records.specs.Slots.{keptAt as o181, keptIn as o182, keptTold as o183, keptObjects as o184}
+use Rattle.session_records.specs.Slots.{keptPlaces as o185, full as o186, emptyStore as o187, told as o188, withRecord as o189}
+use Rattle.decide_tvr.specs.Bits.{joined as o190, meet as o191, flag as o192}
+use Rattle.decide_tvr.specs.Results.{differentVersions as o193, expired as o194, notYetEffective as o195, riskManaged as o196}
+use Rattle.decide_tvr.specs.Results.{atFloorLimit as o197, drawn as o198, restrictions as o199, risks as o200}
+use Rattle.decide_tvr.specs.Results.{tvrAfterRecords as o201, tsiAfterRecords as o202, tsiAfterFirstAnswer as o203}
+use Rattle.decide_tvr.specs.Selection.{biased as o204, chosen as o205, selected as o206}
+use Rattle.decide_requests.specs.Replies.{codeIn as o207, saidBy as o208, replyOf as o209, isReply as o210, responseCode as o211}
+use Rattle.decide_requests.specs.Requests.{issuerCode as o212, codeMatch as o213, byType as o214, firstRequest as o215}
+use Rattle.decide_requests.specs.Requests.{whenUnable as o216, secondRequest as o217, givenBy as o218}
+use Rattle.dol_wanted.specs.Wanted.{andThen as o219, sizeAt as o220, firstWanted as o221, asks as o222, wantedStep as o223}
+use Rattle.dol_wanted.specs.Wanted.{entriesOf as o224, total as o225, totalBy as o226, totalOf as o227, fits as o228}
+use Rattle.dol_wanted.specs.Wanted.{fillable as o229, tally as o230}
+use Rattle.dol_values.specs.Known.{ownField as o231, valueBy as o232, valueFor as o233, withFormat as o234, supplied as o235}
+use Rattle.dol_values.specs.Shape.{shaped as o236, formatOf as o237}
+use Rattle.dol_fill.specs.Filled.{entryBytes as o238, firstBytes as o239, filled as o240, filledBy as o241, filledList as o242}
+use Rattle.dol_fill.specs.Filled.{filling as o243, missing as o244, missingIn as o245, missingBy as o246, unsupplied as o247}
+use Rattle.dol_fill.specs.Filled.{summed as o248}
+use Rattle.commands.specs.Commands.{selectCommand as o249, optionsCommand as o250, recordCommand as o251, withLength as o252}
+use Rattle.commands.specs.Commands.{cryptogramCommand as o253, sizeIn as o254, dataSize as o255}
+use Rattle.answer_select.specs.Select.{inner as o256, pdolOf as o257, begins as o258, nameWrong as o259, selectTwice as o260}
+use Rattle.answer_select.specs.Select.{selectWrong as o261, selectLines as o262, selectReason as o263}
+use Rattle.answer_record.specs.Records.{again as o264, anyAgain as o265, recordTwice as o266, recordLines as o267}
+use Rattle.answer_record.specs.Records.{recordReason as o268, valueIn as o269, namedIn as o270, incomplete as o271}
+use Rattle.answer_record.specs.Records.{completeReason as o272, afterRecords as o273}
+use Rattle.answer_gpo.specs.Options.{profileOf as o274, locatorOf as o275, optionsWrong as o276, optionsLines as o277}
+use Rattle.answer_gpo.specs.Options.{optionsReason as o278}
+use Rattle.answer_cryptogram.specs.Cryptogram.{informationOf as o279, cryptogramOf as o280, cryptogramWrong as o281}
+use Rattle.answer_cryptogram.specs.Cryptogram.{cryptogramLines as o282, cryptogramReason as o283, allows as o284}
 use Rattle.rulebook.specs.Machine.{due as o285, sayable as o286, next as o287, andOn as o288}
 use Rattle.rulebook.specs.Phase.{situationOf as o289, commandOf as o290, dueKind as o291, decisionOf as o292}
 use Rattle.rulebook.specs.Phase.{decided as o293, ended as o294, tvrOf as o295, tsiOf as o296}

@@ -13,10 +13,10 @@ use Rattle.start_valid.specs.Start.{validStart}
 use Rattle.session_records.specs.Slots.{orElse}
 use Rattle.dol_wanted.specs.Wanted.{fillable}
 use Rattle.answer_select.specs.Select.{selectReason, pdolOf}
-use Rattle.answer_forms.specs.Options.{optionsReason, profileOf, locatorOf}
+use Rattle.answer_gpo.specs.Options.{optionsReason, profileOf, locatorOf}
 use Rattle.answer_afl.specs.Entries.{toRead}
 use Rattle.answer_record.specs.Records.{recordReason, namedIn, afterRecords}
-use Rattle.answer_forms.specs.Cryptogram.{cryptogramReason, cryptogramOf}
+use Rattle.answer_cryptogram.specs.Cryptogram.{cryptogramReason, cryptogramOf}
 use Rattle.decide_tvr.specs.Results.{tvrAfterRecords, tsiAfterRecords, tsiAfterFirstAnswer}
 use Rattle.decide_requests.specs.Requests.{firstRequest, secondRequest, givenBy, firstAllowed, secondAllowed}
 use Rattle.decide_requests.specs.Replies.{codeIn, replyOf, isReply, responseCode}

@@ -19,9 +19,9 @@ use Rattle.slices.specs.Tables.{anyOf, beside}
 use Rattle.answer_common.specs.Answer.{sizeBad, statusBad, only, outer, tagged, valueUnder, isOne, inside, outerBad, frame}
 use Rattle.answer_common.specs.Content.{meets, rules, ruleFor, rightValue}
 use Rattle.answer_common.specs.Named.{membersIn, named, among, direct, standing, times, told, valueOf, wrongValue, anyTimes, anyWrong}
-use Rattle.answer_forms.specs.Forms.{lacks}
+use Rattle.answer_common.specs.Forms.{lacks}
 use Rattle.answer_afl.specs.Entries.{firstEntry, entries, wholeEntries, sfi, records, entryRight, entriesRight, recordsOf, recordCount, tooMany, run, readEntry, readAll, toRead, fileRight}
-use Rattle.answer_forms.specs.Options.{profileOf, locatorOf, optionsWrong, optionsLines, optionsReason}
+use Rattle.answer_gpo.specs.Options.{profileOf, locatorOf, optionsWrong, optionsLines, optionsReason}
 use Rattle.decide_tvr.specs.Bits.{joined, meet}
 use Rattle.decide_tvr.specs.Selection.{biased, chosen, selected}
 use Rattle.decide_requests.specs.Requests.{issuerCode, codeMatch, byType, firstRequest}

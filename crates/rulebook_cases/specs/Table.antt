@@ -14,7 +14,7 @@ use Rattle.start_fields.specs.Reading.{Terminal}
 use Rattle.start_fields.specs.Bare.{bare}
 use Rattle.commands.specs.Commands.{recordCommand}
 use Rattle.answer_afl.specs.Entries.{toRead, recordCount}
-use Rattle.answer_forms.specs.Options.{optionsReason}
+use Rattle.answer_gpo.specs.Options.{optionsReason}
 use Rattle.decide_tvr.specs.Selection.{selected}
 use Rattle.decide_requests.specs.Requests.{firstRequest}
 use Rattle.decide_requests.specs.declared.requests.Cryptogram.{Cryptogram}

@@ -28,8 +28,8 @@ use Rattle.rulebook.specs.Turn.{goesOn, opened, selected, managed, requested, a
 use Rattle.rulebook.specs.Machine.{Machine, at, owes, done, due, sayable, next}
 use Rattle.rulebook.proofs.Running.{chosen, no-state}
 use Rattle.dol_wanted.specs.Wanted.{fillable}
-use Rattle.answer_forms.specs.Options.{profileOf, locatorOf}
-use Rattle.answer_forms.specs.Cryptogram.{cryptogramOf}
+use Rattle.answer_gpo.specs.Options.{profileOf, locatorOf}
+use Rattle.answer_cryptogram.specs.Cryptogram.{cryptogramOf}
 use Rattle.answer_afl.specs.Entries.{toRead}
 use Rattle.decide_requests.specs.Requests.{firstRequest, secondRequest}
 use Rattle.decide_requests.specs.declared.requests.Cryptogram.{Cryptogram}

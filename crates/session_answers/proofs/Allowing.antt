@@ -11,7 +11,7 @@ use borrow.Author.Tests.{ne-eqb}
 use Rattle.slices.specs.Choice.{pick}
 use Rattle.slices.proofs.Choice.{pick-yes, pick-no}
 use Rattle.slices.specs.Tables.{beside}
-use Rattle.answer_forms.specs.Cryptogram.{allows}
+use Rattle.answer_cryptogram.specs.Cryptogram.{allows}
 use Rattle.decide_requests.specs.Requests.{givenBy}
 use Rattle.decide_requests.specs.declared.requests.Given.{Given}
 use Rattle.decide_requests.specs.declared.requests.Given.the-variants.{Of, Reserved}

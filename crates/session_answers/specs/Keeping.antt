@@ -5,7 +5,7 @@ use Prim.Native.Nat.{ℕ}
 use lib.Dec.{eqb}
 use Rattle.slices.specs.Choice.{pick}
 use Rattle.tlv_list.specs.Objects.{isSome}
-use Rattle.answer_forms.specs.Options.{optionsReason}
+use Rattle.answer_gpo.specs.Options.{optionsReason}
 use Rattle.answer_record.specs.Records.{recordReason}
 use Rattle.decide_tvr.specs.Results.{tsiAfterFirstAnswer}
 use Rattle.rulebook.specs.Phase.{Asked, selecting, optioning, reading, first, second}

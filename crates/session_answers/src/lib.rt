@@ -1,7 +1,7 @@
 // How a session goes on after each answer of the card's.
-use answer_forms::cryptogram;
-use answer_forms::cryptogram::Allowed;
-use answer_forms::options::options_reason;
+use answer_cryptogram as cryptogram;
+use answer_cryptogram::Allowed;
+use answer_gpo::options_reason;
 use answer_record::record_reason;
 use commands::write;
 use decide_requests::requests::Cryptogram;
@@ -26,7 +26,7 @@ use session_state::change::with_options;
 use session_state::change::with_told;
 ghost use mathlib.Core.Path.{_≡_};
 ghost use mathlib.Core.List.{[]};
-ghost use Rattle.answer_forms.specs.Cryptogram.{allows};
+ghost use Rattle.answer_cryptogram.specs.Cryptogram.{allows};
 ghost use Rattle.rulebook.specs.Phase.{selecting, optioning, reading as readingRecord, first as firstAsked, second as secondAsked};
 ghost use Rattle.rulebook.specs.Turn.{turn, firstAllows, secondAllows};
 ghost use Rattle.session_state.specs.Reading.{early, late, recordsLeft};

@@ -17,9 +17,9 @@ use Rattle.dol_wanted.specs.Wanted.{fillable}
 use Rattle.answer_afl.specs.Cursor.{isLeft}
 use Rattle.answer_afl.proofs.Walking.{none-remain, one-less}
 use Rattle.answer_select.specs.Select.{selectReason}
-use Rattle.answer_forms.specs.Options.{optionsReason}
+use Rattle.answer_gpo.specs.Options.{optionsReason}
 use Rattle.answer_record.specs.Records.{recordReason, afterRecords}
-use Rattle.answer_forms.specs.Cryptogram.{cryptogramReason, cryptogramOf}
+use Rattle.answer_cryptogram.specs.Cryptogram.{cryptogramReason, cryptogramOf}
 use Rattle.start_valid.proofs.Laws.{start-length}
 use Rattle.decide_requests.specs.Replies.{codeIn, replyOf}
 use Rattle.decide_requests.specs.declared.requests.Cryptogram.{Cryptogram}

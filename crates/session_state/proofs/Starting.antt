@@ -19,7 +19,7 @@ use Rattle.answer_afl.specs.Entries.{toRead}
 use Rattle.answer_afl.specs.Cursor.{start, remaining}
 use Rattle.answer_afl.proofs.Walking.{all-remain}
 use Rattle.answer_record.specs.Records.{recordReason}
-use Rattle.answer_forms.specs.Options.{optionsReason, profileOf, locatorOf}
+use Rattle.answer_gpo.specs.Options.{optionsReason, profileOf, locatorOf}
 use Rattle.answer_laws.proofs.AcceptedAnswers.{options-profile, locator-size}
 use Rattle.rulebook.specs.Situation.{begun as situationBegun}
 use Rattle.rulebook.specs.Turn.{withProfile, withRecord as recordAdded}

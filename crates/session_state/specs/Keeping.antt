@@ -6,7 +6,7 @@ use Rattle.slices.specs.Writing.{zeros}
 use Rattle.start_fields.specs.Layout.{startLength}
 use Rattle.answer_afl.specs.Cursor.{start}
 use Rattle.answer_afl.specs.declared.cursor.Cursor.{Cursor}
-use Rattle.answer_forms.specs.Options.{profileOf, locatorOf}
+use Rattle.answer_gpo.specs.Options.{profileOf, locatorOf}
 use Rattle.session_phase.specs.declared.Question.the-variants.{Select}
 use Rattle.session_phase.specs.declared.Speaker.the-variants.{Terminal}
 use Rattle.session_phase.specs.declared.Waiting.{Waiting}

@@ -2,7 +2,6 @@
 use crate::State;
 use answer_afl::cursor;
 use answer_afl::cursor::Cursor;
-use answer_forms::options;
 use session_phase::Question;
 use session_phase::Speaker;
 use session_phase::Waiting;
@@ -54,9 +53,9 @@ pub fn with_options(mut s: State, answer: &[u8]) -> State
     ensures { λ r. ⌜ r ≡ withOptions (now (answer .entry)) s ⌝ }
 {
     let mut profile = [0; 2];
-    lay(&mut profile, 0, options::profile(answer));
+    lay(&mut profile, 0, answer_gpo::profile(answer));
     s.profile = profile;
-    s.locator = runs::keep(options::locator(answer));
+    s.locator = runs::keep(answer_gpo::locator(answer));
     s.cursor = cursor::start();
     s
 }

@@ -23,9 +23,9 @@ use Rattle.dol_wanted.specs.Wanted.{fillable}
 use Rattle.commands.proofs.Shapes.{aid-most}
 use Rattle.answer_afl.specs.Entries.{toRead}
 use Rattle.answer_select.specs.Select.{selectReason, pdolOf}
-use Rattle.answer_forms.specs.Options.{optionsReason, profileOf, locatorOf}
+use Rattle.answer_gpo.specs.Options.{optionsReason, profileOf, locatorOf}
 use Rattle.answer_record.specs.Records.{recordReason, namedIn, afterRecords}
-use Rattle.answer_forms.specs.Cryptogram.{cryptogramReason, cryptogramOf}
+use Rattle.answer_cryptogram.specs.Cryptogram.{cryptogramReason, cryptogramOf}
 use Rattle.answer_laws.proofs.Reasons.{select-small, options-small, record-small, cryptogram-small, after-small}
 use Rattle.decide_requests.specs.Requests.{secondRequest}
 use Rattle.decide_requests.specs.Replies.{codeIn, responseCode}

@@ -17,8 +17,8 @@ use Rattle.tlv_list.specs.Place.{dataField}
 use Rattle.tlv_list.specs.Lookup.{Lookup, absent, once, twice, met, lookup}
 use Rattle.answer_common.specs.Answer.{sizeBad, only, outer, valueUnder, isOne, inside}
 use Rattle.answer_common.specs.Named.{membersIn, among, direct, told, valueOf, listed as isNamed}
-use Rattle.answer_forms.specs.Forms.{template, joined}
-use Rattle.answer_forms.specs.Options.{profileOf, locatorOf}
+use Rattle.answer_common.specs.Forms.{template, joined}
+use Rattle.answer_gpo.specs.Options.{profileOf, locatorOf}
 use Rattle.answer_record.specs.Records.{valueIn, namedIn}
 use Rattle.answer_common.specs.Content.{recordTag, recordNames}
 

@@ -2,7 +2,7 @@
 -- Assumes nothing.
 use mathlib.Core.Path.{_≡_, refl, sym, ap, _∙_}
 use borrow.Author.Needs.{needs}
-use Rattle.answer_forms.specs.Cryptogram.{allows}
+use Rattle.answer_cryptogram.specs.Cryptogram.{allows}
 use Rattle.decide_requests.specs.Requests.{secondAllowed}
 use Rattle.rulebook.specs.Turn.{secondAllows}
 use Rattle.session_answers.proofs.Allowing.{allows-all}

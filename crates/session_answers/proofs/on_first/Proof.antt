@@ -6,7 +6,7 @@ use mathlib.Core.List.{List, [], _∷_}
 use Prim.Native.Nat.{ℕ}
 use mathlib.Core.Bool.{Bool}
 use borrow.Author.Needs.{needs}
-use Rattle.answer_forms.specs.Cryptogram.{allows, cryptogramReason, cryptogramOf}
+use Rattle.answer_cryptogram.specs.Cryptogram.{allows, cryptogramReason, cryptogramOf}
 use Rattle.rulebook.specs.Situation.{Situation}
 use Rattle.rulebook.specs.Phase.{first}
 use Rattle.rulebook.specs.Turn.{answered, byFirst, firstAllows, firstAnswered, turn}

@@ -8,7 +8,7 @@ use lib.Dec.{eqb}
 use borrow.Author.Tests.{eq-eqb, ne-eqb}
 use borrow.Author.Needs.{needs}
 use Rattle.slices.proofs.Choice.{pick-yes, pick-no}
-use Rattle.answer_forms.specs.Options.{optionsReason, profileOf, locatorOf}
+use Rattle.answer_gpo.specs.Options.{optionsReason, profileOf, locatorOf}
 use Rattle.answer_afl.specs.Entries.{toRead}
 use Rattle.rulebook.specs.Phase.{optioning}
 use Rattle.rulebook.specs.Turn.{withProfile, readOn, optioned, turn}

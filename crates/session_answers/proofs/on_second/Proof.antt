@@ -10,7 +10,7 @@ use borrow.Author.Tests.{eq-eqb, ne-eqb}
 use borrow.Author.Needs.{needs}
 use Rattle.slices.specs.Choice.{pick}
 use Rattle.slices.proofs.Choice.{pick-yes, pick-no}
-use Rattle.answer_forms.specs.Cryptogram.{allows, cryptogramReason, cryptogramOf}
+use Rattle.answer_cryptogram.specs.Cryptogram.{allows, cryptogramReason, cryptogramOf}
 use Rattle.rulebook.specs.Phase.{Phase, second, decides, approved, declined, decided}
 use Rattle.rulebook.specs.Turn.{goesOn, secondAllows, secondAnswered, turn}
 use Rattle.session_state.specs.Reading.{late}

@@ -1,3 +1,0 @@
-pub mod Templates
-mod OptionsWorked
-mod CryptogramWorked
