@@ -12,7 +12,7 @@ ghost use mathlib.Core.Bool.{not};
 ghost use Rattle.tape_read.specs.Numbers.{bytesOf};
 ghost use Rattle.tape_read.specs.Blocks.{field};
 ghost use Rattle.book_block.specs.Entries.{isVerdict};
-ghost use Rattle.book_block.specs.Blocks.{head, block, entryIn, zerosBad, faultOf};
+ghost use Rattle.book_block.specs.Blocks.{head, block, tapeIn, entryIn, zerosBad, faultOf};
 
 // The verdicts as numbers.
 pub const PASS: u8 = 1;
@@ -59,11 +59,18 @@ pub fn no_verdict(v: u8) -> bool
     UNREADABLE < v
 }
 
-// The entry that a block holds; a byte past the end of a block counts as 0.
+// The tape number of a block, where a tape's own block has its session number; a byte past the end of a block counts as 0.
+pub fn tape_in(b: &[u8]) -> u32
+    ensures { λ r. ⌜ r ≡ tapeIn (now (b .entry)) ⌝ }
+{
+    session(b)
+}
+
+// The entry that a block holds.
 pub fn entry_in(b: &[u8]) -> Entry
     ensures { λ r. ⌜ r ≡ entryIn (now (b .entry)) ⌝ }
 {
-    let tape = session(b);
+    let tape = tape_in(b);
     let verdict = kind(b);
     let place = long_at(b, 12);
     let code = long_at(b, 16);

@@ -9,7 +9,7 @@ unfolding entryIn
 returns c =
     λ i.
     record {
-      tape = c .before .before .before .session .ensures i;
+      tape = c .before .before .before .tape-in .ensures i;
       verdict = c .before .before .kind .ensures i;
       place = c .before .long-at .ensures i;
       code = c .long-at2 .ensures i;
