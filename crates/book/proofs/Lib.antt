@@ -1,3 +1,4 @@
+pub mod Counting
 pub mod Searching
 pub mod Refusals
 pub mod Stepping

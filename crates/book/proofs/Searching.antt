@@ -3,9 +3,10 @@
 use mathlib.Core.Path.{_≡_, refl, sym, ap, ap₂, _∙_}
 use mathlib.Core.Bool.{true, false}
 use mathlib.Core.List.{List, [], _∷_, _++_}
-use Prim.Native.Nat.{ℕ, zero, suc, _+_, _-_, _*_, _<_, _≤_}
+use Prim.Native.Nat.{ℕ, zero, suc, min, _+_, _-_, _*_, _/_, _<_, _≤_}
 use native.Mathlib.Omega.{arith}
 use lib.ListN.{length, take, drop}
+use lib.Seq.{drop-drop}
 use borrow.Author.Tests.{eq-eqb, ne-eqb}
 use Rattle.slices.proofs.Choice.{pick-yes, pick-no}
 use Rattle.tape_read.specs.Entries.{blockSize}
@@ -13,7 +14,7 @@ use Rattle.tape_read.specs.Tapes.{blockAt}
 use Rattle.tape_read.proofs.Steps.{rest-next}
 use Rattle.book_block.specs.Blocks.{tapeIn, entryIn}
 use Rattle.book_block.specs.declared.Entry.{Entry}
-use Rattle.book.specs.Entering.{entriesIn, entered}
+use Rattle.book.specs.Entering.{entriesIn, stored, entered}
 
 -- the entries in blocks k to n
 abbrev pub from : ℕ → ℕ → List ℕ → List Entry
@@ -42,3 +43,26 @@ module _ (tape k n : ℕ) (t : List ℕ) where
     pub search-on : (tapeIn (blockAt k t) ≡ tape → ⊥) → entered tape (from k n t) ≡ entered tape (from (k + 1) n t)
     unfolding entered entryIn
     search-on e = ap (entered tape) first-left ∙ pick-no _ _ _ (ne-eqb _ _ e)
+
+pub entries-length : (n : ℕ) (t : List ℕ) → length (entriesIn n t) ≡ n
+unfolding entriesIn
+entries-length zero t = refl
+entries-length (suc n) t = ap suc (entries-length n (drop blockSize t))
+
+-- one block more
+pub entries-more : (n : ℕ) (t : List ℕ) → entriesIn (suc n) t ≡ entriesIn n t ++ (entryIn (blockAt n t) ∷ [])
+unfolding entriesIn blockAt
+entries-more zero t = refl
+entries-more (suc n) t =
+    let place : blockSize + n * blockSize ≡ suc n * blockSize = omega arith in
+    ap (_∷_ (entryIn (take blockSize t)))
+    (entries-more n (drop blockSize t)
+    ∙ ap (λ (l : List ℕ). entriesIn n (drop blockSize t) ++ (entryIn (take blockSize l) ∷ []))
+    (drop-drop (n * blockSize) blockSize t ∙ ap (λ (k : ℕ). drop k t) place))
+
+-- blocks used that are all there
+pub stored-there : (n : ℕ) (t : List ℕ) → n * blockSize ≤ length t → stored n t ≡ entriesIn n t
+unfolding stored
+stored-there n t h =
+    let all : min n (length t / blockSize) ≡ n = omega arith in
+    ap (λ (k : ℕ). entriesIn k t) all
