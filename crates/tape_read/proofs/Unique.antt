@@ -22,13 +22,13 @@ use Rattle.tape_read.proofs.Windows.{window-length, window-part, byte-f
 use Rattle.tape_read.proofs.Codes.{Good}
 use Rattle.tape_read.proofs.Parts.{body-length}
 
-window-bytes : (w at : ℕ) (b : List ℕ) → areBytes b ≡ true → areBytes (window w at b) ≡ true
+pub window-bytes : (w at : ℕ) (b : List ℕ) → areBytes b ≡ true → areBytes (window w at b) ≡ true
 unfolding window
 window-bytes zero at b e = refl
 window-bytes (suc w) at b e = bytes-cons (getD b at 0) (window w (at + 1) b) (bytes-at b e at) (window-bytes w (at + 1) b e)
 
 -- a field's bytes are what its number writes
-field-bytes : (at w : ℕ) (b : List ℕ) → areBytes b ≡ true → bytesOf w (field at w b) ≡ window w at b
+pub field-bytes : (at w : ℕ) (b : List ℕ) → areBytes b ≡ true → bytesOf w (field at w b) ≡ window w at b
 unfolding field
 field-bytes at w b e = bytes-back w (window w at b) (window-bytes w at b e) (window-length w at b)
 

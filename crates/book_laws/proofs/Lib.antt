@@ -1,0 +1,7 @@
+pub mod Back
+pub mod Unique
+pub mod Written
+pub mod Standing
+pub mod Tracking
+pub mod Counts
+pub mod Theorem

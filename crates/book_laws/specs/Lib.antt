@@ -1,0 +1,2 @@
+-- Histories of a campaign book (02, R-11).
+pub mod History

@@ -1,0 +1,1 @@
+// Laws of the campaign book: no code, see specs/ and proofs/.
