@@ -1,0 +1,2 @@
+-- Entries made from the judge's answers (02, R-11).
+pub mod Judging
