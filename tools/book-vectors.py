@@ -1,12 +1,12 @@
 #!/usr/bin/env python3
-"""Books for crates/bench_book: writes its stdin, and the stdout that it must give. Run this in the repository's root.
+"""Books for crates/bench_book and crates/book_file: writes what they read and must print. Run this in the repository's root.
 
 The books of crates/bench_book/book.jsonl come from outside: entries handed in, with replies and counts; the bytes stored; and what is
 done to these bytes, with the counts that they then reopen with, or none where they are refused. The block at which bytes are refused,
 and the fault, they do not tell: these are given by the book below, written from R-11 and the layout in docs/DECISIONS.md, which must
 also agree with everything that they do tell. A run of zero bytes in the stored file is written as (count).
 
-With the path of such a file as an argument, that file is stored first.
+The book that crates/book_file lists is made here too. With the path of such a file as an argument, that file is stored first.
 """
 import binascii
 import json
@@ -173,7 +173,20 @@ def expanded(text):
     return re.sub(r"\((\d+)\)", lambda m: "00" * int(m[1]), text)
 
 
+# The book that crates/book_file lists: numbers at the ends of their range, and each verdict.
+LISTED = [(1, 1, 11, 0), (4294967295, 2, 5, 0), (0, 3, 0, 0), (417, 4, 3, 7), (418, 4, 4294967295, 9)]
+NAMES = ("PASS", "FAIL", "INCONCLUSIVE", "UNREADABLE")
+
+
+def listed():
+    with open("crates/book_file/data/book", "wb") as out:
+        out.writelines(block(k, entry) for k, entry in enumerate(LISTED))
+    with open("crates/book_file/stdout", "w") as out:
+        out.writelines(f"{tape} {NAMES[verdict - 1]} {place} {code}\n" for tape, verdict, place, code in LISTED)
+
+
 def main():
+    listed()
     if sys.argv[1:]:
         with open(sys.argv[1]) as given, open(STORED, "w") as out:
             out.write(shortened(given.read()))

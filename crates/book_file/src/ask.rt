@@ -1,0 +1,55 @@
+// What is asked for.
+use book_line::NO_NUMBER;
+use book_line::decimal;
+use slices::alike;
+use slices::part;
+
+pub const NOTHING: u8 = 0;
+
+pub const ADD: u8 = 1;
+
+pub const COUNTS: u8 = 2;
+
+pub const LIST: u8 = 3;
+
+pub const CHECK: u8 = 4;
+
+// The command, and the tape number behind it.
+pub struct Words {
+    pub what: u8,
+    pub number: usize,
+}
+
+pub fn asked() -> Words {
+    let mut word = [0u8; 16];
+    let n = os::arg(2, &mut word);
+    let what = named(part(&word, 0, n));
+    let mut digits = [0u8; 16];
+    let m = os::arg(3, &mut digits);
+    if os::errno() != 0 {
+        return Words {
+            what,
+            number: NO_NUMBER,
+        };
+    }
+    Words {
+        what,
+        number: decimal(part(&digits, 0, m)),
+    }
+}
+
+fn named(word: &[u8]) -> u8 {
+    if alike(word, b"add") {
+        return ADD;
+    }
+    if alike(word, b"counts") {
+        return COUNTS;
+    }
+    if alike(word, b"list") {
+        return LIST;
+    }
+    if alike(word, b"check") {
+        return CHECK;
+    }
+    NOTHING
+}

@@ -1,0 +1,98 @@
+// What is written to standard output, and how to use the program.
+use book::Book;
+use book::Reply;
+use book_block::entry_in;
+use libc::STDERR_FILENO;
+use tape_read::block_at;
+use text_print::number;
+use text_print::text;
+
+pub fn usage() {
+    io::write_all(
+        STDERR_FILENO,
+        b"usage: book FILE add NUMBER < LINE, or book FILE counts, list or check\n",
+    );
+}
+
+pub fn no_line() {
+    io::write_all(
+        STDERR_FILENO,
+        b"book: standard input is not a line of the judge's\n",
+    );
+}
+
+pub fn is_entered(reply: Reply) -> bool {
+    match reply {
+        Reply::Entered => true,
+        Reply::NoVerdict => false,
+        Reply::AlreadyEntered => false,
+        Reply::Full => false,
+    }
+}
+
+pub fn replied(reply: Reply) {
+    match reply {
+        Reply::Entered => text(b"entered\n"),
+        Reply::NoVerdict => text(b"no verdict\n"),
+        Reply::AlreadyEntered => text(b"already entered\n"),
+        Reply::Full => text(b"full\n"),
+    }
+}
+
+pub fn refused(place: usize, fault: u8) {
+    text(b"refused ");
+    number(place);
+    match fault {
+        1 => text(b" too long\n"),
+        2 => text(b" torn\n"),
+        3 => text(b" check\n"),
+        4 => text(b" number\n"),
+        5 => text(b" verdict\n"),
+        6 => text(b" zeros\n"),
+        _ => text(b" twice\n"),
+    }
+}
+
+pub fn good(book: Book) {
+    text(b"good ");
+    number(book.used as usize);
+    text(b"\n");
+}
+
+pub fn counts(book: Book) {
+    text(b"PASS ");
+    number(book.pass as usize);
+    text(b" FAIL ");
+    number(book.fail as usize);
+    text(b" INCONCLUSIVE ");
+    number(book.inconclusive as usize);
+    text(b" UNREADABLE ");
+    number(book.unreadable as usize);
+    text(b" TOTAL ");
+    number(book.total());
+    text(b"\n");
+}
+
+pub fn list(bytes: &[u8], used: usize) {
+    let mut k = 0;
+    while k < used {
+        entry(block_at(bytes, k));
+        k += 1;
+    }
+}
+
+fn entry(block: &[u8]) {
+    let e = entry_in(block);
+    number(e.tape as usize);
+    let verdict = e.verdict;
+    match verdict {
+        1 => text(b" PASS "),
+        2 => text(b" FAIL "),
+        3 => text(b" INCONCLUSIVE "),
+        _ => text(b" UNREADABLE "),
+    }
+    number(e.place as usize);
+    text(b" ");
+    number(e.code as usize);
+    text(b"\n");
+}
