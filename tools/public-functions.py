@@ -21,6 +21,7 @@ MUTABLE = re.compile(r"&(?:'\w+ )?mut\b")
 # Promises that are not an equation of the whole answer: why they fit one answer all the same.
 OTHERWISE = {
     "tlv_write write": "`one-answer` in `crates/tlv_write/proofs/Refusals.antt`: refusal and size together are the answer",
+    "book_judged judged": "`entered-once` in `crates/book_judged/proofs/Theorem.antt`: no tape has two entries under one number",
     "judge judge": "`judged-once` in `crates/verdict_judged/proofs/Once.antt`: no tape has two answers",
 }
 
