@@ -2,7 +2,7 @@
 -- entries, so that none is held back by the limit. Assumes nothing.
 use mathlib.Core.Path.{_≡_, refl, sym, ap, _∙_}
 use mathlib.Core.List.{List, [], _∷_, _++_}
-use Prim.Native.Nat.{ℕ, suc, _+_, _≤_, _<_}
+use Prim.Native.Nat.{ℕ, _+_, _≤_, _<_}
 use native.Mathlib.Omega.{arith}
 use lib.Dec.{eqb}
 use lib.ListN.{length, length-append}
@@ -12,7 +12,6 @@ use Rattle.slices.proofs.Choice.{pick-yes, pick-no, pick-ap, pick-cong, picked,
 use Rattle.book_block.specs.Entries.{pass, fail, inconclusive, unreadable}
 use Rattle.book_block.specs.declared.Entry.{Entry}
 use Rattle.book.specs.Counting.{entriesMost, countOf, endOf, oneMore, raised, counted}
-use Rattle.book.specs.declared.Book.{Book}
 
 pub count-most : (v : ℕ) (es : List Entry) → countOf v es ≤ length es
 unfolding countOf

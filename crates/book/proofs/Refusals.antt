@@ -1,6 +1,6 @@
 -- The order of the refusals: no verdict goes before already entered, that before full, and an entry is accepted exactly where none of
 -- them applies. Assumes nothing.
-use mathlib.Core.Path.{_≡_, sym, ap, _∙_}
+use mathlib.Core.Path.{_≡_, ap, _∙_}
 use mathlib.Core.Bool.{true, false, not}
 use mathlib.Core.List.{List}
 use Prim.Native.Nat.{ℕ, _+_, _*_, _≤_, _<_}
@@ -57,7 +57,8 @@ module _ (done : List Entry) (used room : ℕ) (e : Entry) where
         pub reply-room : room < used * blockSize + blockSize → replyTo done used room e ≡ Full
         unfolding replyTo
         reply-room short =
-            pick-no _ _ _ (ap not verdict) ∙ (pick-no _ _ _ first ∙ (pick-no _ _ _ (lt-leb _ _ entries) ∙ pick-yes _ _ _ (lt-ltb _ _ short)))
+            pick-no _ _ _ (ap not verdict) ∙ (pick-no _ _ _ first ∙ (pick-no _ _ _ (lt-leb _ _ entries)
+            ∙ pick-yes _ _ _ (lt-ltb _ _ short)))
 
         pub reply-entered : used * blockSize + blockSize ≤ room → replyTo done used room e ≡ Entered
         unfolding replyTo

@@ -5,7 +5,7 @@ use mathlib.Core.List.{List}
 use Prim.Native.Nat.{ℕ, _*_}
 use native.Mathlib.Omega.{arith}
 use lib.ListN.{length}
-use Rattle.slices.specs.Writing.{put, laid}
+use Rattle.slices.specs.Writing.{laid}
 use Rattle.slices.proofs.Writing.{laid-fits}
 use Rattle.tape_read.specs.Entries.{blockSize}
 use Rattle.book_block.specs.Blocks.{block}

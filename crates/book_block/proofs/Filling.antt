@@ -52,7 +52,8 @@ module _ (n : ℕ) (e : Entry) where
       laid-fits (head n e) 0 (zeros blockSize) (omega (arith, head-length, zeros-length blockSize))
       ∙ (put-start (head n e) (zeros blockSize)
       ∙ (ap (_++_ (head n e))
-      (ap₂ drop head-length (zeros-two paddingAt (padding + 4)) ∙ (drop-at (zeros paddingAt) _ paddingAt (zeros-length paddingAt) ∙ zeros-two padding 4))
+      (ap₂ drop head-length (zeros-two paddingAt (padding + 4)) ∙ (drop-at (zeros paddingAt) _ paddingAt (zeros-length paddingAt)
+      ∙ zeros-two padding 4))
       ∙ sym (append-assoc (head n e) (zeros padding) (zeros 4))))
 
   -- the check of what then stands there
@@ -65,7 +66,8 @@ module _ (n : ℕ) (e : Entry) where
   laid-check c four =
       laid-fits c covered (body n e ++ zeros 4) (omega (arith, length-append (body n e) (zeros 4), zeros-length 4, body-length))
       ∙ ap₂ _++_ (take-at (body n e) (zeros 4) covered body-length)
-      (ap (_++_ c) (ap₂ drop (four ∙ sym (zeros-length 4)) (drop-at (body n e) (zeros 4) covered body-length) ∙ drop-length (zeros 4)) ∙ append-nil c)
+      (ap (_++_ c) (ap₂ drop (four ∙ sym (zeros-length 4)) (drop-at (body n e) (zeros 4) covered body-length)
+      ∙ drop-length (zeros 4)) ∙ append-nil c)
 
   -- the three steps: the head over zeros, the check of that, its bytes
   pub filled : (h b c : List ℕ) (k : ℕ) → h ≡ head n e → b ≡ laid h 0 (zeros blockSize) → k ≡ blockCheckOf b → c ≡ bytesOf 4 k

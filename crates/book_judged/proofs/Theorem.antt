@@ -1,16 +1,15 @@
 -- An entry made from the judge's answer on a tape is the one that demand 3 names for it, verdict, place and code, and no other: from
 -- the judge's promise, and since no place and no code that it gives is too large for the layout. Assumes nothing.
-use mathlib.Core.Path.{_≡_, refl, sym, ap, ap₂, _∙_, subst}
+use mathlib.Core.Path.{_≡_, sym, ap, ap₂, _∙_, subst}
 use mathlib.Core.List.{List}
-use Prim.Native.Nat.{ℕ, _+_, _%_, _^_, _≤_, _<_}
+use Prim.Native.Nat.{ℕ, _+_, _^_, _≤_, _<_}
 use native.Mathlib.Decide.{decLt}
 use native.Mathlib.Nat.{mod-eq-of-lt}
 use native.Mathlib.Omega.{arith}
 use lib.ListN.{length, take}
 use lib.Seq.{take-all}
 use Rattle.tape_read.specs.Entries.{Entry as TapeEntry, blocksMost}
-use Rattle.tape_read.specs.Tapes.{Reading, entries, unreadable, readTape}
-use Rattle.rulebook.specs.Session.{Session, Open, BreaksAt, Lawful}
+use Rattle.rulebook.specs.Session.{BreaksAt, Lawful}
 use Rattle.verdict.specs.Saying.{says}
 use Rattle.verdict.specs.declared.Verdict.{Verdict}
 use Rattle.verdict.specs.declared.Verdict.the-variants.{Pass, Fail, Inconclusive, Unreadable}
@@ -29,7 +28,8 @@ entered-once number t e f a b =
     a .entry ∙ (ap (entryOf number) (judged-once (a .promised) (b .promised)) ∙ sym (b .entry))
 
 -- what the layout keeps of an answer whose place and code are small
-kept : (number place code : ℕ) (v : Verdict) → place < 2 ^ 32 → code < 2 ^ 32 → entryOf number (says v place code) ≡ made number (verdictNumber v) place code
+kept : (number place code : ℕ) (v : Verdict) → place < 2 ^ 32 → code < 2 ^ 32
+    → entryOf number (says v place code) ≡ made number (verdictNumber v) place code
 unfolding entryOf
 kept number place code v p c = ap₂ (made number (verdictNumber v)) (mod-eq-of-lt p) (mod-eq-of-lt c)
 

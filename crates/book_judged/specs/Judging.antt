@@ -5,12 +5,11 @@ use mathlib.Core.List.{List}
 use Prim.Native.Nat.{ℕ}
 use lib.ListN.{length}
 use Rattle.tape_read.specs.Entries.{Entry as TapeEntry}
-use Rattle.tape_read.specs.Tapes.{Reading, entries, unreadable, readTape}
+use Rattle.tape_read.specs.Tapes.{entries, unreadable, readTape}
 use Rattle.rulebook.specs.Session.{Session, Open, BreaksAt}
 use Rattle.verdict.specs.declared.Answer.{Answer}
 use Rattle.verdict_judged.specs.Judged.{Judged}
-use Rattle.book_block.specs.Entries.{made}
-use Rattle.book_block.specs.Entries.{pass, fail, inconclusive, unreadable as unreadableNumber}
+use Rattle.book_block.specs.Entries.{pass, fail, inconclusive, unreadable as unreadableNumber, made}
 use Rattle.book_block.specs.declared.Entry.{Entry}
 use Rattle.book_answer.specs.Answers.{entryOf}
 

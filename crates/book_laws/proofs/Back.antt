@@ -1,12 +1,12 @@
 -- A block as it is laid out: what its fields read as, and that it passes every test. Assumes nothing.
-use mathlib.Core.Path.{_≡_, refl, sym, ap, ap₂, _∙_}
-use mathlib.Core.Bool.{Bool, true, false, not, _&&_, and-eq-true-iff}
+use mathlib.Core.Path.{_≡_, refl, sym, ap, _∙_}
+use mathlib.Core.Bool.{true, false, not, _&&_, and-eq-true-iff}
 use mathlib.Core.List.{List, [], _∷_, _++_, append-assoc, append-nil}
-use Prim.Native.Nat.{ℕ, _+_, _*_, _^_, _≤_, _<_}
+use Prim.Native.Nat.{ℕ, _*_, _^_, _≤_, _<_}
 use native.Mathlib.Nat.{mul-one, add-zero}
 use native.Mathlib.Omega.{arith}
 use lib.Dec.{leb}
-use lib.ListN.{length, take, drop}
+use lib.ListN.{take, drop}
 use lib.Pow.{areBytes}
 use lib.Seq.{take-at, drop-at, take-append-le}
 use borrow.Author.Tests.{ltb-true, leb-true, eq-eqb}
@@ -23,7 +23,7 @@ use Rattle.tape_read.specs.Blocks.{window, field, numberIn, checkIn, checkBad, 
 use Rattle.tape_read.proofs.Extra.{zeros-bytes}
 use Rattle.tape_read.proofs.Numbers.{number-back, bytes-length, bytes-are}
 use Rattle.tape_read.proofs.Windows.{window-middle}
-use Rattle.book_block.specs.Entries.{isVerdict, isLong, fits, made, pass, unreadable}
+use Rattle.book_block.specs.Entries.{isVerdict, isLong, fits, pass, unreadable}
 use Rattle.book_block.specs.Blocks.{head, body, block, padding, paddingAt, tapeIn, verdictIn, placeIn, codeIn, entryIn, verdictBad, zerosBad, faultOf}
 use Rattle.book_block.specs.declared.Entry.{Entry}
 use Rattle.book_block.proofs.Faults.{good-block}

@@ -25,7 +25,7 @@ use Rattle.book.proofs.Refusals.{accepted}
 use Rattle.book.proofs.Searching.{stored-there}
 use Rattle.book_open.specs.Reopening.{written}
 use Rattle.book_laws.specs.History.{joinedBy}
-use Rattle.book_laws.proofs.Written.{Fit, Holds, holds-more, written-more, entries-written}
+use Rattle.book_laws.proofs.Written.{Holds, holds-more, written-more, entries-written}
 
 pub record Stands (es : List Entry) (b : Book) (t : List ℕ) : Type 0 where
   pub end : b ≡ endOf es

@@ -1,28 +1,25 @@
 -- The campaign book over whole histories (02, R-11): what is counted, what a cut leaves, and which bytes reopen. A history stands as
 -- the entries that it accepts say; these, written in order, are what its blocks hold; what is written reads back, and only that.
 -- Assumes nothing.
-use mathlib.Core.Path.{_≡_, refl, sym, ap, _∙_, subst}
+use mathlib.Core.Path.{_≡_, sym, ap, _∙_, subst}
 use mathlib.Core.Bool.{true}
 use mathlib.Core.List.{List, []}
-use Prim.Native.Nat.{ℕ, _+_, _*_, _/_, _%_, _≤_, _<_}
+use Prim.Native.Nat.{ℕ, _*_, _/_, _%_, _≤_}
 use native.Mathlib.Decide.{decLe, ℕ-discrete}
-use native.Mathlib.Nat.{zero-add}
 use native.Mathlib.Omega.{arith}
 use lib.ListN.{length, take, length-take}
 use lib.Pow.{areBytes}
 use Rattle.tape_read.specs.Entries.{blockSize}
 use Rattle.tape_read.specs.Tapes.{cut, blocksOf}
-use Rattle.book_block.specs.Entries.{allFit, pass, fail, inconclusive, unreadable}
+use Rattle.book_block.specs.Entries.{allFit}
 use Rattle.book_block.specs.declared.Entry.{Entry}
-use Rattle.book.specs.Counting.{entriesMost, countOf, endOf, totalOf}
-use Rattle.book.specs.Entering.{replyTo}
-use Rattle.book.specs.declared.Book.{Book}
+use Rattle.book.specs.Counting.{entriesMost, endOf, totalOf}
 use Rattle.book_open.specs.Reopening.{good, readOn, readBook, openingOf, written}
 use Rattle.book_open.specs.declared.Opening.the-variants.{Opened}
 use Rattle.book_open.proofs.Blockwise.{too-long, torn, blockwise}
-use Rattle.book_laws.specs.History.{Left, handedIn, history, bookOf, acceptedFrom, accepted, repliesFrom}
+use Rattle.book_laws.specs.History.{history, bookOf, accepted, repliesFrom}
 use Rattle.book_laws.proofs.Written.{Holds, holds-take, written-length, written-cut, reads-written, Wrote, read-is, good-bad}
-use Rattle.book_laws.proofs.Standing.{Stands, stands-empty, used-is}
+use Rattle.book_laws.proofs.Standing.{stands-empty, used-is}
 use Rattle.book_laws.proofs.Tracking.{Led, tracked, all-accepted, holds-fit}
 use Rattle.book_laws.proofs.Counts.{total-length}
 
@@ -64,7 +61,8 @@ module _ (t : List ℕ) (es : List Entry) (f : allFit es ≡ true) where
   cut-reopens k =
       let most = led .stands .most in
       ap (λ (b : List ℕ). readBook (take (k * blockSize) b)) book-is
-      ∙ (ap readBook (written-cut k 0 taken) ∙ reopens (take k taken) (holds-take k [] taken (led .stands .holds)) (omega (arith, length-take k taken)))
+      ∙ (ap readBook (written-cut k 0 taken)
+      ∙ reopens (take k taken) (holds-take k [] taken (led .stands .holds)) (omega (arith, length-take k taken)))
 
   pub whole-reopens : readBook (bookOf (history t es)) ≡ good taken
   whole-reopens = ap readBook book-is ∙ reopens taken (led .stands .holds) (led .stands .most)
@@ -83,7 +81,8 @@ module _ (t : List ℕ) (es : List Entry) (f : allFit es ≡ true) where
 whole : (t : List ℕ) (es : List Entry) → readBook t ≡ good es → (length t ≤ entriesMost * blockSize) × (length t % blockSize ≡ 0)
 whole t es r = size (decLe (length t) (entriesMost * blockSize))
   where
-    ends : length t ≤ entriesMost * blockSize → Dec (length t % blockSize ≡ 0) → (length t ≤ entriesMost * blockSize) × (length t % blockSize ≡ 0)
+    ends : length t ≤ entriesMost * blockSize → Dec (length t % blockSize ≡ 0)
+        → (length t ≤ entriesMost * blockSize) × (length t % blockSize ≡ 0)
     ends fits (yes even) = (fits, even)
     ends fits (no odd) = absurd (good-bad (readBook t) es _ _ r (torn t fits odd))
 
@@ -120,5 +119,6 @@ module _ (t : List ℕ) (es : List Entry) (bytes : areBytes t ≡ true) (r : rea
     reopened-left = book-is u es reopened-fit ∙ (ap (written 0) reopened-accepted ∙ sym reopened-is)
 
 -- two books that reopen with the same entries are the same bytes
-pub same-entries : (t u : List ℕ) (es : List Entry) → areBytes t ≡ true → areBytes u ≡ true → readBook t ≡ good es → readBook u ≡ good es → t ≡ u
+pub same-entries : (t u : List ℕ) (es : List Entry) → areBytes t ≡ true → areBytes u ≡ true → readBook t ≡ good es
+    → readBook u ≡ good es → t ≡ u
 same-entries t u es bt bu rt ru = reopened-is t es bt rt ∙ sym (reopened-is u es bu ru)

@@ -15,7 +15,7 @@ use Rattle.book.specs.declared.Book.{Book}
 use Rattle.book.specs.declared.Reply.{Reply}
 use Rattle.book.specs.declared.Reply.the-variants.{Entered}
 use Rattle.book.proofs.Refusals.{accepts}
-use Rattle.book_laws.specs.History.{Left, before, handedIn, joinedBy, acceptedFrom, repliesFrom}
+use Rattle.book_laws.specs.History.{Left, handedIn, joinedBy, acceptedFrom, repliesFrom}
 use Rattle.book_laws.proofs.Written.{Holds}
 use Rattle.book_laws.proofs.Standing.{Stands, reply-is, stands-by, length-by}
 

@@ -1,28 +1,28 @@
 -- No entry is written in two ways: a block of bytes without a fault is the block of its own entry, since each field has its width and
 -- a number has one form in it. Assumes nothing.
-use mathlib.Core.Path.{_≡_, refl, sym, ap, ap₂, _∙_}
-use mathlib.Core.Bool.{true, and-eq-true-iff}
+use mathlib.Core.Path.{_≡_, sym, ap, ap₂, _∙_}
+use mathlib.Core.Bool.{true}
 use mathlib.Core.List.{List, _∷_, _++_, append-assoc}
 use Prim.Native.Nat.{ℕ, _^_}
 use native.Mathlib.Omega.{arith}
 use lib.ListN.{length, take, drop, length-drop, take-append-drop}
 use lib.Pow.{areBytes}
-use lib.Seq.{take-all, take-add, drop-drop, take-append-le}
+use lib.Seq.{take-all, drop-drop, take-append-le}
 use borrow.Author.Tests.{eqb-true, lt-ltb, not-false}
 use Rattle.slices.specs.Tests.{alike}
 use Rattle.slices.specs.Writing.{zeros}
 use Rattle.slices.proofs.Choice.{and-left, and-right, and-both}
 use Rattle.slices.proofs.Comparing.{alike-same}
 use Rattle.tape_crc.specs.Check.{checkOf, blockCheckOf, covered}
-use Rattle.tape_read.specs.Numbers.{numberOf, bytesOf}
+use Rattle.tape_read.specs.Numbers.{bytesOf}
 use Rattle.tape_read.specs.Entries.{blockSize}
 use Rattle.tape_read.specs.Blocks.{window, field, numberIn, checkIn, checkBad, numberBad}
 use Rattle.tape_read.proofs.Numbers.{number-below}
 use Rattle.tape_read.proofs.Unique.{window-bytes, field-bytes}
 use Rattle.tape_read.proofs.Windows.{window-part, byte-field}
 use Rattle.book_block.specs.Entries.{isVerdict, isLong, fits}
-use Rattle.book_block.specs.Blocks.{head, body, block, padding, paddingAt, verdictIn, entryIn, verdictBad, zerosBad, faultOf}
-use Rattle.book_block.proofs.Faults.{Good, block-good}
+use Rattle.book_block.specs.Blocks.{head, body, block, padding, paddingAt, entryIn, verdictBad, zerosBad, faultOf}
+use Rattle.book_block.proofs.Faults.{block-good}
 use Rattle.book_block.proofs.Filling.{body-length}
 
 -- a number of four bytes
@@ -65,7 +65,8 @@ module _ (n : ℕ) (b : List ℕ) (bytes : areBytes b ≡ true) (fine : faultOf 
         ∙ ap₂ _++_ (sym (field-bytes 0 4 b bytes) ∙ ap (bytesOf 4) number-is)
         (ap₂ _++_ (sym (field-bytes 4 4 b bytes))
         (ap₂ _∷_ (sym (byte-field 8 b))
-        (ap₂ _++_ (window-part 3 9 b (omega arith) ∙ spare-is) (ap₂ _++_ (sym (field-bytes 12 4 b bytes)) (sym (field-bytes 16 4 b bytes))))))
+        (ap₂ _++_ (window-part 3 9 b (omega arith)
+        ∙ spare-is) (ap₂ _++_ (sym (field-bytes 12 4 b bytes)) (sym (field-bytes 16 4 b bytes))))))
 
     body-is : b ≡ body n (entryIn b) ++ drop covered b
     unfolding body

@@ -7,7 +7,7 @@ use Prim.Native.Nat.{ℕ, zero, suc, _+_, _*_, _^_, _≤_, _<_}
 use native.Mathlib.Decide.{ℕ-discrete}
 use native.Mathlib.Nat.{add-zero}
 use native.Mathlib.Omega.{arith}
-use lib.ListN.{length, take, drop, length-append, length-take, length-drop, take-append-drop}
+use lib.ListN.{length, take, drop, length-append, length-drop, take-append-drop}
 use lib.Pow.{areBytes}
 use lib.Seq.{take-at, drop-at, take-nil, take-append-add, length-take-le}
 use borrow.Author.Tests.{eq-eqb, ne-eqb}
@@ -17,7 +17,7 @@ use Rattle.tape_crc.proofs.Bytes.{bytes-take, bytes-drop}
 use Rattle.tape_read.specs.Entries.{blockSize}
 use Rattle.tape_read.specs.Tapes.{cut}
 use Rattle.book_block.specs.Entries.{isVerdict, fits}
-use Rattle.book_block.specs.Blocks.{block, tapeIn, entryIn, faultOf}
+use Rattle.book_block.specs.Blocks.{block, tapeIn, entryIn}
 use Rattle.book_block.specs.declared.Entry.{Entry}
 use Rattle.book_block.proofs.Filling.{block-length}
 use Rattle.book.specs.Counting.{entriesMost}
@@ -84,7 +84,8 @@ entries-written n done (e ∷ es) rest h =
     let split = append-assoc (block n e) (written (n + 1) es) rest in
     let more = written (n + 1) es ++ rest in
     ap₂ _∷_
-    (ap entryIn (ap (take blockSize) split ∙ take-at (block n e) more blockSize (block-length n e)) ∙ entry-back n e (fitting e (h .0 .numbers)))
+    (ap entryIn (ap (take blockSize) split ∙ take-at (block n e) more blockSize (block-length n e))
+    ∙ entry-back n e (fitting e (h .0 .numbers)))
     (ap (entriesIn (length es)) (ap (drop blockSize) split ∙ drop-at (block n e) more blockSize (block-length n e))
     ∙ entries-written (n + 1) (done ++ (e ∷ [])) es rest (h .1))
 
@@ -174,4 +175,5 @@ read-is zero done t es bytes size r =
     }
 read-is (suc n) done t es bytes size r =
     block-wrote n done t es bytes (omega arith) r
-    (λ e later. read-is n (done ++ (e ∷ [])) (drop blockSize t) es (bytes-drop blockSize t bytes) (length-drop blockSize t ∙ omega arith) later)
+    (λ e later. read-is n (done ++ (e ∷ [])) (drop blockSize t) es (bytes-drop blockSize t bytes) (length-drop blockSize t
+    ∙ omega arith) later)

@@ -10,7 +10,6 @@ use Rattle.book.specs.Entering.{replyTo, stepOf, bytesAfter}
 use Rattle.book.specs.declared.Book.{Book}
 use Rattle.book.specs.declared.Reply.{Reply}
 use Rattle.book.specs.declared.Reply.the-variants.{Entered, NoVerdict, AlreadyEntered, Full}
-use Rattle.book.specs.declared.Step.{Step}
 
 -- what a history leaves: the end of the book, the lent bytes, and the replies in order
 pub record Left : Type 0 where

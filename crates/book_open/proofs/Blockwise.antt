@@ -1,12 +1,12 @@
 -- A book read one block at a time, as the loop over its blocks does it, and the two faults that go before all blocks.
 -- Assumes nothing.
-use mathlib.Core.Path.{_≡_, refl, sym, ap, ap₂, _∙_}
+use mathlib.Core.Path.{_≡_, sym, ap, _∙_}
 use mathlib.Core.Bool.{not}
-use mathlib.Core.List.{List, [], _∷_, _++_}
+use mathlib.Core.List.{List, [], _∷_}
 use Prim.Native.Nat.{ℕ, suc, _+_, _-_, _*_, _/_, _%_, _≤_, _<_}
 use native.Mathlib.Numerals.{add-one}
 use native.Mathlib.Omega.{arith}
-use lib.ListN.{length, take, drop}
+use lib.ListN.{length, drop}
 use borrow.Author.Tests.{lt-ltb, le-ltb, eq-eqb, ne-eqb}
 use Rattle.slices.proofs.Choice.{pick-yes, pick-no}
 use Rattle.tape_read.specs.Entries.{blockSize}
@@ -63,7 +63,8 @@ module _ (t : List ℕ) where
         (sym (entries-more k t) ∙ ap (λ (n : ℕ). entriesIn n t) (sym (add-one k))))
 
   -- and it is counted
-  pub one-counted : (k : ℕ) → k < entriesMost → counted (entryIn (blockAt k t) .verdict) (endOf (entriesIn k t)) ≡ endOf (entriesIn (k + 1) t)
+  pub one-counted : (k : ℕ) → k < entriesMost
+      → counted (entryIn (blockAt k t) .verdict) (endOf (entriesIn k t)) ≡ endOf (entriesIn (k + 1) t)
   one-counted k h =
       counted-more (entriesIn k t) (entryIn (blockAt k t)) (omega (arith, entries-length k t))
       ∙ ap endOf (sym (entries-more k t) ∙ ap (λ (n : ℕ). entriesIn n t) (sym (add-one k)))

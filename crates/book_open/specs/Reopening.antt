@@ -5,7 +5,7 @@ use mathlib.Core.List.{List, [], _∷_, _++_}
 use Prim.Native.Nat.{ℕ, _+_, _*_, _/_, _%_}
 use lib.Dec.{eqb, ltb}
 use lib.ListN.{length}
-use Rattle.slices.specs.Choice.{pick, firstOf}
+use Rattle.slices.specs.Choice.{pick}
 use Rattle.tape_read.specs.Entries.{blockSize}
 use Rattle.tape_read.specs.Tapes.{blocksOf}
 use Rattle.book_block.specs.Blocks.{block, tapeIn, entryIn, faultOf}

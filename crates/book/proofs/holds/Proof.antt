@@ -1,11 +1,9 @@
 -- `book::holds` meets its contract. The loop's invariant: what is left of the blocks holds the tape number exactly where all of them
 -- do. Assumes nothing.
 use mathlib.Core.Path.{_≡_, sym, ap, _∙_}
-use mathlib.Core.List.{List}
 use Prim.Native.Nat.{ℕ, _≤_, _-_}
 use native.Mathlib.Omega.{arith}
 use borrow.Author.Needs.{needs}
-use Rattle.tape_read.specs.Blocks.{field}
 use Rattle.tape_read.specs.Tapes.{blockAt}
 use Rattle.book_block.specs.Blocks.{tapeIn}
 use Rattle.book.specs.Entering.{entriesIn, stored, entered}
@@ -27,13 +25,15 @@ loop-holds c =
     (omega arith, ap (λ (m : ℕ). entered (a .tape) (entriesIn m (a .bytes .now))) all)
 
 -- what is asked for
-stored-all : (c : tie.After-least Inv-loop μ-loop) → entered (c .before .before .args .tape) (entriesIn (c .least .result) (c .before .before .args .bytes .now))
+stored-all : (c : tie.After-least Inv-loop μ-loop)
+    → entered (c .before .before .args .tape) (entriesIn (c .least .result) (c .before .before .args .bytes .now))
     ≡ entered (c .before .before .args .tape) (stored (c .before .before .args .used) (c .before .before .args .bytes .now))
 unfolding stored
 stored-all c = ap (λ (m : ℕ). entered (c .before .before .args .tape) (entriesIn m (c .before .before .args .bytes .now))) (c .least .ensures)
 
 -- the tape number of the block at the place
-told : (c : tie.After-tape-in Inv-loop μ-loop) → c .tape-in .result ≡ tapeIn (blockAt (c .before .before .before .loop .k) (c .before .before .before .before .before .before .args .bytes .now))
+told : (c : tie.After-tape-in Inv-loop μ-loop)
+    → c .tape-in .result ≡ tapeIn (blockAt (c .before .before .before .loop .k) (c .before .before .before .before .before .before .args .bytes .now))
 told c = c .tape-in .ensures ∙ ap tapeIn (c .before .block-at .ensures)
 
 returns : tie.Need-returns Inv-loop μ-loop
@@ -41,7 +41,8 @@ returns c =
     let there = c .before .before .before in
     let loop = there .before in
     let a = loop .before .before .before .args in
-    sym (search-found (a .tape) (loop .loop .k) (loop .before .least .result) (a .bytes .now) (omega arith) (sym (told (c .before)) ∙ c .if1 .taken))
+    sym (search-found (a .tape) (loop .loop .k) (loop .before .least .result) (a .bytes .now) (omega arith) (sym (told (c .before))
+    ∙ c .if1 .taken))
     ∙ (loop .loop .inv .1 ∙ stored-all (loop .before))
 
 loop-again : tie.Need-loop-again Inv-loop μ-loop
@@ -58,7 +59,8 @@ returns-2 : tie.Need-returns-2 Inv-loop μ-loop
 returns-2 c =
     let loop = c .before in
     let a = loop .before .before .before .args in
-    sym (search-over (a .tape) (loop .loop .k) (loop .before .least .result) (a .bytes .now) (omega arith)) ∙ (loop .loop .inv .1 ∙ stored-all (loop .before))
+    sym (search-over (a .tape) (loop .loop .k) (loop .before .least .result) (a .bytes .now) (omega arith)) ∙ (loop .loop .inv .1
+    ∙ stored-all (loop .before))
 
 pub holds-spec : {M : Type 1} → statement M
 holds-spec =

@@ -6,7 +6,7 @@ use borrow.Author.Needs.{needs}
 use borrow.Author.Tests.{eq-eqb, ne-eqb}
 use Rattle.tape_read.specs.Blocks.{checkBad, numberBad}
 use Rattle.book_block.specs.Entries.{isVerdict}
-use Rattle.book_block.specs.Blocks.{verdictBad, zerosBad}
+use Rattle.book_block.specs.Blocks.{verdictBad}
 use Rattle.book_block.proofs.Faults.{fault-check, fault-number, fault-verdict, fault-zeros, fault-none}
 use Rattle.book_block.proofs.fault_of.Statement.{statement}
 use Rattle.book_block.proofs.fault_of.Tie as tie
@@ -37,7 +37,8 @@ verdict-told c = sym (c .no-verdict .ensures ∙ ap (λ (v : ℕ). not (isVerdic
 returns : tie.Need-returns
 unfolding checkBad
 returns c =
-    sym (fault-check _ _ (ap not (ne-eqb _ _ (λ e. c .if1 .taken (c .before .before .long-at .ensures ∙ (e ∙ sym (c .before .of-block .ensures)))))))
+    sym (fault-check _ _ (ap not (ne-eqb _ _ (λ e. c .if1 .taken (c .before .before .long-at .ensures ∙ (e
+    ∙ sym (c .before .of-block .ensures)))))))
 
 returns-2 : tie.Need-returns-2
 unfolding numberBad

@@ -24,7 +24,8 @@ place c =
 third : (c : tie.After-after-word2) → c .after-word2 .result .now ≡ afterWord (afterWord (second c))
 third c = c .after-word2 .ensures ∙ ap afterWord (c .before .after-word .ensures)
 
-code : (c : tie.After-decimal2) → c .decimal2 .result ≡ numberIn (wordIn (afterWord (afterWord (second (c .before .before .before .before .before)))))
+code : (c : tie.After-decimal2)
+    → c .decimal2 .result ≡ numberIn (wordIn (afterWord (afterWord (second (c .before .before .before .before .before)))))
 code c =
     c .decimal2 .ensures .0 ∙ ap numberIn (c .before .word-in2 .ensures ∙ ap wordIn (third (c .before .before .before .before .before)))
 
@@ -35,7 +36,8 @@ left c =
     ∙ ap closes (c .before .after-word3 .ensures ∙ ap afterWord (third (c .before .before .before .before .before .before .before .before)))
 
 -- the place is a number
-placed : (c : tie.After-decimal2) → leb noNumber (numberIn (wordIn (afterWord (second (c .before .before .before .before .before))))) ≡ false
+placed : (c : tie.After-decimal2)
+    → leb noNumber (numberIn (wordIn (afterWord (second (c .before .before .before .before .before))))) ≡ false
 placed c =
     let asked = c .before .before in
     under _ _ (place (asked .before)) (asked .if1 .left)

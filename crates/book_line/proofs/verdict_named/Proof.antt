@@ -15,7 +15,8 @@ returns-2 : tie.Need-returns-2
 unfolding verdictNamed wordOf
 returns-2 c =
     let one = c .before .before .before in
-    sym (pick-no _ _ _ (sym (one .before .alike .ensures) ∙ one .if1 .left) ∙ pick-yes _ _ _ (sym (c .before .alike2 .ensures) ∙ c .if2 .taken))
+    sym (pick-no _ _ _ (sym (one .before .alike .ensures) ∙ one .if1 .left) ∙ pick-yes _ _ _ (sym (c .before .alike2 .ensures)
+    ∙ c .if2 .taken))
 
 returns-3 : tie.Need-returns-3
 unfolding verdictNamed wordOf
@@ -23,7 +24,8 @@ returns-3 c =
     let two = c .before .before .before in
     let one = two .before .before .before in
     sym (pick-no _ _ _ (sym (one .before .alike .ensures) ∙ one .if1 .left)
-    ∙ (pick-no _ _ _ (sym (two .before .alike2 .ensures) ∙ two .if2 .left) ∙ pick-yes _ _ _ (sym (c .before .alike3 .ensures) ∙ c .if3 .taken)))
+    ∙ (pick-no _ _ _ (sym (two .before .alike2 .ensures) ∙ two .if2 .left) ∙ pick-yes _ _ _ (sym (c .before .alike3 .ensures)
+    ∙ c .if3 .taken)))
 
 returns-4 : tie.Need-returns-4
 unfolding verdictNamed wordOf
@@ -33,7 +35,8 @@ returns-4 c =
     let one = two .before .before .before in
     sym (pick-no _ _ _ (sym (one .before .alike .ensures) ∙ one .if1 .left)
     ∙ (pick-no _ _ _ (sym (two .before .alike2 .ensures) ∙ two .if2 .left)
-    ∙ (pick-no _ _ _ (sym (three .before .alike3 .ensures) ∙ three .if3 .left) ∙ pick-yes _ _ _ (sym (c .before .alike4 .ensures) ∙ c .if4 .taken))))
+    ∙ (pick-no _ _ _ (sym (three .before .alike3 .ensures) ∙ three .if3 .left) ∙ pick-yes _ _ _ (sym (c .before .alike4 .ensures)
+    ∙ c .if4 .taken))))
 
 returns-5 : tie.Need-returns-5
 unfolding verdictNamed wordOf
@@ -43,7 +46,8 @@ returns-5 c =
     let one = two .before .before .before in
     sym (pick-no _ _ _ (sym (one .before .alike .ensures) ∙ one .if1 .left)
     ∙ (pick-no _ _ _ (sym (two .before .alike2 .ensures) ∙ two .if2 .left)
-    ∙ (pick-no _ _ _ (sym (three .before .alike3 .ensures) ∙ three .if3 .left) ∙ pick-no _ _ _ (sym (c .before .alike4 .ensures) ∙ c .if4 .left))))
+    ∙ (pick-no _ _ _ (sym (three .before .alike3 .ensures) ∙ three .if3 .left) ∙ pick-no _ _ _ (sym (c .before .alike4 .ensures)
+    ∙ c .if4 .left))))
 
 pub verdict-named-spec : {M : Type 1} → statement M
 verdict-named-spec =

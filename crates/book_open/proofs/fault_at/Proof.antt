@@ -1,16 +1,14 @@
 -- `book_open::fault_at` meets its contract: the block's own fault, or a tape number among those of the blocks before.
 -- Assumes nothing.
 use mathlib.Core.Path.{_≡_, sym, ap, ap₂, _∙_}
-use mathlib.Core.Bool.{Bool}
-use mathlib.Core.List.{List}
-use Prim.Native.Nat.{ℕ, _*_, _≤_}
+use Prim.Native.Nat.{_*_, _≤_}
 use native.Mathlib.Omega.{arith}
 use borrow.Author.Needs.{needs}
 use lib.ListN.{length}
 use Rattle.tape_read.specs.Entries.{blockSize}
 use Rattle.tape_read.specs.Tapes.{blockAt}
 use Rattle.book_block.specs.Blocks.{tapeIn, faultOf}
-use Rattle.book.specs.Entering.{entriesIn, stored, entered}
+use Rattle.book.specs.Entering.{entriesIn, entered}
 use Rattle.book.proofs.Searching.{entries-length, stored-there}
 use Rattle.book_open.proofs.Faults.{own-fault, tape-twice, no-fault}
 use Rattle.book_open.proofs.fault_at.Statement.{statement}
@@ -27,7 +25,8 @@ own c =
     c .fault-of .ensures ∙ ap₂ faultOf (sym (entries-length (a .k) (a .bytes .now))) (c .before .block-at .ensures)
 
 -- what the search tells
-again : (c : tie.After-holds) → entered (tapeIn (blockAt (start (c .before .before .before) .args .k) (start (c .before .before .before) .args .bytes .now)))
+again : (c : tie.After-holds)
+    → entered (tapeIn (blockAt (start (c .before .before .before) .args .k) (start (c .before .before .before) .args .bytes .now)))
     (entriesIn (start (c .before .before .before) .args .k) (start (c .before .before .before) .args .bytes .now)) ≡ c .holds .result
 again c =
     let asked = c .before .before .before in

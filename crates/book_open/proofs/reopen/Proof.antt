@@ -1,22 +1,16 @@
 -- `book_open::reopen` meets its contract. The loop's invariant: the book counts the entries of the blocks passed, and what is read
 -- from here on is what the whole reads as. Assumes nothing.
-use mathlib.Core.Path.{_≡_, refl, sym, ap, ap₂, _∙_}
-use mathlib.Core.List.{List, [], _∷_, _++_}
-use Prim.Native.Nat.{ℕ, _+_, _-_, _*_, _/_, _≤_, _<_}
-use native.Mathlib.Numerals.{add-one}
+use mathlib.Core.Path.{_≡_, sym, ap, ap₂, _∙_}
+use Prim.Native.Nat.{_-_, _/_, _≤_}
 use native.Mathlib.Omega.{arith}
 use borrow.Author.Needs.{needs}
 use lib.ListN.{length}
 use Rattle.tape_read.specs.Entries.{blockSize}
-use Rattle.tape_read.specs.Tapes.{blockAt}
 use Rattle.book_block.specs.Blocks.{entryIn}
 use Rattle.book_block.specs.declared.Entry.{Entry}
-use Rattle.book.specs.Counting.{entriesMost, countOf, endOf, counted}
+use Rattle.book.specs.Counting.{countOf, endOf, counted}
 use Rattle.book.specs.Entering.{entriesIn}
-use Rattle.book.specs.declared.Book.{Book}
-use Rattle.book.proofs.Counting.{counted-more}
-use Rattle.book.proofs.Searching.{entries-length, entries-more}
-use Rattle.book_open.specs.Reopening.{Reading, good, bad, faultAfter, readBook, openingOf}
+use Rattle.book_open.specs.Reopening.{bad, readBook, openingOf}
 use Rattle.book_open.specs.declared.Opening.the-variants.{Opened, Refused}
 use Rattle.book_open.proofs.Blockwise.{onward, from-start, at-end, at-fault, one-on, one-counted, too-long, torn, blockwise}
 use Rattle.book_open.proofs.reopen.Statement.{statement}
@@ -51,7 +45,8 @@ returns-3 c =
     let loop = c .before .before .before in
     let t = loop .before .before .before .before .before .args .bytes .now in
     let told = c .before .fault-at .ensures in
-    let found : onward (loop .loop .k) t ≡ bad (loop .loop .k) _ = at-fault t (loop .loop .k) (omega arith) (λ e. c .if3 .taken (told ∙ e)) in
+    let found : onward (loop .loop .k) t ≡ bad (loop .loop .k) _ = at-fault t (loop .loop .k) (omega arith) (λ e. c .if3 .taken (told
+    ∙ e)) in
     ap (Refused (loop .loop .k)) told ∙ sym (ap openingOf (sym (loop .loop .inv .1) ∙ found))
 
 loop-again : tie.Need-loop-again Inv-loop μ-loop

@@ -1,5 +1,4 @@
 -- `book::Book::enter` meets its contract: each arm is what its reply says. Assumes nothing.
-use mathlib.Core.Path.{_∙_}
 use borrow.Author.Needs.{needs}
 use Rattle.book.proofs.Stepping.{no-verdict, already-entered, full, taken}
 use Rattle.book.proofs.Book.enter.Statement.{statement}
