@@ -5,3 +5,4 @@ pub mod Standing
 pub mod Tracking
 pub mod Counts
 pub mod Theorem
+pub mod Pinned
