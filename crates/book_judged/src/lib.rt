@@ -8,5 +8,7 @@ ghost use Rattle.book_judged.specs.Judging.{EnteredFor};
 pub fn judged(number: u32, tape: &[u8]) -> Entry
     ensures { λ r. ⌜ EnteredFor number (now (tape .entry)) r ⌝ }
 {
-    entry_of(number, judge(tape))
+    let found = judge(tape);
+    let answer = found.answer;
+    entry_of(number, answer)
 }

@@ -15,7 +15,7 @@ use Rattle.slices.proofs.Choice.{pick-yes, pick-no}
 use Rattle.text_lines.specs.Lines.{lineEnd, afterWord}
 use Rattle.verdict.specs.declared.Verdict.{Verdict}
 use Rattle.verdict.specs.declared.Verdict.the-variants.{Pass, Fail, Inconclusive, Unreadable}
-use Rattle.verdict.specs.declared.Answer.{Answer}
+use Rattle.verdict.specs.declared.Finding.{Finding}
 use Rattle.verdict_line.specs.Line.{wordOf, decimal, fieldOf, lineOf}
 use Rattle.book_block.specs.Entries.{made}
 use Rattle.book_answer.specs.Answers.{verdictNumber, entryOf}
@@ -129,14 +129,16 @@ module _ (tape : ℕ) (v : Verdict) (p c : ℕ) (r : List ℕ) (t : Tail r) (hp 
       ∙ (ap (λ (n : ℕ). fieldsSaid tape (take n (l ++ (0x0A ∷ [])))) end
       ∙ (ap (fieldsSaid tape) (take-at l (0x0A ∷ []) (length l) refl) ∙ line-said))
 
--- the line that the judge's program writes gives the entry of the answer that it says
-pub answer-said : (tape : ℕ) (a : Answer) → a .place < 2 ^ 32 → a .code < 2 ^ 32 → entrySaid tape (lineOf a) ≡ entryOf tape a
+-- the line that the judge's program writes gives the entry of the answer that it says; the fourth number is not entered
+pub answer-said : (tape : ℕ) (f : Finding) → f .answer .place < 2 ^ 32 → f .answer .code < 2 ^ 32 → f .zeros < 2 ^ 32
+    → entrySaid tape (lineOf f) ≡ entryOf tape (f .answer)
 unfolding lineOf entryOf
-answer-said tape a p c =
+answer-said tape f p c z =
+    let a = f .answer in
     let v = a .verdict in
-    ap (entrySaid tape) (sym (regrouped (wordOf v) (fieldOf (a .place)) (fieldOf (a .code)) (0x0A ∷ [])))
-    ∙ (text-said tape v (a .place) (a .code) [] without p c
+    ap (entrySaid tape) (sym (regrouped (wordOf v) (fieldOf (a .place)) (fieldOf (a .code)) (fieldOf (f .zeros)) (0x0A ∷ [])))
+    ∙ (text-said tape v (a .place) (a .code) (fieldOf (f .zeros)) (fourth (f .zeros) z) p c
     ∙ ap₂ (made tape (verdictNumber v)) (sym (mod-eq-of-lt p)) (sym (mod-eq-of-lt c)))
   where
-    regrouped : (w x y z : List ℕ) → (w ++ (x ++ (y ++ []))) ++ z ≡ w ++ (x ++ (y ++ z))
-    regrouped w x y z = simp (append-assoc, append-nil)
+    regrouped : (w x y k z : List ℕ) → (w ++ (x ++ (y ++ k))) ++ z ≡ w ++ (x ++ (y ++ (k ++ z)))
+    regrouped w x y k z = simp append-assoc
