@@ -23,7 +23,7 @@ use Rattle.tlv_head.specs.declared.Next.the-variants.{Member, End, Broken}
 use Rattle.tlv_list.proofs.Objects.{objects-empty}
 use Rattle.tlv_list.proofs.Reading.{following, objects-next, next-ahead}
 use Rattle.tlv_list.proofs.Walking.{find-lookup}
-use Rattle.answer_common.specs.Answer.{sizeBad, only, outer, valueUnder, inside}
+use Rattle.answer_common.specs.Answer.{valueMost, sizeBad, only, outer, valueUnder, inside}
 use Rattle.answer_common.specs.Named.{membersIn, among, direct, standing, told, valueOf}
 use Rattle.answer_common.proofs.Outer.{size-right, data-length}
 
@@ -161,7 +161,7 @@ inside-size tag a =
     let data-size = data-length a in
     omega (arith, under (length (dataField a)) tag (objects (dataField a)) (held (dataField a)) .1))
 
-pub direct-size : (tag : ℕ) (a : List ℕ) (name : ℕ) → length (valueOf (direct tag a name)) ≤ 252
+pub direct-size : (tag : ℕ) (a : List ℕ) (name : ℕ) → length (valueOf (direct tag a name)) ≤ valueMost
 unfolding direct
 direct-size tag a name = let outside = inside-size tag a in omega (arith, among-size (inside tag a) name)
 

@@ -21,6 +21,10 @@ fewest = 2
 abbrev pub most : ℕ
 most = 258
 
+-- the most bytes of a value in an answer's one object: less the status, and a tag and a length at each depth
+abbrev pub valueMost : ℕ
+valueMost = most - 2 - 2 - 2
+
 unfoldable pub sizeBad : List ℕ → Bool
 sizeBad a = ltb (length a) fewest || ltb most (length a)
 

@@ -34,6 +34,10 @@ pub record Row : Type 0 where
   pub mandatory : Bool
   pub format : Format
 
+-- the most bytes of an object list: 9F38, 8C, 8D
+abbrev pub listMost : ℕ
+listMost = 252
+
 abbrev row : ℕ → Rule → Bool → Format → Row
 row tag rule mandatory format = record { tag = tag; rule = rule; mandatory = mandatory; format = format }
 
@@ -45,8 +49,8 @@ recordTable =
     ∷ row 0x5F24 Date true Numeric
     ∷ row 0x5F25 Date false Numeric
     ∷ row 0x9F08 (Sizes 2 2) false Other
-    ∷ row 0x8C (Sizes 0 252) true Unknown
-    ∷ row 0x8D (Sizes 0 252) true Unknown
+    ∷ row 0x8C (Sizes 0 listMost) true Unknown
+    ∷ row 0x8D (Sizes 0 listMost) true Unknown
     ∷ row 0x9F0D (Sizes 5 5) false Other
     ∷ row 0x9F0E (Sizes 5 5) false Other
     ∷ row 0x9F0F (Sizes 5 5) false Other
@@ -76,7 +80,7 @@ unfoldable pub rules : List (ℕ × Rule)
 rules =
     -- SELECT; A5 may hold anything
     (0x84, Sizes 5 16)
-    ∷ (0x9F38, Sizes 0 252)
+    ∷ (0x9F38, Sizes 0 listMost)
     -- GPO
     ∷ (0x82, Sizes 2 2)
     ∷ (0x94, Entries)

@@ -14,10 +14,16 @@ ghost use Rattle.tlv_list.specs.Place.{dataField};
 ghost use Rattle.answer_common.specs.Answer.{sizeBad, statusBad, outer as outerOf, isOne, inside as insideOf, outerBad, frame};
 ghost use Rattle.answer_common.specs.Answer.{only as onlyOf, theOne};
 
+// The most bytes of an answer.
+const MOST: usize = 258;
+
+// The most bytes of a value in its one object: less the status, and a tag and a length at each depth.
+pub const VALUE_MOST: usize = MOST - 2 - 2 - 2;
+
 fn is_size_bad(answer: &[u8]) -> bool
     ensures { λ r. ⌜ r ≡ sizeBad (now (answer .entry)) ⌝ }
 {
-    answer.len() < 2 || 258 < answer.len()
+    answer.len() < 2 || MOST < answer.len()
 }
 
 fn is_status_bad(answer: &[u8]) -> bool

@@ -44,20 +44,23 @@ pub enum Rule {
     Anything,
 }
 
+// The most bytes of an object list.
+pub const LIST_MOST: usize = 252;
+
 pub fn rule_for(tag: usize) -> Rule
     ensures { λ r. ⌜ r ≡ ruleFor tag ⌝ }
 {
     match tag {
         0x84 => Rule::Sizes(5, 16),
-        0x9F38 => Rule::Sizes(0, 252),
+        0x9F38 => Rule::Sizes(0, LIST_MOST),
         0x82 => Rule::Sizes(2, 2),
         0x94 => Rule::Entries,
         0x5A => Rule::Number,
         0x5F24 => Rule::Date,
         0x5F25 => Rule::Date,
         0x9F08 => Rule::Sizes(2, 2),
-        0x8C => Rule::Sizes(0, 252),
-        0x8D => Rule::Sizes(0, 252),
+        0x8C => Rule::Sizes(0, LIST_MOST),
+        0x8D => Rule::Sizes(0, LIST_MOST),
         0x9F0D => Rule::Sizes(5, 5),
         0x9F0E => Rule::Sizes(5, 5),
         0x9F0F => Rule::Sizes(5, 5),

@@ -17,7 +17,7 @@ use Rattle.dol_wanted.specs.Wanted.{fillable}
 use Rattle.answer_afl.specs.Entries.{mostRecords, wholeEntries, entriesRight, recordCount, tooMany}
 use Rattle.slices.specs.Tables.{anyOf, beside}
 use Rattle.answer_common.specs.Content.{rules, ruleFor, rightValue, meets, recordTag, recordNames, mandatory}
-use Rattle.answer_common.specs.Answer.{isOne, inside, frame}
+use Rattle.answer_common.specs.Answer.{valueMost, isOne, inside, frame}
 use Rattle.answer_common.specs.Right.{Framed}
 use Rattle.answer_common.specs.Named.{listed, direct, times, told, valueOf, anyTimes, anyWrong}
 use Rattle.slices.proofs.Tables.{and-yes}
@@ -134,12 +134,12 @@ module _ (a : List ℕ) (e : optionsReason a ≡ 0) where
       let size = sized 0x82 2 2 (found .0) refl (found .2) in
       ap length (pick-no _ _ _ n ∙ ap valueOf (found .1)) ∙ omega arith)
 
--- an AFL has room for at most 252 bytes inside an answer, whatever else it is
-pub locator-size : (a : List ℕ) → length (locatorOf a) ≤ 252
+-- an AFL has room for no more bytes than other values have inside an answer, whatever else it is
+pub locator-size : (a : List ℕ) → length (locatorOf a) ≤ valueMost
 unfolding locatorOf
 locator-size a =
     let outside = inside-size joined a in
-    picked (λ v. length v ≤ 252) (isOne joined a) (drop 2 (inside joined a)) (valueOf (direct template a 0x94))
+    picked (λ v. length v ≤ valueMost) (isOne joined a) (drop 2 (inside joined a)) (valueOf (direct template a 0x94))
     (λ y. rw length-drop (omega arith))
     (λ n. direct-size template a 0x94)
 

@@ -12,7 +12,7 @@ use Rattle.tlv_list.specs.Lookup.{Lookup, once}
 use Rattle.start_fields.specs.Reading.{Terminal}
 use Rattle.dol_wanted.specs.Wanted.{wantedStep, entriesOf, total, fits, fillable}
 use Rattle.slices.specs.Tables.{anyOf, beside}
-use Rattle.answer_common.specs.Content.{meets, rules, ruleFor, rightValue, recordTag, recordNames, mandatory}
+use Rattle.answer_common.specs.Content.{listMost, meets, rules, ruleFor, rightValue, recordTag, recordNames, mandatory}
 use Rattle.answer_common.specs.Answer.{frame}
 use Rattle.answer_common.specs.Right.{Framed, There, MayBe, Right, Sized}
 use Rattle.answer_common.specs.Named.{listed, direct, times, told, valueOf, anyTimes, anyWrong}
@@ -48,11 +48,11 @@ module _ (t : Terminal) (a : List ℕ) where
         proprietary = (held .0, held .1, tt);
         list =
             may-be-so
-            (λ v f r. (sized 0x9F38 0 252 v refl r, sym (ap (λ (l : Lookup). fillable (valueOf l)) f) ∙ select-list t a e))
+            (λ v f r. (sized 0x9F38 0 listMost v refl r, sym (ap (λ (l : Lookup). fillable (valueOf l)) f) ∙ select-list t a e))
             (may-be innerNames (inner a) (twice′ .1) (within .0) 0x9F38 refl);
       }
 
-  can-fill : MayBe (λ v. Sized 0 252 v × (fillable v ≡ true)) (inner a 0x9F38) → fillable (pdolOf a) ≡ true
+  can-fill : MayBe (λ v. Sized 0 listMost v × (fillable v ≡ true)) (inner a 0x9F38) → fillable (pdolOf a) ≡ true
   unfolding pdolOf valueOf told pick counted shorter wantedStep entriesOf total fits fillable
   can-fill (inl e) = ap (λ (l : Lookup). fillable (valueOf l)) e
   can-fill (inr h) = ap (λ (l : Lookup). fillable (valueOf l)) (h .1) ∙ h .2 .1
@@ -63,7 +63,7 @@ module _ (t : Terminal) (a : List ℕ) where
       let name = there-so (λ v f s. of-size 0x84 5 16 v refl (s .0)) (r .name) in
       let held = there-so (λ v f s. refl) (r .proprietary) in
       let both = by-name (λ n. There (Right n) (direct selectTag a n)) selectNames (name, (held, tt)) in
-      let within = by-name (λ n. MayBe (Right n) (inner a n)) innerNames (may-be-so (λ v f s. of-size 0x9F38 0 252 v refl (s .0)) (r .list), tt) in
+      let within = by-name (λ n. MayBe (Right n) (inner a n)) innerNames (may-be-so (λ v f s. of-size 0x9F38 0 listMost v refl (s .0)) (r .list), tt) in
       no-line (selectTag ∷ []) a (selectLines (t .aid) a) (r .framed) (
         or-no refl _ (none-twice selectNames (direct selectTag a) (λ n l. inr (both n l))) ∙ none-twice innerNames (inner a) within,
         (

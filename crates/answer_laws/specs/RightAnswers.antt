@@ -6,7 +6,7 @@ use mathlib.Core.Bool.{Bool, true, false}
 use mathlib.Core.List.{List, [], _∷_}
 use Prim.Native.Nat.{ℕ}
 use Rattle.dol_wanted.specs.Wanted.{fillable}
-use Rattle.answer_common.specs.Content.{recordTag, recordNames, mandatory}
+use Rattle.answer_common.specs.Content.{listMost, recordTag, recordNames, mandatory}
 use Rattle.answer_common.specs.Named.{listed, direct}
 use Rattle.answer_common.specs.Right.{Framed, There, MayBe, Right, Sized}
 use Rattle.answer_select.specs.Select.{selectTag, inner, begins}
@@ -16,7 +16,7 @@ pub record RightSelect (aid a : List ℕ) : Type 0 where
   pub framed : Framed (selectTag ∷ []) a
   pub name : There (λ v. Sized 5 16 v × (begins aid v ≡ true)) (direct selectTag a 0x84)
   pub proprietary : There (λ v. Unit {0}) (direct selectTag a 0xA5)
-  pub list : MayBe (λ v. Sized 0 252 v × (fillable v ≡ true)) (inner a 0x9F38)
+  pub list : MayBe (λ v. Sized 0 listMost v × (fillable v ≡ true)) (inner a 0x9F38)
 
 -- Record: 70, in which each named object that stands there does so once, rightly, and was not told before
 pub record RightRecord (before : ℕ → Bool) (a : List ℕ) : Type 0 where

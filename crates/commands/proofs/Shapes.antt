@@ -12,6 +12,7 @@ use Rattle.slices.proofs.Choice.{pick-yes, pick-no, either}
 use Rattle.tlv_write.specs.Written.{written, tagBytes, lengthBytes}
 use Rattle.start_fields.specs.Layout.{aidRoom, aidAt}
 use Rattle.start_fields.specs.Reading.{readingOf}
+use Rattle.dol_wanted.specs.Wanted.{most}
 use Rattle.commands.specs.Commands.{selectCommand, optionsCommand, recordCommand, cryptogramCommand, withLength, longest}
 
 -- the object 83, with a length of one byte and of two
@@ -63,7 +64,7 @@ pub select-most : (aid : List ℕ) → length aid ≤ 16 → length (selectComma
 unfolding selectCommand
 select-most aid h = let e = ended-length aid in omega arith
 
-pub options-most : (d : List ℕ) → length d ≤ 252 → length (optionsCommand d) ≤ longest
+pub options-most : (d : List ℕ) → length d ≤ most → length (optionsCommand d) ≤ longest
 options-most d h =
     let e = ended-length d in
     either (ltb (length d) 0x80)
@@ -74,7 +75,7 @@ pub record-most : (number file : ℕ) → length (recordCommand number file) ≤
 unfolding recordCommand
 record-most number file = omega arith
 
-pub cryptogram-most : (request : ℕ) (d : List ℕ) → length d ≤ 252 → length (cryptogramCommand request d) ≤ longest
+pub cryptogram-most : (request : ℕ) (d : List ℕ) → length d ≤ most → length (cryptogramCommand request d) ≤ longest
 cryptogram-most request d h =
     let e = ended-length d in
     either (eqb (length d) 0)

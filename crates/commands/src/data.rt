@@ -1,5 +1,6 @@
 // The data of a command, and the byte that ends it.
 use dol_fill::fill::fill;
+use dol_wanted::MOST;
 use dol_wanted::total;
 use slices::lay;
 ghost use mathlib.Core.Path.{_≡_};
@@ -9,15 +10,16 @@ ghost use lib.ListN.{length};
 ghost use Rattle.slices.specs.Writing.{put};
 ghost use Rattle.start_fields.specs.Reading.{readingOf};
 ghost use Rattle.session_records.specs.Slots.{toldIn};
+ghost use Rattle.dol_wanted.specs.Wanted.{most};
 ghost use Rattle.dol_fill.specs.Filled.{filling};
 ghost use Rattle.commands.specs.Commands.{dataSize};
 
 // How many bytes a list is filled with.
 pub fn data_size(list: &[u8]) -> usize
-    ensures { λ r. ⌜ (r ≡ dataSize (now (list .entry))) × (r ≤ 252) ⌝ }
+    ensures { λ r. ⌜ (r ≡ dataSize (now (list .entry))) × (r ≤ most) ⌝ }
 {
     let n = total(list);
-    if 252 < n { 0 } else { n }
+    if MOST < n { 0 } else { n }
 }
 
 // The list filled from a place on, and '00' after it.

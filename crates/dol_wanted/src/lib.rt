@@ -3,8 +3,14 @@ use slices::byte;
 use tlv_head::tag::is_tag_right;
 use tlv_head::tag::tag_size;
 ghost use mathlib.Core.Path.{_≡_};
-ghost use Prim.Native.Nat.{_<_, _≤_};
-ghost use Rattle.dol_wanted.specs.Wanted.{sizeAt, asks, fillable, tally};
+ghost use Prim.Native.Nat.{_+_, _<_, _≤_};
+ghost use Rattle.dol_wanted.specs.Wanted.{sizeAt, most, asks, fillable, tally};
+
+// The most bytes that a list may ask for.
+pub const MOST: usize = 252;
+
+// What stands for a list that cannot be filled.
+const OVER: usize = MOST + 1;
 
 // Whether a tag and its length byte stand at the front.
 fn is_entry(s: &[u8]) -> bool
@@ -26,20 +32,20 @@ pub fn size_at(s: &[u8]) -> usize
 
 // How many bytes a list asks for; one more than it may, where it is malformed or asks for too much.
 pub fn total(list: &[u8]) -> usize
-    ensures { λ r. ⌜ (r ≡ tally (now (list .entry))) × (r ≤ 253) ⌝ }
+    ensures { λ r. ⌜ (r ≡ tally (now (list .entry))) × (r ≤ most + 1) ⌝ }
 {
     let mut sum = 0;
     let mut rest = list;
     while 0 < rest.len() {
         if is_entry(rest) {
             sum += size_at(rest);
-            if 252 < sum {
-                return 253;
+            if MOST < sum {
+                return OVER;
             }
             let n = tag_size(rest) + 1;
             rest = &rest[n..];
         } else {
-            return 253;
+            return OVER;
         }
     }
     sum
@@ -48,5 +54,5 @@ pub fn total(list: &[u8]) -> usize
 pub fn is_fillable(list: &[u8]) -> bool
     ensures { λ r. ⌜ r ≡ fillable (now (list .entry)) ⌝ }
 {
-    total(list) <= 252
+    total(list) <= MOST
 }

@@ -16,6 +16,7 @@ use Rattle.slices.specs.Writing.{put}
 use Rattle.slices.proofs.Choice.{pick-yes, pick-no, picked, either}
 use Rattle.answer_common.specs.Content.{rules, ruleFor, recordNames}
 use Rattle.answer_common.specs.Named.{listed}
+use Rattle.session_records.specs.Runs.{longest}
 use Rattle.session_records.specs.Slots.{end, room, madeRooms, roomsOf, toldFrom, nowhere, placed, total, recordSlot, slotFor, cellIn}
 use Rattle.session_records.specs.declared.Slot.{Slot}
 use Rattle.session_records.proofs.Cells.{put-before, put-behind}
@@ -75,23 +76,23 @@ pub within-told : (tag : ℕ) → recordSlot tag .at + recordSlot tag .size ≤ 
 unfolding recordSlot
 within-told tag = inside-all (roomsOf recordNames) toldFrom tag told-fits .1
 
--- no slot has more than 253 bytes
-small-all : (rows : List (ℕ × ℕ)) (at tag : ℕ) → every (map (λ row. leb (row .1) 252) rows) ≡ true → slotIn at rows tag .size ≤ 253
+-- no slot has more bytes than the longest value and its length
+small-all : (rows : List (ℕ × ℕ)) (at tag : ℕ) → every (map (λ row. leb (row .1) longest) rows) ≡ true → slotIn at rows tag .size ≤ longest + 1
 unfolding every placed beside nowhere
 small-all [] at tag h = omega arith
 small-all (row ∷ rows) at tag h =
     let n = row .1 + 1 in
-    let f = first-held (leb (row .1) 252) (map (λ row. leb (row .1) 252) rows) h in
-    let k = leb-true (row .1) 252 (f .0) in
-    picked (λ s. s .size ≤ 253) (eqb tag (row .0)) (record { at = at; size = n }) (slotIn (at + n) rows tag)
+    let f = first-held (leb (row .1) longest) (map (λ row. leb (row .1) longest) rows) h in
+    let k = leb-true (row .1) longest (f .0) in
+    picked (λ s. s .size ≤ longest + 1) (eqb tag (row .0)) (record { at = at; size = n }) (slotIn (at + n) rows tag)
     (λ y. omega (arith, k))
     (λ e. small-all rows (at + n) tag (f .1))
 
-pub small : (tag : ℕ) → slotFor tag .size ≤ 253
+pub small : (tag : ℕ) → slotFor tag .size ≤ longest + 1
 unfolding slotFor ruleFor rules room beside pick every
 small tag = small-all allRooms 0 tag refl
 
-pub small-told : (tag : ℕ) → recordSlot tag .size ≤ 253
+pub small-told : (tag : ℕ) → recordSlot tag .size ≤ longest + 1
 unfolding recordSlot ruleFor rules room beside pick every
 small-told tag = small-all (roomsOf recordNames) toldFrom tag refl
 

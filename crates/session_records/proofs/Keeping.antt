@@ -24,6 +24,7 @@ use Rattle.answer_common.proofs.Limits.{bounds}
 use Rattle.decimal_dates.specs.Dates.{validCardDate}
 use Rattle.answer_common.specs.declared.content.Rule.{Rule}
 use Rattle.answer_common.specs.declared.content.Rule.the-variants.{Sizes, Entries, Number, Date, Anything}
+use Rattle.session_records.specs.Runs.{longest}
 use Rattle.session_records.specs.Slots.{orElse, end, room, nowhere, read, cellIn, recordSlot, slotFor, toldIn, keptAt, keptIn, keptTold, keptObjects, full, emptyStore, told}
 use Rattle.session_records.proofs.Cells.{kept-put, kept-length, read-put, read-none}
 use Rattle.session_records.proofs.Apart.{apart, within, named-slot, unnamed-slot, named-size}
@@ -165,7 +166,7 @@ objects-length [] d all = all
 objects-length (m ∷ ms) d all = objects-length ms (keptTold (m .tag) (m .value) d) (told-all d all (m .tag) (m .value))
 
 -- a value that is right for its name has room in its slot
-meets-room : (rule : Rule) (v : List ℕ) → meets rule v ≡ true → length v ≤ 252 → length v ≤ room rule
+meets-room : (rule : Rule) (v : List ℕ) → meets rule v ≡ true → length v ≤ longest → length v ≤ room rule
 unfolding meets room cardNumber validCardDate
 meets-room (Sizes fewest most) v e h = bounds fewest most (length v) e .1
 meets-room Entries v e h = h
@@ -173,7 +174,7 @@ meets-room Number v e h = bounds 1 10 (length v) (first-held _ _ e .0) .1
 meets-room Date v e h = let z = eqb-true (length v) 3 (first-held _ _ e .0) in omega arith
 meets-room Anything v e h = h
 
-pub right-room : (tag : ℕ) (v : List ℕ) → listed tag recordNames ≡ true → rightValue tag v ≡ true → length v ≤ 252 → length v < slotFor tag .size
+pub right-room : (tag : ℕ) (v : List ℕ) → listed tag recordNames ≡ true → rightValue tag v ≡ true → length v ≤ longest → length v < slotFor tag .size
 unfolding rightValue
 right-room tag v l r h =
     let s = named-size tag l in

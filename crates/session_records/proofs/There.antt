@@ -11,7 +11,7 @@ use lib.Seq.{take-at, drop-length}
 use Rattle.slices.specs.Writing.{zeros}
 use Rattle.slices.proofs.Writing.{put-start, laid-fits, zeros-length}
 use Rattle.slices.proofs.Choice.{pick-yes, pick-no}
-use Rattle.session_records.specs.Runs.{fixed, runHeld, keptRun, inRun}
+use Rattle.session_records.specs.Runs.{longest, fixed, runHeld, keptRun, inRun}
 use Rattle.session_records.specs.declared.Run.{Run}
 
 module _ (r : Run) where
@@ -30,9 +30,9 @@ fixed-all n v e =
     laid-fits v 0 (zeros n) (omega arith)
     ∙ (put-start v (zeros n) ∙ (ap (λ (l : List ℕ). v ++ l) (ap (λ (k : ℕ). drop k (zeros n)) (e ∙ sym z) ∙ drop-length (zeros n)) ∙ append-nil v))
 
-pub run-kept : (v : List ℕ) → length v ≤ 252 → runHeld (keptRun v) ≡ some v
+pub run-kept : (v : List ℕ) → length v ≤ longest → runHeld (keptRun v) ≡ some v
 unfolding runHeld keptRun
 run-kept v h =
-    let z = zeros-length 252 in
+    let z = zeros-length longest in
     pick-yes _ _ _ refl
-    ∙ ap some (ap (take (length v)) (laid-fits v 0 (zeros 252) (omega arith) ∙ put-start v (zeros 252)) ∙ take-at v _ (length v) refl)
+    ∙ ap some (ap (take (length v)) (laid-fits v 0 (zeros longest) (omega arith) ∙ put-start v (zeros longest)) ∙ take-at v _ (length v) refl)

@@ -8,6 +8,7 @@ use Prim.Native.Nat.{ℕ}
 use lib.ListN.{length, take}
 use Rattle.slices.specs.Choice.{pick}
 use Rattle.slices.specs.Writing.{laid, zeros}
+use Rattle.answer_common.specs.Answer.{valueMost}
 use Rattle.session_records.specs.declared.Run.{Run}
 
 -- a value of so many bytes
@@ -16,7 +17,7 @@ fixed n v = laid v 0 (zeros n)
 
 -- the most bytes that a run keeps
 abbrev pub longest : ℕ
-longest = 252
+longest = valueMost
 
 unfoldable pub noRun : Run
 noRun = record { bytes = zeros longest; len = 0; there = false }

@@ -14,7 +14,7 @@ use Rattle.tlv_list.specs.Objects.{Object}
 use Rattle.tlv_list.specs.Place.{Place, objectAt, placesFrom}
 use Rattle.answer_common.specs.declared.content.Rule.{Rule}
 use Rattle.answer_common.specs.declared.content.Rule.the-variants.{Sizes, Entries, Number, Date, Anything}
-use Rattle.answer_common.specs.Answer.{inside}
+use Rattle.answer_common.specs.Answer.{valueMost, inside}
 use Rattle.answer_common.specs.Content.{ruleFor, recordTag, recordNames}
 use Rattle.session_records.specs.declared.Slot.{Slot}
 use Rattle.session_records.specs.declared.Store.{Store}
@@ -31,10 +31,10 @@ orElse (some v) other = some v
 -- the most bytes that a rule lets a value have
 unfoldable pub room : Rule → ℕ
 room (Sizes fewest most) = most
-room Entries = 252
+room Entries = valueMost
 room Number = 10
 room Date = 3
-room Anything = 252
+room Anything = valueMost
 
 -- TVR, TSI, response code and profile, each with its number of bytes
 abbrev pub madeRooms : List (ℕ × ℕ)

@@ -3,8 +3,13 @@ pub mod records;
 pub mod runs;
 pub mod slots;
 
+use answer_common::answer::VALUE_MOST;
+
 // The bytes of all slots together.
 pub const END: usize = 561;
+
+// The most bytes of a value: no answer has room for more.
+pub const LONGEST: usize = VALUE_MOST;
 
 pub struct Slot {
     pub at: usize,
@@ -18,7 +23,7 @@ pub struct Store {
 
 // A long value that is kept by value: its first `len` bytes count, where it is there at all.
 pub struct Run {
-    pub bytes: [u8; 252],
+    pub bytes: [u8; LONGEST],
     pub len: usize,
     pub there: bool,
 }

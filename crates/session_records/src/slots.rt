@@ -1,5 +1,6 @@
 // The slot of each name, and what is kept there and read.
 use crate::END;
+use crate::LONGEST;
 use crate::Slot;
 use answer_common::content::NAMES;
 use answer_common::content::Rule;
@@ -14,6 +15,7 @@ ghost use Prim.Native.Nat.{_+_, _≤_};
 ghost use Rattle.slices.specs.Tables.{beside};
 ghost use Rattle.answer_common.specs.Content.{ruleFor};
 ghost use Rattle.tlv_list.specs.Objects.{isSome};
+ghost use Rattle.session_records.specs.Runs.{longest};
 ghost use Rattle.session_records.specs.Slots.{end, room as roomOf, roomsOf, toldFrom, nowhere, placed, total, recordSlot, slotFor, cellIn, toldIn, keptAt, keptTold, keptIn};
 
 // The most bytes that a value may have.
@@ -22,10 +24,10 @@ fn room(name: usize) -> usize
 {
     match rule_for(name) {
         Rule::Sizes(_, most) => most,
-        Rule::Entries => 252,
+        Rule::Entries => LONGEST,
         Rule::Number => 10,
         Rule::Date => 3,
-        Rule::Anything => 252,
+        Rule::Anything => LONGEST,
     }
 }
 
@@ -47,7 +49,7 @@ fn slot_in(names: &[usize], tag: usize) -> Slot
 }
 
 fn record_slot(tag: usize) -> Slot
-    ensures { λ r. ⌜ (r ≡ recordSlot tag) × (r .at + r .size ≤ end) × (r .size ≤ 253) ⌝ }
+    ensures { λ r. ⌜ (r ≡ recordSlot tag) × (r .at + r .size ≤ end) × (r .size ≤ longest + 1) ⌝ }
 {
     let names = NAMES;
     slot_in(&names, tag)
@@ -55,7 +57,7 @@ fn record_slot(tag: usize) -> Slot
 
 // The slots of what the session itself comes to (TVR, TSI, response code, profile), and those of the records.
 fn slot_of(tag: usize) -> Slot
-    ensures { λ r. ⌜ (r ≡ slotFor tag) × (r .at + r .size ≤ end) × (r .size ≤ 253) ⌝ }
+    ensures { λ r. ⌜ (r ≡ slotFor tag) × (r .at + r .size ≤ end) × (r .size ≤ longest + 1) ⌝ }
 {
     match tag {
         0x95 => Slot { at: 0, size: 6 },
@@ -94,7 +96,7 @@ pub fn value(d: &[u8], tag: usize) -> &[u8]
 
 // A value kept in a slot; one that has no room there changes nothing.
 fn keep_at(d: &mut [u8], slot: Slot, v: &[u8])
-    requires { ⌜ (slot .at + slot .size ≤ end) × (slot .size ≤ 253) ⌝ }
+    requires { ⌜ (slot .at + slot .size ≤ end) × (slot .size ≤ longest + 1) ⌝ }
     ensures { λ _. ⌜ now (d .exit) ≡ keptAt slot (now (v .entry)) (now (d .entry)) ⌝ }
 {
     let at = slot.at;

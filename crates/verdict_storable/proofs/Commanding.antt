@@ -11,6 +11,7 @@ use lib.Pow.{areBytes}
 use borrow.Author.Tests.{ltb-true, ltb-false, eqb-true, eqb-false}
 use Rattle.slices.proofs.Choice.{either}
 use Rattle.tape_crc.proofs.Bytes.{bytes-cons, bytes-append}
+use Rattle.dol_wanted.specs.Wanted.{most}
 use Rattle.commands.specs.Commands.{selectCommand, optionsCommand, recordCommand, cryptogramCommand}
 use Rattle.commands.proofs.Shapes.{options-short, options-long, cryptogram-empty, cryptogram-filled}
 
@@ -27,7 +28,7 @@ unfolding recordCommand
 record-bytes number file h =
     bytes-cons number ((8 * file + 4) % 256 ∷ 0x00 ∷ []) h (bytes-cons ((8 * file + 4) % 256) (0x00 ∷ []) (omega arith) refl)
 
-module _ (d : List ℕ) (few : length d ≤ 252) (h : areBytes d ≡ true) where
+module _ (d : List ℕ) (few : length d ≤ most) (h : areBytes d ≡ true) where
   abbrev rest : List ℕ
   rest = length d ∷ (d ++ (0x00 ∷ []))
 

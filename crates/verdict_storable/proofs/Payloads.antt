@@ -12,6 +12,7 @@ use lib.Pow.{areBytes}
 use Rattle.slices.proofs.Choice.{and-both}
 use Rattle.tape_crc.proofs.Bytes.{bytes-cons, bytes-append}
 use Rattle.tape_read.specs.Entries.{payloadMost}
+use Rattle.dol_wanted.specs.Wanted.{most}
 use Rattle.dol_fill.specs.Filled.{filling}
 use Rattle.commands.specs.Commands.{longest}
 use Rattle.commands.proofs.Sizes.{data-length, data-most}
@@ -49,7 +50,7 @@ module _ (s : Situation) (k : Knows s) (response : Option (List ℕ)) (r : Told 
     pub data-bytes : areBytes data′ ≡ true
     data-bytes = filling-bytes (s .terminal) (knownIn s response) (k .terminal .own) known-bytes list
 
-    pub data-few : length data′ ≤ 252
+    pub data-few : length data′ ≤ most
     data-few = omega (arith, data-length (s .terminal) (knownIn s response) list, data-most list)
 
 command-payload : (c : List ℕ) → length c ≤ longest → areBytes c ≡ true → isPayload c ≡ true

@@ -7,14 +7,14 @@ use Prim.Native.Nat.{ℕ, _+_, _-_, _≤_, _<_}
 use lib.ListN.{length, take, drop, getD, length-take, length-drop}
 use Rattle.tlv_head.specs.Head.{tagSize}
 use Rattle.slices.proofs.Cutting.{rest-part, none-left}
-use Rattle.dol_wanted.specs.Wanted.{sizeAt, asks, entriesOf, tally}
+use Rattle.dol_wanted.specs.Wanted.{sizeAt, asks, entriesOf, most, tally}
 use Rattle.dol_wanted.proofs.Entries.{countedOn, tally-counted, turn-counted, turn-malformed, counted-over, counted-end, entries-empty, entry-fits}
 use native.Mathlib.Omega.{arith}
 use Rattle.dol_wanted.proofs.total.Statement.{statement}
 use Rattle.dol_wanted.proofs.total.Tie as tie
 
 abbrev Inv-loop : tie.InvT-loop
-Inv-loop list sum₀ rest₀ sum rest = (sum ≤ 252) × (countedOn sum (entriesOf rest) ≡ tally list)
+Inv-loop list sum₀ rest₀ sum rest = (sum ≤ most) × (countedOn sum (entriesOf rest) ≡ tally list)
 
 abbrev μ-loop : tie.MeasureT-loop
 μ-loop list sum₀ rest₀ sum rest = length rest

@@ -7,6 +7,7 @@ use lib.ListN.{length}
 use Rattle.slices.specs.Writing.{put, laid}
 use Rattle.start_fields.specs.Reading.{readingOf}
 use Rattle.session_records.specs.Slots.{toldIn}
+use Rattle.dol_wanted.specs.Wanted.{most}
 use Rattle.dol_fill.specs.Filled.{filling}
 use Rattle.commands.specs.Commands.{optionsCommand, sizeIn, dataSize}
 use Rattle.commands.proofs.Sizes.{unissued, issued, two-pieces, data-length}
@@ -24,7 +25,7 @@ module _ (d buf out : List ℕ) (n : ℕ) (e : length d ≡ n) where
   small : n < 0x80 → length (optionsCommand d) ≡ n + 8
   small h = let k = ap length (options-short d (omega arith)) in let m = ended-length d in omega arith
 
-  large : 0x80 ≤ n → n ≤ 252 → length (optionsCommand d) ≡ n + 9
+  large : 0x80 ≤ n → n ≤ most → length (optionsCommand d) ≡ n + 9
   large h g = let k = ap length (options-long d (omega arith) (omega arith)) in let m = ended-length d in omega arith
 
   small-written : n < 0x80 → n + 8 ≤ length buf
@@ -39,7 +40,7 @@ module _ (d buf out : List ℕ) (n : ℕ) (e : length d ≡ n) where
       ∙ ap (λ (c : List ℕ). put c 0 buf)
       (ap (λ (k : ℕ). (0x80 ∷ 0xA8 ∷ 0 ∷ 0 ∷ (k + 2) ∷ 0x83 ∷ k ∷ []) ++ (d ++ (0 ∷ []))) (sym e) ∙ sym (options-short d (omega arith)))))
 
-  large-written : 0x80 ≤ n → n ≤ 252 → n + 9 ≤ length buf
+  large-written : 0x80 ≤ n → n ≤ most → n + 9 ≤ length buf
       → out ≡ put (d ++ (0 ∷ [])) 8 (laid (0x80 ∷ 0xA8 ∷ 0 ∷ 0 ∷ (n + 3) ∷ 0x83 ∷ 0x81 ∷ n ∷ []) 0 buf)
       → (n + 9 ≡ sizeIn (length buf) (optionsCommand d)) × (out ≡ laid (optionsCommand d) 0 buf)
   large-written h g room o =

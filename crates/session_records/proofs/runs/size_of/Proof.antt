@@ -7,6 +7,7 @@ use Prim.Native.Nat.{ℕ, _≤_}
 use native.Mathlib.Omega.{arith}
 use lib.ListN.{length, take}
 use lib.Seq.{take-all, length-take-le}
+use Rattle.session_records.specs.Runs.{longest}
 use Rattle.session_records.proofs.There.{run-there, run-not-there}
 use Rattle.session_records.proofs.runs.size_of.Statement.{statement}
 use Rattle.session_records.proofs.runs.size_of.Tie as tie
@@ -26,9 +27,9 @@ returns-2 : tie.Need-returns-2
 returns-2 c =
     let b = c .before .before .bytes-of .ensures .1 in
     let r = c .before .before .before .args .run in
-    let e = take-all 252 (r .bytes) (omega (arith, b))
+    let e = take-all longest (r .bytes) (omega (arith, b))
     ∙ sym (run-there r (c .before .if1 .taken) ∙ take-all (r .len) (r .bytes) (omega (arith, b))) in
-    (e, omega arith, b, cut-size 252 (r .bytes) _ (omega (arith, b)) e)
+    (e, omega arith, b, cut-size longest (r .bytes) _ (omega (arith, b)) e)
 
 returns-3 : tie.Need-returns-3
 returns-3 c =
