@@ -8,7 +8,8 @@ use Prim.Native.Nat.{ℕ}
 use lib.ListN.{replicate}
 use Rattle.slices.specs.Choice.{pick}
 use Rattle.slices.specs.Tests.{every, between}
-use Rattle.answer_afl.specs.Entries.{firstEntry, entries, wholeEntries, sfi, records, fileRight, entryRight, entriesRight, recordsOf, recordCount, tooMany, run, readEntry, readAll, toRead}
+use Rattle.answer_afl.specs.Entries.{firstEntry, entries, wholeEntries, sfi, records, fileRight, entryRight, entriesRight}
+use Rattle.answer_afl.specs.Entries.{recordsOf, recordCount, tooMany, run, readEntry, readAll, toRead}
 use Rattle.answer_afl.specs.Cursor.{fromEntry, entryAt, start, isLeft, recordAt, stepped}
 
 -- four bytes to an entry, one entry at least
@@ -30,7 +31,8 @@ rows =
     -- fourth byte
     ∷ (0x08 ∷ 1 ∷ 3 ∷ 0 ∷ [], true) ∷ (0x08 ∷ 1 ∷ 3 ∷ 3 ∷ [], true) ∷ (0x08 ∷ 1 ∷ 3 ∷ 4 ∷ [], false) ∷ (0x08 ∷ 4 ∷ 4 ∷ 2 ∷ [], false)
     -- every entry counts
-    ∷ (0x08 ∷ 1 ∷ 3 ∷ 1 ∷ 0x10 ∷ 1 ∷ 1 ∷ 0 ∷ [], true) ∷ (0x08 ∷ 1 ∷ 3 ∷ 1 ∷ 0x10 ∷ 0 ∷ 1 ∷ 0 ∷ [], false) ∷ (0x08 ∷ 0 ∷ 3 ∷ 1 ∷ 0x10 ∷ 1 ∷ 1 ∷ 0 ∷ [], false)
+    ∷ (0x08 ∷ 1 ∷ 3 ∷ 1 ∷ 0x10 ∷ 1 ∷ 1 ∷ 0 ∷ [], true) ∷ (0x08 ∷ 1 ∷ 3 ∷ 1 ∷ 0x10 ∷ 0 ∷ 1 ∷ 0 ∷ [], false)
+    ∷ (0x08 ∷ 0 ∷ 3 ∷ 1 ∷ 0x10 ∷ 1 ∷ 1 ∷ 0 ∷ [], false)
     -- an empty AFL names nothing, and bytes that make no entry do not either
     ∷ ([], true) ∷ (0x09 ∷ 0 ∷ 0 ∷ [], true)
     ∷ []
@@ -57,6 +59,7 @@ order = refl
 abbrev two : List ℕ
 two = 0x08 ∷ 1 ∷ 2 ∷ 1 ∷ 0x10 ∷ 5 ∷ 5 ∷ 0 ∷ []
 
-steps : (recordAt two start ≡ (1, 1)) × (recordAt two (stepped two start) ≡ (2, 1)) × (recordAt two (stepped two (stepped two start)) ≡ (5, 2)) × (isLeft two (stepped two (stepped two (stepped two start))) ≡ false)
+steps : (recordAt two start ≡ (1, 1)) × (recordAt two (stepped two start) ≡ (2, 1))
+    × (recordAt two (stepped two (stepped two start)) ≡ (5, 2)) × (isLeft two (stepped two (stepped two (stepped two start))) ≡ false)
 unfolding recordAt start stepped isLeft entryAt fromEntry firstEntry every pick sfi records
 steps = (refl, refl, refl, refl)

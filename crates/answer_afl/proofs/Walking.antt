@@ -46,7 +46,8 @@ run-drop f a (suc n) zero h = ap (λ (k : ℕ). (k, f) ∷ run f (suc a) n) (sym
 run-drop f a (suc n) (suc d) h =
     let moved : suc a + d ≡ a + suc d = omega arith in
     run-drop f (suc a) n d (omega arith)
-    ∙ ap₂ (λ (k : ℕ) (r : List (ℕ × ℕ)). (k, f) ∷ r) moved (ap (λ (k : ℕ). drop k (run f (suc a) n)) (add-one d) ∙ sym (ap (λ (k : ℕ). drop k (run f a (suc n))) (add-one (suc d))))
+    ∙ ap₂ (λ (k : ℕ) (r : List (ℕ × ℕ)). (k, f) ∷ r) moved
+    (ap (λ (k : ℕ). drop k (run f (suc a) n)) (add-one d) ∙ sym (ap (λ (k : ℕ). drop k (run f a (suc n))) (add-one (suc d))))
 
 run-end : (f a n : ℕ) → drop n (run f a n) ≡ []
 unfolding run
@@ -102,7 +103,8 @@ module _ (v : List ℕ) (c : Cursor) (left : isLeft v c ≡ true) where
   to-next h =
       let fewer = left-record v c left in
       let end : records e ≡ c .done + 1 = omega arith in
-      let done′ : drop (c .done + 1) (run (sfi e) (e .first) (records e)) ≡ [] = ap (λ (n : ℕ). drop n (run (sfi e) (e .first) (records e))) (sym end) ∙ run-end (sfi e) (e .first) (records e) in
+      let done′ : drop (c .done + 1) (run (sfi e) (e .first) (records e)) ≡ [] =
+      ap (λ (n : ℕ). drop n (run (sfi e) (e .first) (records e))) (sym end) ∙ run-end (sfi e) (e .first) (records e) in
       ap (remaining v) (pick-yes _ _ _ left ∙ pick-no _ _ _ (le-ltb _ _ h))
       ∙ (at-entry v (c .entry + 1) ∙ ap (λ (l : List (ℕ × ℕ)). l ++ later) (sym done′))
 

@@ -55,7 +55,8 @@ no-reason (line ∷ lines) c = pick-no _ _ _ (c .0) ∙ no-reason lines (c .1)
 
 pub none-applies : (lines : List (Bool × ℕ)) → Numbered lines → firstOf lines ≡ 0 → AllClear lines
 none-applies [] n e = tt
-none-applies (line ∷ lines) n e = let clear = line-clear (line .0) (line .1) lines (n .0) e in (clear .0, none-applies lines (n .1) (clear .1))
+none-applies (line ∷ lines) n e =
+    let clear = line-clear (line .0) (line .1) lines (n .0) e in (clear .0, none-applies lines (n .1) (clear .1))
 
 module _ (expected a : List ℕ) where
   pub frame-accepted : AllClear (frame expected a) → Framed expected a
@@ -94,10 +95,12 @@ module _ (names : List ℕ) (look : ℕ → Lookup) where
   unfolding anyTimes
   times-none n f = any-none (λ name. eqb (times (look name)) n) names (λ name l. ne-eqb _ n (f name l))
 
-  pub named-once : anyTimes 2 names look ≡ false → anyTimes 0 names look ≡ false → (name : ℕ) → listed name names ≡ true → (v : List ℕ) × (look name ≡ once v)
+  pub named-once : anyTimes 2 names look ≡ false → anyTimes 0 names look ≡ false → (name : ℕ) → listed name names ≡ true
+      → (v : List ℕ) × (look name ≡ once v)
   named-once t m name l = once-found (look name) (named-times 2 t name l) (named-times 0 m name l)
 
-  pub named-right : anyWrong names look ≡ false → (name : ℕ) (v : List ℕ) → listed name names ≡ true → look name ≡ once v → rightValue name v ≡ true
+  pub named-right : anyWrong names look ≡ false → (name : ℕ) (v : List ℕ) → listed name names ≡ true → look name ≡ once v
+      → rightValue name v ≡ true
   unfolding anyWrong wrongValue
   named-right e name v l f =
       not-false _ (sym (ap (wrongValue name) f) ∙ any-clear (λ name. wrongValue name (look name)) names e name l)
@@ -108,6 +111,7 @@ module _ (names : List ℕ) (look : ℕ → Lookup) where
   right-none name (once v) f = ap not (f v refl)
   right-none name twice f = refl
 
-  pub wrong-none : ((name : ℕ) (v : List ℕ) → listed name names ≡ true → look name ≡ once v → rightValue name v ≡ true) → anyWrong names look ≡ false
+  pub wrong-none : ((name : ℕ) (v : List ℕ) → listed name names ≡ true → look name ≡ once v → rightValue name v ≡ true)
+      → anyWrong names look ≡ false
   unfolding anyWrong
   wrong-none f = any-none (λ name. wrongValue name (look name)) names (λ name l. right-none name (look name) (λ v. f name v l))

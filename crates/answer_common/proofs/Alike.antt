@@ -25,13 +25,16 @@ unfolding listed anyOf
 listed-also name n ns e = ap (pick (eqb name n) true) e ∙ pick-same (eqb name n) true
 
 -- tests that agree for each name
-pub any-alike : (p q : ℕ → Bool) (names : List ℕ) → ((name : ℕ) → listed name names ≡ true → p name ≡ q name) → anyOf (map p names) ≡ anyOf (map q names)
+pub any-alike : (p q : ℕ → Bool) (names : List ℕ) → ((name : ℕ) → listed name names ≡ true → p name ≡ q name)
+    → anyOf (map p names) ≡ anyOf (map q names)
 unfolding anyOf
 any-alike p q [] f = refl
-any-alike p q (n ∷ ns) f = ap₂ (λ (t r : Bool). pick t true r) (f n (listed-first n ns)) (any-alike p q ns (λ name l. f name (listed-also name n ns l)))
+any-alike p q (n ∷ ns) f =
+    ap₂ (λ (t r : Bool). pick t true r) (f n (listed-first n ns)) (any-alike p q ns (λ name l. f name (listed-also name n ns l)))
 
 module _ (names : List ℕ) (x y : ℕ → Lookup) where
-  pub times-alike : (n : ℕ) → ((name : ℕ) → listed name names ≡ true → times (x name) ≡ times (y name)) → anyTimes n names x ≡ anyTimes n names y
+  pub times-alike : (n : ℕ) → ((name : ℕ) → listed name names ≡ true → times (x name) ≡ times (y name))
+      → anyTimes n names x ≡ anyTimes n names y
   unfolding anyTimes
   times-alike n f = any-alike _ _ names (λ name l. ap (λ (k : ℕ). eqb k n) (f name l))
 
@@ -71,11 +74,13 @@ lookup-named names name told (m ∷ ms) =
     either (listed (m .tag) names)
     (λ y. ap (lookup name) (pick-yes _ _ _ y) ∙ ap₂ (pick (eqb (m .tag) name)) (ap (met (m .value)) rest) rest)
     (λ n.
-    let other : eqb (m .tag) name ≡ false = either (eqb (m .tag) name) (λ z. absurd (false≢true (sym n ∙ (ap (λ (t : ℕ). listed t names) (eqb-true _ _ z) ∙ told)))) (λ f. f) in
+    let other : eqb (m .tag) name ≡ false =
+    either (eqb (m .tag) name) (λ z. absurd (false≢true (sym n ∙ (ap (λ (t : ℕ). listed t names) (eqb-true _ _ z) ∙ told)))) (λ f. f) in
     ap (lookup name) (pick-no _ _ _ n) ∙ (rest ∙ sym (pick-no _ _ _ other)))
 
 -- where the named members are the same, in the same order, the same stands under each name
-pub named-alike : (names s t : List ℕ) → named names (membersIn s) ≡ named names (membersIn t) → (name : ℕ) → listed name names ≡ true → among s name ≡ among t name
+pub named-alike : (names s t : List ℕ) → named names (membersIn s) ≡ named names (membersIn t) → (name : ℕ) → listed name names ≡ true
+    → among s name ≡ among t name
 unfolding among
 named-alike names s t e name l =
     sym (lookup-named names name l (membersIn s)) ∙ (ap (lookup name) e ∙ lookup-named names name l (membersIn t))

@@ -36,7 +36,8 @@ Numbered [] = Unit {0}
 Numbered (line ∷ lines) = (line .1 ≡ 0 → ⊥) × Numbered lines
 
 -- where no reason applies, no line's test holds
-pub line-clear : (t : Bool) (n : ℕ) (lines : List (Bool × ℕ)) → (n ≡ 0 → ⊥) → firstOf ((t, n) ∷ lines) ≡ 0 → (t ≡ false) × (firstOf lines ≡ 0)
+pub line-clear : (t : Bool) (n : ℕ) (lines : List (Bool × ℕ)) → (n ≡ 0 → ⊥) → firstOf ((t, n) ∷ lines) ≡ 0
+    → (t ≡ false) × (firstOf lines ≡ 0)
 unfolding firstOf
 line-clear t n lines k e = either t (λ y. absurd (k (sym (pick-yes _ _ _ y) ∙ e))) (λ f. (f, sym (pick-no _ _ _ f) ∙ e))
 

@@ -49,7 +49,8 @@ empty-list = ap isSome objects-empty
 -- list by the two bytes, at least, of its tag and its length
 pub data Held (n : ℕ) : List Object → Type 0 where
   none-left : Held n []
-  and-then : {m : Object} {ms : List Object} → (constructed (m .tag) ≡ true → isList (m .value) ≡ true) → length (m .value) + 2 ≤ n → Held n ms → Held n (m ∷ ms)
+  and-then : {m : Object} {ms : List Object} → (constructed (m .tag) ≡ true → isList (m .value) ≡ true) → length (m .value) + 2 ≤ n
+      → Held n ms → Held n (m ∷ ms)
 
 wider : {ms : List Object} (n k : ℕ) → n ≤ k → Held n ms → Held k ms
 wider n k h none-left = none-left
@@ -62,7 +63,8 @@ right-inside m r c = sym (pick-yes _ _ _ c) ∙ r
 abbrev Goes : List ℕ → Type 0
 Goes s = (ms : List Object) → objects s ≡ some ms → Held (length s) ms
 
-with-rest : (n : ℕ) (m : Object) (o : Option (List Object)) (ms : List Object) → (constructed (m .tag) ≡ true → isList (m .value) ≡ true) → length (m .value) + 2 ≤ n
+with-rest : (n : ℕ) (m : Object) (o : Option (List Object)) (ms : List Object)
+    → (constructed (m .tag) ≡ true → isList (m .value) ≡ true) → length (m .value) + 2 ≤ n
     → before m o ≡ some ms → ((rest : List Object) → o ≡ some rest → Held n rest) → Held n ms
 unfolding before
 with-rest n m none ms r k e h = absurd (let z : _≡_ {A = ℕ} 0 1 = cc in omega arith)
@@ -70,7 +72,8 @@ with-rest n m (some rest) ms r k e h =
     let same : m ∷ rest ≡ ms = cc in
     subst (Held n) same (and-then r k (h rest refl))
 
-step : (s : List ℕ) (ms : List Object) → ((t : List ℕ) → length t < length s → Goes t) → (x : Next) → nextAt s 0 ≡ x → following s x ≡ some ms → Held (length s) ms
+step : (s : List ℕ) (ms : List Object) → ((t : List ℕ) → length t < length s → Goes t) → (x : Next) → nextAt s 0 ≡ x
+    → following s x ≡ some ms → Held (length s) ms
 unfolding following between
 step s ms shorter (Member tag start end) f =
     let m : Object = record { tag = tag; value = between s start end } in
@@ -124,12 +127,15 @@ among-size : (s : List ℕ) (name : ℕ) → length (valueOf (among s name)) ≤
 unfolding among membersIn
 among-size s name = go (objects s) (held s)
   where
-    go : (o : Option (List Object)) → ((ms : List Object) → o ≡ some ms → Held (length s) ms) → length (valueOf (lookup name (Option·getD o []))) ≤ length s - 2
+    go : (o : Option (List Object)) → ((ms : List Object) → o ≡ some ms → Held (length s) ms)
+        → length (valueOf (lookup name (Option·getD o []))) ≤ length s - 2
     go none h = looked-size (length s) name none-left
     go (some ms) h = looked-size (length s) name (h ms refl)
 
 -- the one object of an answer
-alone : (n tag : ℕ) {m : Object} → Held n (m ∷ []) → (constructed tag ≡ true → isList (pick (eqb (m .tag) tag) (m .value) []) ≡ true) × (length (pick (eqb (m .tag) tag) (m .value) []) ≤ n - 2)
+alone : (n tag : ℕ) {m : Object} → Held n (m ∷ [])
+    → (constructed tag ≡ true → isList (pick (eqb (m .tag) tag) (m .value) []) ≡ true)
+    × (length (pick (eqb (m .tag) tag) (m .value) []) ≤ n - 2)
 alone n tag (and-then {m} in-it k rest) = (
   λ c. picked (λ v. isList v ≡ true) (eqb (m .tag) tag) (m .value) [] (λ y. in-it (ap constructed (eqb-true _ _ y) ∙ c)) (λ e. empty-list),
   picked (λ v. length v ≤ n - 2) (eqb (m .tag) tag) (m .value) [] (λ y. omega arith) (λ e. omega arith),

@@ -5,7 +5,8 @@ use Prim.Native.Nat.{ℕ}
 use lib.ListN.{length}
 use Rattle.slices.specs.Choice.{pick, firstOf}
 use Rattle.slices.specs.Shorter.{counted, shorter}
-use Rattle.tlv_head.specs.Head.{firstByte, constructed, twoBytes, tagSize, tagOf, tagRight, lengthByte, lengthForm, lengthSize, lengthOf, valueStart, valueEnd, whole}
+use Rattle.tlv_head.specs.Head.{firstByte, constructed, twoBytes, tagSize, tagOf, tagRight, lengthByte, lengthForm, lengthSize, lengthOf}
+use Rattle.tlv_head.specs.Head.{valueStart, valueEnd, whole}
 use Rattle.tlv_list.specs.Objects.{between as part, firstObject, isSome, before, rightInside, listed, objects}
 use Rattle.tlv_list.specs.Place.{dataField}
 use Rattle.tlv_list.specs.Lookup.{Lookup, met, lookup}
@@ -33,5 +34,8 @@ joinedAll [] = []
 joinedAll (x ∷ xs) = x ++ joinedAll xs
 
 unfoldable pub opened : ℕ → List ℕ → ℕ → Lookup
-unfolding pick firstOf counted shorter firstByte constructed twoBytes tagSize tagOf tagRight lengthByte lengthForm lengthSize lengthOf valueStart valueEnd whole part firstObject isSome before rightInside listed objects dataField met lookup every between wholeEntries anyOf beside meets rules ruleFor rightValue sizeBad statusBad only outer tagged valueUnder isOne inside outerBad frame membersIn among direct times told valueOf wrongValue anyTimes anyWrong
+unfolding pick firstOf counted shorter firstByte constructed twoBytes tagSize tagOf tagRight lengthByte lengthForm lengthSize
+    lengthOf valueStart valueEnd whole part firstObject isSome before rightInside listed objects dataField met lookup every between
+    wholeEntries anyOf beside meets rules ruleFor rightValue sizeBad statusBad only outer tagged valueUnder isOne inside outerBad
+    frame membersIn among direct times told valueOf wrongValue anyTimes anyWrong
 opened tag a name = direct tag a name

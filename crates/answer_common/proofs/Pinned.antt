@@ -8,7 +8,8 @@ use Prim.Native.Nat.{ℕ}
 use lib.ListN.{length, replicate}
 use Rattle.slices.specs.Choice.{pick, firstOf}
 use Rattle.slices.specs.Shorter.{counted, shorter}
-use Rattle.tlv_head.specs.Head.{firstByte, constructed, twoBytes, tagSize, tagOf, tagRight, lengthByte, lengthForm, lengthSize, lengthOf, valueStart, valueEnd, whole}
+use Rattle.tlv_head.specs.Head.{firstByte, constructed, twoBytes, tagSize, tagOf, tagRight, lengthByte, lengthForm, lengthSize, lengthOf}
+use Rattle.tlv_head.specs.Head.{valueStart, valueEnd, whole}
 use Rattle.tlv_list.specs.Objects.{Object, between as part, firstObject, isSome, before, rightInside, listed, objects}
 use Rattle.tlv_list.specs.Place.{dataField}
 use Rattle.tlv_list.specs.Lookup.{Lookup, absent, once, twice, met, lookup}
@@ -34,7 +35,9 @@ statuses = refl
 
 -- the reasons that every answer is asked first, with all that they rest on open
 first : List ℕ → List ℕ → ℕ
-unfolding pick firstOf counted shorter firstByte constructed twoBytes tagSize tagOf tagRight lengthByte lengthForm lengthSize lengthOf valueStart valueEnd whole part firstObject isSome before rightInside listed objects dataField anyOf sizeBad statusBad only outer tagged isOne outerBad frame
+unfolding pick firstOf counted shorter firstByte constructed twoBytes tagSize tagOf tagRight lengthByte lengthForm lengthSize
+    lengthOf valueStart valueEnd whole part firstObject isSome before rightInside listed objects dataField anyOf sizeBad statusBad
+    only outer tagged isOne outerBad frame
 first expected field = firstOf (frame expected (field ++ (0x90 ∷ 0x00 ∷ [])))
 
 -- data, the tags expected, and the reason
@@ -100,15 +103,18 @@ values =
     (0x5A, 0x12 ∷ [], true) ∷ (0x5A, 0x1F ∷ [], true) ∷ (0x5A, 0x12 ∷ 0x3F ∷ 0xFF ∷ [], true) ∷ (0x5A, 0x12 ∷ 0xFF ∷ [], true)
     ∷ (0x5A, replicate 10 0x99, true) ∷ (0x5A, replicate 11 0x99, false) ∷ (0x5A, [], false)
     -- at least one digit, and none after an 'F'
-    ∷ (0x5A, 0xFF ∷ [], false) ∷ (0x5A, 0xF1 ∷ [], false) ∷ (0x5A, 0x1F ∷ 0x12 ∷ [], false) ∷ (0x5A, 0x1F ∷ 0xF2 ∷ [], false) ∷ (0x5A, 0x1F ∷ 0xFF ∷ 0x1F ∷ [], false)
+    ∷ (0x5A, 0xFF ∷ [], false) ∷ (0x5A, 0xF1 ∷ [], false) ∷ (0x5A, 0x1F ∷ 0x12 ∷ [], false) ∷ (0x5A, 0x1F ∷ 0xF2 ∷ [], false)
+    ∷ (0x5A, 0x1F ∷ 0xFF ∷ 0x1F ∷ [], false)
     -- digits to 9, and nothing between them and 'F'
-    ∷ (0x5A, 0x19 ∷ [], true) ∷ (0x5A, 0x1A ∷ [], false) ∷ (0x5A, 0x1E ∷ [], false) ∷ (0x5A, 0xA1 ∷ [], false) ∷ (0x5A, 0x12 ∷ 0xFE ∷ [], false)
+    ∷ (0x5A, 0x19 ∷ [], true) ∷ (0x5A, 0x1A ∷ [], false) ∷ (0x5A, 0x1E ∷ [], false) ∷ (0x5A, 0xA1 ∷ [], false)
+    ∷ (0x5A, 0x12 ∷ 0xFE ∷ [], false)
     ∷ (0x5F24, 0x26 ∷ 0x12 ∷ 0x31 ∷ [], true) ∷ (0x5F24, 0x26 ∷ 0x13 ∷ 0x31 ∷ [], false) ∷ (0x5F24, 0x26 ∷ 0x12 ∷ [], false)
     ∷ (0x5F25, 0x26 ∷ 0x12 ∷ 0x31 ∷ [], true) ∷ (0x5F25, 0x26 ∷ 0x12 ∷ 0x32 ∷ [], false) ∷ (0x5F25, 0x26 ∷ 0x12 ∷ 0x3A ∷ [], false)
     ∷ []
 
 values-right : map (λ row. rightValue (row .0) (row .1)) values ≡ map (λ row. row .2) values
-unfolding rightValue ruleFor rules beside meets every pick between cardNumber halves digits onlyF validCardDate digitsOnly decimalByte monthAndDay
+unfolding rightValue ruleFor rules beside meets every pick between cardNumber halves digits onlyF validCardDate digitsOnly
+    decimalByte monthAndDay
 values-right = refl
 
 -- what stands under names: only direct members, by how often they stand there
@@ -116,7 +122,11 @@ found : List ℕ → ℕ → Lookup
 unfolding first inside valueUnder membersIn among direct lookup met
 found field name = direct 0x70 (field ++ (0x90 ∷ 0x00 ∷ [])) name
 
-named : (found (0x70 ∷ 0x04 ∷ 0x5A ∷ 0x02 ∷ 0x12 ∷ 0x34 ∷ []) 0x5A ≡ once (0x12 ∷ 0x34 ∷ [])) × (found (0x70 ∷ 0x04 ∷ 0x5A ∷ 0x02 ∷ 0x12 ∷ 0x34 ∷ []) 0x57 ≡ absent) × (found (0x70 ∷ 0x07 ∷ 0x5A ∷ 0x01 ∷ 0x12 ∷ 0x00 ∷ 0x5A ∷ 0x01 ∷ 0x12 ∷ []) 0x5A ≡ twice) × (found (0x70 ∷ 0x05 ∷ 0x72 ∷ 0x03 ∷ 0x5A ∷ 0x01 ∷ 0x12 ∷ []) 0x5A ≡ absent) × (found (0x77 ∷ 0x03 ∷ 0x5A ∷ 0x01 ∷ 0x12 ∷ []) 0x5A ≡ absent)
+named : (found (0x70 ∷ 0x04 ∷ 0x5A ∷ 0x02 ∷ 0x12 ∷ 0x34 ∷ []) 0x5A ≡ once (0x12 ∷ 0x34 ∷ []))
+    × (found (0x70 ∷ 0x04 ∷ 0x5A ∷ 0x02 ∷ 0x12 ∷ 0x34 ∷ []) 0x57 ≡ absent)
+    × (found (0x70 ∷ 0x07 ∷ 0x5A ∷ 0x01 ∷ 0x12 ∷ 0x00 ∷ 0x5A ∷ 0x01 ∷ 0x12 ∷ []) 0x5A ≡ twice)
+    × (found (0x70 ∷ 0x05 ∷ 0x72 ∷ 0x03 ∷ 0x5A ∷ 0x01 ∷ 0x12 ∷ []) 0x5A ≡ absent)
+    × (found (0x77 ∷ 0x03 ∷ 0x5A ∷ 0x01 ∷ 0x12 ∷ []) 0x5A ≡ absent)
 unfolding found
 named = (refl, refl, refl, refl, refl)
 
@@ -124,6 +134,8 @@ named = (refl, refl, refl, refl, refl)
 looks : ℕ → Lookup
 looks name = beside absent name ((1, once (0x12 ∷ [])) ∷ (2, twice) ∷ (0x9F08, once (0 ∷ 0 ∷ [])) ∷ (0x9F36, once (0 ∷ [])) ∷ [])
 
-tests : (anyTimes 2 (1 ∷ 3 ∷ []) looks ≡ false) × (anyTimes 2 (1 ∷ 2 ∷ []) looks ≡ true) × (anyTimes 0 (1 ∷ 2 ∷ []) looks ≡ false) × (anyTimes 0 (1 ∷ 3 ∷ []) looks ≡ true) × (anyWrong (1 ∷ 2 ∷ 3 ∷ 0x9F08 ∷ []) looks ≡ false) × (anyWrong (0x9F08 ∷ 0x9F36 ∷ []) looks ≡ true)
+tests : (anyTimes 2 (1 ∷ 3 ∷ []) looks ≡ false) × (anyTimes 2 (1 ∷ 2 ∷ []) looks ≡ true) × (anyTimes 0 (1 ∷ 2 ∷ []) looks ≡ false)
+    × (anyTimes 0 (1 ∷ 3 ∷ []) looks ≡ true) × (anyWrong (1 ∷ 2 ∷ 3 ∷ 0x9F08 ∷ []) looks ≡ false)
+    × (anyWrong (0x9F08 ∷ 0x9F36 ∷ []) looks ≡ true)
 unfolding looks beside pick anyTimes anyWrong anyOf times wrongValue rightValue ruleFor rules meets every between
 tests = (refl, refl, refl, refl, refl, refl)

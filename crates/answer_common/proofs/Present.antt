@@ -55,12 +55,14 @@ one-or-none (once v) t = inr (v, refl)
 one-or-none twice t = absurd (t refl)
 
 module _ (names : List ℕ) (look : ℕ → Lookup) where
-  pub must-be : {P : List ℕ → Type 0} → anyTimes 0 names look ≡ false → (name : ℕ) → listed name names ≡ true → MayBe P (look name) → There P (look name)
+  pub must-be : {P : List ℕ → Type 0} → anyTimes 0 names look ≡ false → (name : ℕ) → listed name names ≡ true → MayBe P (look name)
+      → There P (look name)
   unfolding times
   must-be m name l (inl e) = absurd (named-times names look 0 m name l (ap times e))
   must-be m name l (inr h) = h
 
-  pub may-be : anyTimes 2 names look ≡ false → anyWrong names look ≡ false → (name : ℕ) → listed name names ≡ true → MayBe (Right name) (look name)
+  pub may-be : anyTimes 2 names look ≡ false → anyWrong names look ≡ false → (name : ℕ) → listed name names ≡ true
+      → MayBe (Right name) (look name)
   may-be t w name l = go (one-or-none (look name) (named-times names look 2 t name l))
     where
       go : (look name ≡ absent) ⊎ ((v : List ℕ) × (look name ≡ once v)) → MayBe (Right name) (look name)

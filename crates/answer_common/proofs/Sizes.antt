@@ -20,7 +20,8 @@ by-rule : (name : ℕ) (v : List ℕ) (rule : Rule) → ruleFor name ≡ rule �
 unfolding rightValue
 by-rule name v rule e r = sym (ap (λ (x : Rule). meets x v) e) ∙ r
 
-pub sized : (name fewest most : ℕ) (v : List ℕ) → ruleFor name ≡ Sizes fewest most → rightValue name v ≡ true → (fewest ≤ length v) × (length v ≤ most)
+pub sized : (name fewest most : ℕ) (v : List ℕ) → ruleFor name ≡ Sizes fewest most → rightValue name v ≡ true
+    → (fewest ≤ length v) × (length v ≤ most)
 unfolding meets
 sized name fewest most v e r = bounds fewest most (length v) (by-rule name v (Sizes fewest most) e r)
 

@@ -7,7 +7,8 @@ use Prim.Native.Nat.{ℕ}
 use lib.Dec.{eqb}
 use lib.ListN.{replicate}
 use Rattle.answer_common.specs.Forms.{lacks}
-use Rattle.answer_cryptogram.specs.Cryptogram.{informationOf, cryptogramOf, cryptogramWrong, cryptogramLines, cryptogramReason, allows}
+use Rattle.answer_cryptogram.specs.Cryptogram.{informationOf, cryptogramOf, cryptogramWrong, cryptogramLines, cryptogramReason}
+use Rattle.answer_cryptogram.specs.Cryptogram.{allows}
 use Rattle.answer_common.proofs.Opened.{one, two, good, joinedAll, opened}
 
 judge : (ℕ → Bool) → List ℕ → ℕ

@@ -11,7 +11,8 @@ use answer_common::named::value_in_checked;
 use slices::byte;
 ghost use mathlib.Core.Path.{_≡_};
 ghost use Rattle.slices.specs.Choice.{firstOf};
-ghost use Rattle.answer_cryptogram.specs.Cryptogram.{informationOf, cryptogramOf, cryptogramWrong, cryptogramLines, cryptogramReason, allows as allowsOf};
+ghost use Rattle.answer_cryptogram.specs.Cryptogram.{informationOf, cryptogramOf, cryptogramWrong, cryptogramLines};
+ghost use Rattle.answer_cryptogram.specs.Cryptogram.{cryptogramReason, allows as allowsOf};
 
 const NAMES: [usize; 4] = [0x9F27, 0x9F36, 0x9F26, 0x9F10];
 

@@ -5,13 +5,15 @@ use mathlib.Core.Path.{_≡_, refl}
 use mathlib.Core.List.{List, [], _∷_, _++_, map}
 use Prim.Native.Nat.{ℕ}
 use lib.ListN.{replicate}
-use Rattle.answer_afl.specs.Entries.{firstEntry, entries, sfi, records, fileRight, entryRight, entriesRight, recordsOf, recordCount, tooMany}
+use Rattle.answer_afl.specs.Entries.{firstEntry, entries, sfi, records, fileRight, entryRight, entriesRight, recordsOf, recordCount}
+use Rattle.answer_afl.specs.Entries.{tooMany}
 use Rattle.answer_common.specs.Forms.{lacks}
 use Rattle.answer_gpo.specs.Options.{profileOf, locatorOf, optionsWrong, optionsLines, optionsReason}
 use Rattle.answer_common.proofs.Opened.{one, good, joinedAll, opened}
 
 judge : List ℕ → ℕ
-unfolding opened firstEntry entries sfi records fileRight entryRight entriesRight recordsOf recordCount tooMany lacks profileOf locatorOf optionsWrong optionsLines optionsReason
+unfolding opened firstEntry entries sfi records fileRight entryRight entriesRight recordsOf recordCount tooMany lacks profileOf
+    locatorOf optionsWrong optionsLines optionsReason
 judge a = optionsReason a
 
 abbrev aip : List ℕ
@@ -87,6 +89,7 @@ facts : List ℕ → List ℕ × List ℕ
 unfolding judge
 facts a = (profileOf a, locatorOf a)
 
-told : (facts (good (one 0x77 (afl entry ++ aip))) ≡ (0x08 ∷ 0x00 ∷ [], entry)) × (facts (good (one 0x80 (0x08 ∷ 0x00 ∷ entry))) ≡ (0x08 ∷ 0x00 ∷ [], entry))
+told : (facts (good (one 0x77 (afl entry ++ aip))) ≡ (0x08 ∷ 0x00 ∷ [], entry))
+    × (facts (good (one 0x80 (0x08 ∷ 0x00 ∷ entry))) ≡ (0x08 ∷ 0x00 ∷ [], entry))
 unfolding facts
 told = (refl, refl)

@@ -26,7 +26,8 @@ use Rattle.answer_common.proofs.Accepted.{AllClear, none-applies, or-clear, any
 use Rattle.answer_common.proofs.Sizes.{sized}
 use Rattle.answer_common.proofs.Members.{inside-size, direct-size, inner-size}
 use Rattle.answer_common.specs.Forms.{template, joined, bothForms, lacks}
-use Rattle.answer_select.specs.Select.{selectTag, selectNames, innerNames, inner, pdolOf, begins, nameWrong, selectTwice, selectWrong, selectLines, selectReason}
+use Rattle.answer_select.specs.Select.{selectTag, selectNames, innerNames, inner, pdolOf, begins, nameWrong, selectTwice, selectWrong}
+use Rattle.answer_select.specs.Select.{selectLines, selectReason}
 use Rattle.answer_gpo.specs.Options.{optionNames, profileOf, locatorOf, optionsWrong, optionsLines, optionsReason}
 use Rattle.answer_record.specs.Records.{again, anyAgain, recordTwice, recordLines, recordReason, valueIn, incomplete, completeReason}
 use Rattle.answer_cryptogram.specs.Cryptogram.{cryptogramOf, cryptogramLines, cryptogramReason}
@@ -42,7 +43,9 @@ both-clear expected a lines n e =
 module _ (t : Terminal) (a : List ℕ) (e : selectReason t a ≡ 0) where
   pub select-clear : AllClear (frame (selectTag ∷ []) a) × AllClear (selectLines (t .aid) a)
   unfolding selectReason selectLines
-  select-clear = both-clear (selectTag ∷ []) a (selectLines (t .aid) a) ((λ z. omega arith), ((λ z. omega arith), ((λ z. omega arith), ((λ z. omega arith), tt)))) e
+  select-clear =
+      both-clear (selectTag ∷ []) a (selectLines (t .aid) a)
+      ((λ z. omega arith), ((λ z. omega arith), ((λ z. omega arith), ((λ z. omega arith), tt)))) e
 
   pub select-framed : Framed (selectTag ∷ []) a
   select-framed = frame-accepted (selectTag ∷ []) a (select-clear .0)
@@ -56,7 +59,8 @@ module _ (t : Terminal) (a : List ℕ) (e : selectReason t a ≡ 0) where
       let wrong = or-clear (anyWrong selectNames (direct selectTag a)) _ (lines .1 .0) in
       let name = or-clear (anyWrong innerNames (inner a)) _ (wrong .1) in
       let found = named-once selectNames (direct selectTag a) (twice′ .0) (lines .1 .1 .0) 0x84 refl in
-      let size = sized 0x84 5 16 (found .0) refl (named-right selectNames (direct selectTag a) (wrong .0) 0x84 (found .0) refl (found .1)) in
+      let size =
+      sized 0x84 5 16 (found .0) refl (named-right selectNames (direct selectTag a) (wrong .0) 0x84 (found .0) refl (found .1)) in
       (found .0, found .1, size .0, size .1, not-false _ (sym (ap (nameWrong (t .aid)) (found .1)) ∙ name .1))
 
   -- A5 stands there once
@@ -84,7 +88,9 @@ is-template a f n =
 module _ (a : List ℕ) (e : optionsReason a ≡ 0) where
   options-clear : AllClear (frame bothForms a) × AllClear (optionsLines a)
   unfolding optionsReason optionsLines
-  options-clear = both-clear bothForms a (optionsLines a) ((λ z. omega arith), ((λ z. omega arith), ((λ z. omega arith), ((λ z. omega arith), ((λ z. omega arith), tt))))) e
+  options-clear =
+      both-clear bothForms a (optionsLines a)
+      ((λ z. omega arith), ((λ z. omega arith), ((λ z. omega arith), ((λ z. omega arith), ((λ z. omega arith), tt))))) e
 
   pub options-framed : Framed bothForms a
   options-framed = frame-accepted bothForms a (options-clear .0)
@@ -163,13 +169,19 @@ module _ (before : ℕ → Bool) (a : List ℕ) (e : recordReason before a ≡ 0
   record-framed = frame-accepted (recordTag ∷ []) a (record-clear .0)
 
   -- each value that the record tells is right, and was not told before
-  pub record-told : (name : ℕ) (v : List ℕ) → listed name recordNames ≡ true → valueIn name a ≡ some v → (rightValue name v ≡ true) × (before name ≡ false)
+  pub record-told : (name : ℕ) (v : List ℕ) → listed name recordNames ≡ true → valueIn name a ≡ some v
+      → (rightValue name v ≡ true) × (before name ≡ false)
   unfolding recordLines recordTwice anyAgain valueIn
   record-told name v l f =
       let lines = record-clear .1 in
       let found = told-some (direct recordTag a name) v f in
-      let new = any-clear (λ name. again (before name) (direct recordTag a name)) recordNames (or-clear (anyTimes 2 recordNames (direct recordTag a)) _ (lines .0) .1) name l in
-      (named-right recordNames (direct recordTag a) (lines .1 .0) name v l found, not-again (before name) v (direct recordTag a name) found new)
+      let new =
+      any-clear (λ name. again (before name) (direct recordTag a name)) recordNames
+      (or-clear (anyTimes 2 recordNames (direct recordTag a)) _ (lines .0) .1) name l in (
+        named-right recordNames (direct recordTag a) (lines .1 .0) name v l found,
+        not-again (before name) v
+            (direct recordTag a name) found new,
+      )
 
 -- after the last record all that is mandatory was told, and the first object list can be filled
 module _ (there : ℕ → Bool) (list : List ℕ) (e : completeReason there list ≡ 0) where
@@ -187,7 +199,9 @@ module _ (there : ℕ → Bool) (list : List ℕ) (e : completeReason there list
 module _ (allowed : ℕ → Bool) (a : List ℕ) (e : cryptogramReason allowed a ≡ 0) where
   pub cryptogram-clear : AllClear (frame bothForms a) × AllClear (cryptogramLines allowed a)
   unfolding cryptogramReason cryptogramLines
-  cryptogram-clear = both-clear bothForms a (cryptogramLines allowed a) ((λ z. omega arith), ((λ z. omega arith), ((λ z. omega arith), ((λ z. omega arith), tt)))) e
+  cryptogram-clear =
+      both-clear bothForms a (cryptogramLines allowed a)
+      ((λ z. omega arith), ((λ z. omega arith), ((λ z. omega arith), ((λ z. omega arith), tt)))) e
 
   pub cryptogram-framed : Framed bothForms a
   cryptogram-framed = frame-accepted bothForms a (cryptogram-clear .0)

@@ -24,10 +24,12 @@ use Rattle.answer_common.specs.Named.{membersIn, listed, named, among, direct, 
 use Rattle.answer_common.proofs.Lines.{one-more}
 use Rattle.answer_common.proofs.Alike.{any-alike, times-alike, wrong-alike, named-alike, tags-alike, frame-alike}
 use Rattle.answer_common.specs.Forms.{template, joined, bothForms, lacks}
-use Rattle.answer_select.specs.Select.{selectTag, selectNames, innerNames, inner, pdolOf, nameWrong, selectTwice, selectWrong, selectLines, selectReason}
+use Rattle.answer_select.specs.Select.{selectTag, selectNames, innerNames, inner, pdolOf, nameWrong, selectTwice, selectWrong}
+use Rattle.answer_select.specs.Select.{selectLines, selectReason}
 use Rattle.answer_gpo.specs.Options.{optionNames, profileOf, locatorOf, optionsWrong, optionsLines, optionsReason}
 use Rattle.answer_record.specs.Records.{again, anyAgain, recordTwice, recordLines, recordReason, valueIn}
-use Rattle.answer_cryptogram.specs.Cryptogram.{mandatoryNames, cryptogramNames, informationOf, cryptogramOf, cryptogramWrong, cryptogramLines, cryptogramReason}
+use Rattle.answer_cryptogram.specs.Cryptogram.{mandatoryNames, cryptogramNames, informationOf, cryptogramOf, cryptogramWrong}
+use Rattle.answer_cryptogram.specs.Cryptogram.{cryptogramLines, cryptogramReason}
 use Rattle.answer_laws.specs.AlikeAnswers.{SameNamed, SelectAlike, FormAlike}
 
 -- a choice between the forms that agrees in both
@@ -51,7 +53,8 @@ named-too : (name : ℕ) → listed name mandatoryNames ≡ true → listed name
 named-too name l = listed-more name mandatoryNames (0x9F10 ∷ []) l
 
 -- records
-module _ (before : ℕ → Bool) (a b : List ℕ) (alike : Alike (recordTag ∷ []) a b) (same : SameNamed recordNames (inside recordTag a) (inside recordTag b)) where
+module _ (before : ℕ → Bool) (a b : List ℕ) (alike : Alike (recordTag ∷ []) a b)
+    (same : SameNamed recordNames (inside recordTag a) (inside recordTag b)) where
   under : (name : ℕ) → listed name recordNames ≡ true → direct recordTag a name ≡ direct recordTag b name
   unfolding direct
   under name l = named-alike recordNames (inside recordTag a) (inside recordTag b) same name l
@@ -102,7 +105,8 @@ module _ (t : Terminal) (a b : List ℕ) (same : SelectAlike a b) where
   unfolding selectReason selectLines selectTwice selectWrong
   select-alike =
       frame-alike (selectTag ∷ []) a b (same .frames) _ _
-      (one-more 4 _ _ (ap₂ _||_ (times-alike selectNames _ _ 2 as-often) (times-alike innerNames _ _ 2 (λ name l. ap times (inner-same name l))))
+      (one-more 4 _ _ (ap₂ _||_ (times-alike selectNames _ _ 2 as-often)
+      (times-alike innerNames _ _ 2 (λ name l. ap times (inner-same name l))))
       (one-more 5 _ _ (ap₂ _||_ outer-wrong (ap₂ _||_ (wrong-alike innerNames _ _ inner-same) (ap (nameWrong (t .aid)) name-same)))
       (one-more 8 _ _ (times-alike selectNames _ _ 0 as-often)
       (one-more 9 [] [] (ap (λ (v : List ℕ). not (fillable v)) select-facts) refl))))
@@ -130,7 +134,8 @@ module _ (a b : List ℕ) (same : FormAlike optionNames a b) where
       let afl = options-facts .1 in
       frame-alike bothForms a b (same .frames) _ _
       (one-more 4 _ _ (times-alike optionNames _ _ 2 (λ name l. ap times (in-form optionNames a b same name l)))
-      (one-more 5 _ _ (ap₂ _||_ (wrong-alike optionNames _ _ (in-form optionNames a b same)) (ap₂ (λ (t : Bool) (v : List ℕ). t && not (wholeEntries v)) (same .is-joined) afl))
+      (one-more 5 _ _ (ap₂ _||_ (wrong-alike optionNames _ _ (in-form optionNames a b same))
+      (ap₂ (λ (t : Bool) (v : List ℕ). t && not (wholeEntries v)) (same .is-joined) afl))
       (one-more 6 _ _ (ap (λ (v : List ℕ). not (entriesRight v)) afl)
       (one-more 7 _ _ (ap tooMany afl)
       (one-more 8 [] [] (lacks-same optionNames a b same optionNames (λ name l. l)) refl)))))
@@ -147,6 +152,7 @@ module _ (allowed : ℕ → Bool) (a b : List ℕ) (same : FormAlike cryptogramN
   cryptogram-alike =
       frame-alike bothForms a b (same .frames) _ _
       (one-more 4 _ _ (times-alike cryptogramNames _ _ 2 (λ name l. ap times (in-form cryptogramNames a b same name l)))
-      (one-more 5 _ _ (ap₂ _||_ (wrong-alike cryptogramNames _ _ (in-form cryptogramNames a b same)) (ap₂ (λ (t : Bool) (v : List ℕ). t && not (between 11 43 (length v))) (same .is-joined) (same .values)))
+      (one-more 5 _ _ (ap₂ _||_ (wrong-alike cryptogramNames _ _ (in-form cryptogramNames a b same))
+      (ap₂ (λ (t : Bool) (v : List ℕ). t && not (between 11 43 (length v))) (same .is-joined) (same .values)))
       (one-more 8 _ _ (lacks-same cryptogramNames a b same mandatoryNames named-too)
       (one-more 10 [] [] (ap (λ (k : ℕ). not (allowed k)) cryptogram-facts) refl))))

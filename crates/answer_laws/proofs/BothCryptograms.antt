@@ -24,7 +24,8 @@ use Rattle.answer_common.proofs.Present.{of-size}
 use Rattle.answer_common.proofs.Limits.{between-in, between-above}
 use Rattle.answer_common.proofs.Alike.{frame-alike}
 use Rattle.answer_common.specs.Forms.{template, joined, bothForms, lacks}
-use Rattle.answer_cryptogram.specs.Cryptogram.{mandatoryNames, cryptogramNames, informationOf, cryptogramOf, cryptogramWrong, cryptogramLines, cryptogramReason}
+use Rattle.answer_cryptogram.specs.Cryptogram.{mandatoryNames, cryptogramNames, informationOf, cryptogramOf, cryptogramWrong}
+use Rattle.answer_cryptogram.specs.Cryptogram.{cryptogramLines, cryptogramReason}
 use Rattle.answer_common.proofs.Absent.{not-direct, one-form}
 use Rattle.answer_laws.specs.AlikeAnswers.{OrMissing, SameCryptogram}
 use Rattle.answer_laws.proofs.BothForms.{itself}
@@ -61,14 +62,16 @@ module _ (a b information counter cryptogram issuer : List ℕ) (same : SameCryp
 
   -- in the joined answer nothing stands under a name; in the template three names stand once
   none-there : (f : Lookup → Lookup → Lookup → Lookup → Bool)
-      → f (direct template a 0x9F27) (direct template a 0x9F36) (direct template a 0x9F26) (direct template a 0x9F10) ≡ f absent absent absent absent
+      → f (direct template a 0x9F27) (direct template a 0x9F36) (direct template a 0x9F26)
+      (direct template a 0x9F10) ≡ f absent absent absent absent
   none-there f =
       let e = not-direct template a not-template in
       ap₂ (λ (x y : Lookup). f x y (direct template a 0x9F26) (direct template a 0x9F10)) (e 0x9F27) (e 0x9F36)
       ∙ ap₂ (f absent absent) (e 0x9F26) (e 0x9F10)
 
   three-there : (f : Lookup → Lookup → Lookup → Bool)
-      → f (direct template b 0x9F27) (direct template b 0x9F36) (direct template b 0x9F26) ≡ f (once information) (once counter) (once cryptogram)
+      → f (direct template b 0x9F27) (direct template b 0x9F36) (direct template b 0x9F26) ≡ f (once information) (once counter)
+      (once cryptogram)
   three-there f =
       ap₂ (λ (x y : Lookup). f x y (direct template b 0x9F26)) (same .information-told) (same .counter-told)
       ∙ ap (f (once information) (once counter)) (same .cryptogram-told)
@@ -84,9 +87,11 @@ module _ (a b information counter cryptogram issuer : List ℕ) (same : SameCryp
   same-twice : anyTimes 2 cryptogramNames (direct template a) ≡ anyTimes 2 cryptogramNames (direct template b)
   unfolding anyTimes anyOf times pick
   same-twice =
-      none-there (λ x y z w. pick (eqb (times x) 2) true (pick (eqb (times y) 2) true (pick (eqb (times z) 2) true (pick (eqb (times w) 2) true false))))
+      none-there (λ x y z w. pick (eqb (times x) 2) true
+      (pick (eqb (times y) 2) true (pick (eqb (times z) 2) true (pick (eqb (times w) 2) true false))))
       ∙ sym
-      (three-there (λ x y z. pick (eqb (times x) 2) true (pick (eqb (times y) 2) true (pick (eqb (times z) 2) true (pick (eqb (times (direct template b 0x9F10)) 2) true false))))
+      (three-there (λ x y z. pick (eqb (times x) 2) true
+      (pick (eqb (times y) 2) true (pick (eqb (times z) 2) true (pick (eqb (times (direct template b 0x9F10)) 2) true false))))
       ∙ pick-no _ _ _ issuer-once)
 
   issuer-wrong : wrongValue 0x9F10 (direct template b 0x9F10) ≡ not (between 0 32 (length issuer))
@@ -95,7 +100,9 @@ module _ (a b information counter cryptogram issuer : List ℕ) (same : SameCryp
     where
       go : OrMissing (direct template b 0x9F10) issuer → wrongValue 0x9F10 (direct template b 0x9F10) ≡ not (between 0 32 (length issuer))
       go (inl e) = ap (wrongValue 0x9F10) e
-      go (inr e) = ap (wrongValue 0x9F10) (e .0) ∙ sym (ap (λ (v : List ℕ). not (between 0 32 (length v))) (e .1) ∙ ap not (between-in 0 32 0 (omega arith) (omega arith)))
+      go (inr e) =
+          ap (wrongValue 0x9F10) (e .0) ∙ sym
+          (ap (λ (v : List ℕ). not (between 0 32 (length v))) (e .1) ∙ ap not (between-in 0 32 0 (omega arith) (omega arith)))
 
   three-right : (rightValue 0x9F27 information ≡ true) × (rightValue 0x9F36 counter ≡ true) × (rightValue 0x9F26 cryptogram ≡ true)
   unfolding ruleFor rules beside pick
@@ -111,14 +118,17 @@ module _ (a b information counter cryptogram issuer : List ℕ) (same : SameCryp
   wrong-joined : cryptogramWrong a ≡ not (between 0 32 (length issuer))
   unfolding cryptogramWrong anyWrong anyOf pick wrongValue
   wrong-joined =
-      or-no refl _ (none-there (λ x y z w. pick (wrongValue 0x9F27 x) true (pick (wrongValue 0x9F36 y) true (pick (wrongValue 0x9F26 z) true (pick (wrongValue 0x9F10 w) true false)))))
+      or-no refl _ (none-there (λ x y z w. pick (wrongValue 0x9F27 x) true
+      (pick (wrongValue 0x9F36 y) true (pick (wrongValue 0x9F26 z) true (pick (wrongValue 0x9F10 w) true false)))))
       ∙ (and-yes refl _ (same .is-joined) ∙ ap not (ap (between 11 43) joined-size ∙ shifted (length issuer)))
 
   wrong-template : cryptogramWrong b ≡ not (between 0 32 (length issuer))
   unfolding cryptogramWrong anyWrong anyOf wrongValue
   wrong-template =
       ap₂ _||_
-      (three-there (λ x y z. pick (wrongValue 0x9F27 x) true (pick (wrongValue 0x9F36 y) true (pick (wrongValue 0x9F26 z) true (pick (wrongValue 0x9F10 (direct template b 0x9F10)) true false))))
+      (three-there (λ x y z. pick (wrongValue 0x9F27 x) true
+      (pick (wrongValue 0x9F36 y) true
+      (pick (wrongValue 0x9F26 z) true (pick (wrongValue 0x9F10 (direct template b 0x9F10)) true false))))
       ∙ (pick-no _ _ _ (ap not (three-right .0))
       ∙ (pick-no _ _ _ (ap not (three-right .1)) ∙ (pick-no _ _ _ (ap not (three-right .2)) ∙ (itself _ ∙ issuer-wrong)))))
       (and-no refl _ not-joined ∙ not-joined)

@@ -22,7 +22,9 @@ small : (lines : List (Bool × ℕ)) → anyOf (map (λ l. leb 256 (l .1)) lines
 unfolding firstOf anyOf
 small [] e = omega arith
 small (l ∷ lines) e =
-    let line = either (leb 256 (l .1)) (λ y. absurd (let z : true ≡ false = sym (pick-yes _ _ _ y) ∙ e in let k : _≡_ {A = ℕ} 0 1 = cc in omega arith)) (λ n. n) in
+    let line =
+    either (leb 256 (l .1)) (λ y. absurd
+    (let z : true ≡ false = sym (pick-yes _ _ _ y) ∙ e in let k : _≡_ {A = ℕ} 0 1 = cc in omega arith)) (λ n. n) in
     picked (λ (n : ℕ). n < 256) (l .0) (l .1) (firstOf lines)
     (λ y. leb-false 256 (l .1) line)
     (λ n. small lines (sym (pick-no _ _ _ line) ∙ e))

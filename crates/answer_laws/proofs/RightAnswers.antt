@@ -20,10 +20,12 @@ use Rattle.slices.proofs.Tables.{or-no, and-no}
 use Rattle.answer_common.proofs.Sizes.{sized}
 use Rattle.answer_common.proofs.Accepted.{AllClear, no-reason, or-clear, any-none, frame-right}
 use Rattle.answer_common.proofs.Present.{of-size, there-so, may-be-so, may-be, none-twice, none-wrong, none-missing, by-name}
-use Rattle.answer_select.specs.Select.{selectTag, selectNames, innerNames, inner, pdolOf, begins, nameWrong, selectTwice, selectWrong, selectLines, selectReason}
+use Rattle.answer_select.specs.Select.{selectTag, selectNames, innerNames, inner, pdolOf, begins, nameWrong, selectTwice, selectWrong}
+use Rattle.answer_select.specs.Select.{selectLines, selectReason}
 use Rattle.answer_record.specs.Records.{again, anyAgain, recordTwice, recordLines, recordReason, valueIn, incomplete, completeReason}
 use Rattle.answer_laws.specs.RightAnswers.{RightSelect, RightRecord, RightRecords}
-use Rattle.answer_laws.proofs.AcceptedAnswers.{select-clear, select-framed, select-name, select-inner, select-list, record-clear, record-framed, record-told, complete-told, complete-list}
+use Rattle.answer_laws.proofs.AcceptedAnswers.{select-clear, select-framed, select-name, select-inner, select-list, record-clear}
+use Rattle.answer_laws.proofs.AcceptedAnswers.{record-framed, record-told, complete-told, complete-list}
 
 -- no line applies, the first three neither
 pub no-line : (expected a : List ℕ) (lines : List (Bool × ℕ)) → Framed expected a → AllClear lines → firstOf (frame expected a ++ lines) ≡ 0
@@ -63,7 +65,8 @@ module _ (t : Terminal) (a : List ℕ) where
       let name = there-so (λ v f s. of-size 0x84 5 16 v refl (s .0)) (r .name) in
       let held = there-so (λ v f s. refl) (r .proprietary) in
       let both = by-name (λ n. There (Right n) (direct selectTag a n)) selectNames (name, (held, tt)) in
-      let within = by-name (λ n. MayBe (Right n) (inner a n)) innerNames (may-be-so (λ v f s. of-size 0x9F38 0 listMost v refl (s .0)) (r .list), tt) in
+      let within =
+      by-name (λ n. MayBe (Right n) (inner a n)) innerNames (may-be-so (λ v f s. of-size 0x9F38 0 listMost v refl (s .0)) (r .list), tt) in
       no-line (selectTag ∷ []) a (selectLines (t .aid) a) (r .framed) (
         or-no refl _ (none-twice selectNames (direct selectTag a) (λ n l. inr (both n l))) ∙ none-twice innerNames (inner a) within,
         (
@@ -98,10 +101,12 @@ module _ (before : ℕ → Bool) (a : List ℕ) where
   right-record : RightRecord before a → recordReason before a ≡ 0
   unfolding recordReason recordLines recordTwice anyAgain
   right-record r =
-      let right : (name : ℕ) → listed name recordNames ≡ true → MayBe (Right name) (direct recordTag a name) = λ name l. may-be-so (λ v f s. s .0) (r .told name l) in
+      let right : (name : ℕ) → listed name recordNames ≡ true → MayBe (Right name) (direct recordTag a name) =
+      λ name l. may-be-so (λ v f s. s .0) (r .told name l) in
       no-line (recordTag ∷ []) a (recordLines before a) (r .framed) (
         or-no refl _ (none-twice recordNames (direct recordTag a) right)
-            ∙ any-none (λ name. again (before name) (direct recordTag a name)) recordNames (λ name l. not-again name (direct recordTag a name) (r .told name l)),
+            ∙ any-none (λ name. again (before name) (direct recordTag a name)) recordNames
+            (λ name l. not-again name (direct recordTag a name) (r .told name l)),
         (none-wrong recordNames (direct recordTag a) right, tt),
       )
 

@@ -26,10 +26,13 @@ use Rattle.answer_common.proofs.Accepted.{or-clear}
 use Rattle.answer_common.proofs.Present.{of-size, there-so, may-be-so, must-be, may-be, none-twice, none-wrong, none-missing, by-name}
 use Rattle.answer_common.specs.Forms.{template, joined, bothForms, lacks}
 use Rattle.answer_gpo.specs.Options.{optionNames, locatorOf, optionsWrong, optionsLines, optionsReason}
-use Rattle.answer_cryptogram.specs.Cryptogram.{mandatoryNames, cryptogramNames, cryptogramOf, cryptogramWrong, cryptogramLines, cryptogramReason}
+use Rattle.answer_cryptogram.specs.Cryptogram.{mandatoryNames, cryptogramNames, cryptogramOf, cryptogramWrong, cryptogramLines}
+use Rattle.answer_cryptogram.specs.Cryptogram.{cryptogramReason}
 use Rattle.answer_common.proofs.Absent.{not-direct, one-form}
-use Rattle.answer_laws.specs.RightForms.{OptionsApart, OptionsJoined, RightOptions, CryptogramApart, CryptogramJoined, RightCryptogram}
-use Rattle.answer_laws.proofs.AcceptedAnswers.{is-template, options-framed, options-entries, in-template, in-joined, cryptogram-clear, cryptogram-framed, cryptogram-allowed}
+use Rattle.answer_laws.specs.RightForms.{OptionsApart, OptionsJoined, RightOptions, CryptogramApart, CryptogramJoined}
+use Rattle.answer_laws.specs.RightForms.{RightCryptogram}
+use Rattle.answer_laws.proofs.AcceptedAnswers.{is-template, options-framed, options-entries, in-template, in-joined}
+use Rattle.answer_laws.proofs.AcceptedAnswers.{cryptogram-clear, cryptogram-framed, cryptogram-allowed}
 use Rattle.answer_laws.proofs.RightAnswers.{no-line}
 
 -- a template lacks nothing that stands in it; to a joined answer names mean nothing
@@ -88,7 +91,8 @@ module _ (a : List ℕ) where
       let locator = there-so (λ v f s. whole-exactly v .1 s) (h .2) in
       let both = by-name (λ n. There (Right n) (direct template a n)) optionNames (profile, (locator, tt)) in (
         none-twice optionNames (direct template a) (λ n l. inr (both n l)),
-        or-no refl _ (none-wrong optionNames (direct template a) (λ n l. inr (both n l))) ∙ (and-no refl _ (not-joined a (h .0)) ∙ not-joined a (h .0)),
+        or-no refl _ (none-wrong optionNames (direct template a) (λ n l. inr (both n l)))
+            ∙ (and-no refl _ (not-joined a (h .0)) ∙ not-joined a (h .0)),
         template-whole a optionNames (h .0) (none-missing optionNames (direct template a) both),
       )
   options-told (inr h) =
@@ -120,9 +124,15 @@ module _ (allowed : ℕ → Bool) (a : List ℕ) where
       let lacking = sym (and-yes refl _ y) ∙ lines .1 .1 .0 in
       record {
         is-apart = y;
-        information = there-so (λ v f r. sized 0x9F27 1 1 v refl r) (must-be mandatoryNames (direct template a) lacking 0x9F27 refl (may 0x9F27 refl));
-        counter = there-so (λ v f r. sized 0x9F36 2 2 v refl r) (must-be mandatoryNames (direct template a) lacking 0x9F36 refl (may 0x9F36 refl));
-        cryptogram = there-so (λ v f r. sized 0x9F26 8 8 v refl r) (must-be mandatoryNames (direct template a) lacking 0x9F26 refl (may 0x9F26 refl));
+        information =
+            there-so (λ v f r. sized 0x9F27 1 1 v refl r)
+            (must-be mandatoryNames (direct template a) lacking 0x9F27 refl (may 0x9F27 refl));
+        counter =
+            there-so (λ v f r. sized 0x9F36 2 2 v refl r)
+            (must-be mandatoryNames (direct template a) lacking 0x9F36 refl (may 0x9F36 refl));
+        cryptogram =
+            there-so (λ v f r. sized 0x9F26 8 8 v refl r)
+            (must-be mandatoryNames (direct template a) lacking 0x9F26 refl (may 0x9F26 refl));
         issuer = may-be-so (λ v f r. sized 0x9F10 0 32 v refl r) (may 0x9F10 refl);
       }
 
@@ -147,7 +157,9 @@ module _ (allowed : ℕ → Bool) (a : List ℕ) where
       let counter = there-so (λ v f s. of-size 0x9F36 2 2 v refl s) (h .counter) in
       let cryptogram = there-so (λ v f s. of-size 0x9F26 8 8 v refl s) (h .cryptogram) in
       let issuer = may-be-so (λ v f s. of-size 0x9F10 0 32 v refl s) (h .issuer) in
-      let may = by-name (λ n. MayBe (Right n) (direct template a n)) cryptogramNames (inr information, (inr counter, (inr cryptogram, (issuer, tt)))) in
+      let may =
+      by-name (λ n. MayBe (Right n) (direct template a n)) cryptogramNames
+      (inr information, (inr counter, (inr cryptogram, (issuer, tt)))) in
       let must = by-name (λ n. There (Right n) (direct template a n)) mandatoryNames (information, (counter, (cryptogram, tt))) in
       let apart = not-joined a (h .is-apart) in (
         none-twice cryptogramNames (direct template a) may,
@@ -157,7 +169,8 @@ module _ (allowed : ℕ → Bool) (a : List ℕ) where
   cryptogram-told (inr h) =
       let size = between-in 11 43 (length (inside joined a)) (h .1 .0) (h .1 .1) in (
         none-twice cryptogramNames (direct template a) (λ n l. joined-names a (h .0) n),
-        or-no refl _ (none-wrong cryptogramNames (direct template a) (λ n l. joined-names a (h .0) n)) ∙ (and-yes refl _ (h .0) ∙ ap not size),
+        or-no refl _ (none-wrong cryptogramNames (direct template a) (λ n l. joined-names a (h .0) n))
+            ∙ (and-yes refl _ (h .0) ∙ ap not size),
         joined-whole a mandatoryNames (h .0),
       )
 

@@ -22,7 +22,8 @@ SameNamed names s t = named names (membersIn s) ≡ named names (membersIn t)
 -- its value
 pub record SelectAlike (a b : List ℕ) : Type 0 where
   pub frames : Alike (selectTag ∷ []) a b
-  pub members : map (λ m. m .tag) (named selectNames (membersIn (inside selectTag a))) ≡ map (λ m. m .tag) (named selectNames (membersIn (inside selectTag b)))
+  pub members : map (λ m. m .tag) (named selectNames (membersIn (inside selectTag a)))
+      ≡ map (λ m. m .tag) (named selectNames (membersIn (inside selectTag b)))
   pub name : SameNamed (0x84 ∷ []) (inside selectTag a) (inside selectTag b)
   pub within : SameNamed innerNames (valueOf (direct selectTag a 0xA5)) (valueOf (direct selectTag b 0xA5))
 

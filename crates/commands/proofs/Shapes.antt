@@ -23,7 +23,8 @@ module _ (d : List ℕ) where
 
   written-long : 0x80 ≤ length d → length d < 256 → written 0x83 d ≡ 0x83 ∷ 0x81 ∷ length d ∷ d
   unfolding written tagBytes lengthBytes pick
-  written-long h k = ap (λ (l : List ℕ). 0x83 ∷ (l ++ d)) (pick-no _ _ _ (le-ltb (length d) 0x80 h) ∙ pick-yes _ _ _ (lt-ltb (length d) 256 k))
+  written-long h k =
+      ap (λ (l : List ℕ). 0x83 ∷ (l ++ d)) (pick-no _ _ _ (le-ltb (length d) 0x80 h) ∙ pick-yes _ _ _ (lt-ltb (length d) 256 k))
 
   pub options-short : length d < 0x80
       → optionsCommand d ≡ (0x80 ∷ 0xA8 ∷ 0x00 ∷ 0x00 ∷ (length d + 2) ∷ 0x83 ∷ length d ∷ []) ++ (d ++ (0x00 ∷ []))
@@ -43,12 +44,14 @@ module _ (d : List ℕ) where
 
   pub cryptogram-empty : (request : ℕ) → length d ≡ 0 → cryptogramCommand request d ≡ 0x80 ∷ 0xAE ∷ request ∷ 0x00 ∷ 0x00 ∷ []
   unfolding cryptogramCommand withLength
-  cryptogram-empty request e = ap (λ (l : List ℕ). 0x80 ∷ 0xAE ∷ request ∷ 0x00 ∷ (l ++ (0x00 ∷ []))) (pick-yes _ _ _ (eq-eqb (length d) 0 e))
+  cryptogram-empty request e =
+      ap (λ (l : List ℕ). 0x80 ∷ 0xAE ∷ request ∷ 0x00 ∷ (l ++ (0x00 ∷ []))) (pick-yes _ _ _ (eq-eqb (length d) 0 e))
 
   pub cryptogram-filled : (request : ℕ) → (length d ≡ 0 → ⊥)
       → cryptogramCommand request d ≡ (0x80 ∷ 0xAE ∷ request ∷ 0x00 ∷ length d ∷ []) ++ (d ++ (0x00 ∷ []))
   unfolding cryptogramCommand withLength
-  cryptogram-filled request e = ap (λ (l : List ℕ). 0x80 ∷ 0xAE ∷ request ∷ 0x00 ∷ (l ++ (0x00 ∷ []))) (pick-no _ _ _ (ne-eqb (length d) 0 e))
+  cryptogram-filled request e =
+      ap (λ (l : List ℕ). 0x80 ∷ 0xAE ∷ request ∷ 0x00 ∷ (l ++ (0x00 ∷ []))) (pick-no _ _ _ (ne-eqb (length d) 0 e))
 
 -- data and the byte that ends the command
 pub ended-length : (d : List ℕ) → length (d ++ (0x00 ∷ [])) ≡ length d + 1

@@ -60,7 +60,8 @@ issued command buf out n e h o =
     (e ∙ sym (pick-yes _ _ _ (le-leb (length command) (length buf) h)), o ∙ sym (laid-fits command 0 buf (omega arith)))
 
 -- two pieces laid one after the other
-pub two-laid : (y z d : List ℕ) (a b : ℕ) → b ≡ a + length y → a + (length y + length z) ≤ length d → laid z b (laid y a d) ≡ put (y ++ z) a d
+pub two-laid : (y z d : List ℕ) (a b : ℕ) → b ≡ a + length y → a + (length y + length z) ≤ length d
+    → laid z b (laid y a d) ≡ put (y ++ z) a d
 two-laid y z d a b e h =
     let fits : a + length y ≤ length d = omega arith in
     let long : length (put y a d) ≡ length d = put-length y a d fits in

@@ -16,7 +16,8 @@ use Rattle.slices.proofs.Choice.{pick-yes, pick-no, pick-cong, picked, either, 
 use Rattle.slices.proofs.Shorter.{equation}
 use Rattle.tlv_head.specs.Head.{tagOf, tagRight, tagSize}
 use Rattle.slices.specs.Tests.{isSome}
-use Rattle.dol_wanted.specs.Wanted.{Wanted, andThen, sizeAt, firstWanted, asks, wantedStep, entriesOf, total, totalBy, totalOf, most, fits, fillable, tally}
+use Rattle.dol_wanted.specs.Wanted.{Wanted, andThen, sizeAt, firstWanted, asks, wantedStep, entriesOf, total, totalBy, totalOf}
+use Rattle.dol_wanted.specs.Wanted.{most, fits, fillable, tally}
 
 pub entry-fits : (s : List ℕ) → asks s ≡ true → tagSize s + 1 ≤ length s
 unfolding asks
@@ -132,7 +133,8 @@ module _ (r : List ℕ) (some-bytes : 0 < length r) (right : isSome (entriesOf r
   turn-fits = entry-fits r asked
 
   pub turn-some : isSome (entriesOf (drop (tagSize r + 1) r)) ≡ true
-  turn-some = sym (some-then (firstWanted r) (entriesOf (drop (tagSize r + 1) r))) ∙ (sym (ap isSome (entries-more r some-bytes asked)) ∙ right)
+  turn-some =
+      sym (some-then (firstWanted r) (entriesOf (drop (tagSize r + 1) r))) ∙ (sym (ap isSome (entries-more r some-bytes asked)) ∙ right)
 
   pub turn-total : totalBy (entriesOf r) ≡ sizeAt r + totalBy (entriesOf (drop (tagSize r + 1) r))
   unfolding firstWanted

@@ -25,11 +25,13 @@ unfolding asked
 entries = refl
 
 -- nothing is asked for by no bytes; '00' is no tag; a tag without its length byte, and one that is none, are no entries
-no-entries : (asked [] ≡ some []) × (asked (0x00 ∷ 0x01 ∷ []) ≡ none) × (asked (0x95 ∷ []) ≡ none) × (asked (0x9F ∷ 0x80 ∷ 0x01 ∷ []) ≡ none)
+no-entries : (asked [] ≡ some []) × (asked (0x00 ∷ 0x01 ∷ []) ≡ none) × (asked (0x95 ∷ []) ≡ none)
+    × (asked (0x9F ∷ 0x80 ∷ 0x01 ∷ []) ≡ none)
 unfolding asked
 no-entries = (refl, refl, refl, refl)
 
 -- at most 252 bytes in all
-limits : (usable (0x95 ∷ 252 ∷ []) ≡ true) × (usable (0x95 ∷ 253 ∷ []) ≡ false) × (usable (0x95 ∷ 250 ∷ 0x9B ∷ 2 ∷ []) ≡ true) × (usable (0x95 ∷ 250 ∷ 0x9B ∷ 3 ∷ []) ≡ false) × (usable (0x00 ∷ 0x00 ∷ []) ≡ false)
+limits : (usable (0x95 ∷ 252 ∷ []) ≡ true) × (usable (0x95 ∷ 253 ∷ []) ≡ false) × (usable (0x95 ∷ 250 ∷ 0x9B ∷ 2 ∷ []) ≡ true)
+    × (usable (0x95 ∷ 250 ∷ 0x9B ∷ 3 ∷ []) ≡ false) × (usable (0x00 ∷ 0x00 ∷ []) ≡ false)
 unfolding usable
 limits = (refl, refl, refl, refl, refl)

@@ -22,8 +22,11 @@ use Rattle.decide_requests.specs.Replies.{codeIn, replyOf}
 use Rattle.decide_requests.specs.declared.reply.HostReply.{HostReply}
 use Rattle.decide_requests.specs.declared.reply.HostReply.the-variants.{Unable}
 use Rattle.rulebook.specs.Situation.{Situation, listIn}
-use Rattle.rulebook.specs.Phase.{Asked, selecting, optioning, reading, first, second, Heard, terminal, issuer, Phase, asks, hears, decides, decided as settled, ended}
-use Rattle.rulebook.specs.Turn.{goesOn, opened, selected, requested, allRead, readOn, withProfile, optioned, withRecord, recorded, answered, replied, online, byFirst, firstAnswered, secondAnswered, replyMade, turn, heard as issuerHeard, after}
+use Rattle.rulebook.specs.Phase.{Asked, selecting, optioning, reading, first, second, Heard, terminal, issuer, Phase, asks, hears}
+use Rattle.rulebook.specs.Phase.{decides, decided as settled, ended}
+use Rattle.rulebook.specs.Turn.{goesOn, opened, selected, requested, allRead, readOn, withProfile, optioned, withRecord, recorded}
+use Rattle.rulebook.specs.Turn.{answered, replied, online, byFirst, firstAnswered, secondAnswered, replyMade, turn}
+use Rattle.rulebook.specs.Turn.{heard as issuerHeard, after}
 use Rattle.rulebook.specs.Session.{longest, Plays, exchanged, heard, decided, Session}
 
 -- the most that can still come: from the first request on; after the last record
@@ -80,7 +83,8 @@ module _ (s : Situation) where
 all-read-few : (s : Situation) → toCome (allRead s) ≤ afterLast
 unfolding allRead ended toCome
 all-read-few s =
-    picked (λ (p : Phase). toCome p ≤ afterLast) (eqb (afterRecords (s .facts)) 8) _ _ (λ e. omega arith) (λ e. requested-few _ (afterRecords (s .facts)))
+    picked (λ (p : Phase). toCome p ≤ afterLast) (eqb (afterRecords (s .facts)) 8) _ _ (λ e. omega arith)
+    (λ e. requested-few _ (afterRecords (s .facts)))
 
 -- two for each record that is left, and what comes after the last
 read-few : (s : Situation) (rest : List (ℕ × ℕ)) → toCome (readOn s rest) ≤ 2 * length rest + afterLast

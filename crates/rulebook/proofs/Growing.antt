@@ -25,8 +25,11 @@ use Rattle.decide_requests.specs.declared.reply.HostReply.the-variants.{Unable}
 use Rattle.decide_tvr.proofs.Rows.{joined-self, kept-on}
 use Rattle.decide_tvr.proofs.Laws.{tvr-kept, tsi-kept, tsi-kept-on}
 use Rattle.rulebook.specs.Situation.{Situation, begun, listIn}
-use Rattle.rulebook.specs.Phase.{Asked, selecting, optioning, reading, first, second, Heard, terminal, issuer, Phase, asks, hears, decides, situationOf, decided, ended, terminated, tvrOf, tsiOf}
-use Rattle.rulebook.specs.Turn.{goesOn, opened, selected, managed, requested, allRead, readOn, withProfile, optioned, withRecord, recorded, answered, replied, online, byFirst, firstAllows, secondAllows, firstAnswered, secondAnswered, turn, heard as issuerHeard, after}
+use Rattle.rulebook.specs.Phase.{Asked, selecting, optioning, reading, first, second, Heard, terminal, issuer, Phase, asks, hears}
+use Rattle.rulebook.specs.Phase.{decides, situationOf, decided, ended, terminated, tvrOf, tsiOf}
+use Rattle.rulebook.specs.Turn.{goesOn, opened, selected, managed, requested, allRead, readOn, withProfile, optioned, withRecord}
+use Rattle.rulebook.specs.Turn.{recorded, answered, replied, online, byFirst, firstAllows, secondAllows, firstAnswered}
+use Rattle.rulebook.specs.Turn.{secondAnswered, turn, heard as issuerHeard, after}
 use Rattle.rulebook.specs.Session.{Plays, exchanged, heard, decided as settled, phasesOf, Reads}
 
 -- every bit that is set in a situation is set in a phase
@@ -64,7 +67,8 @@ module _ (s : Situation) where
   unfolding replied ended situationOf
   replied-kept reply code =
       let request = secondRequest reply (s .terminal) (s .facts) (s .tvr) in
-      picked (Reaches s) (fillable (listIn s 0x8D)) _ _ (λ e. asks-kept (second s request (responseCode reply request code))) (λ e. end-kept terminated 9)
+      picked (Reaches s) (fillable (listIn s 0x8D)) _ _ (λ e. asks-kept (second s request (responseCode reply request code)))
+      (λ e. end-kept terminated 9)
 
   online-kept : Reaches s (online s)
   unfolding online
@@ -95,7 +99,9 @@ read-kept s (r ∷ rest) = asks-kept (reading s (r .0) (r .1) rest)
 
 -- a situation with the same TVR and TSI
 same-kept : (s t : Situation) (q : Phase) → s .tvr ≡ t .tvr → s .tsi ≡ t .tsi → Reaches t q → Reaches s q
-same-kept s t q a b h = through s t q (ap (λ (x : List ℕ). joined x (t .tvr)) a ∙ joined-self (t .tvr)) (ap (λ (x : List ℕ). joined x (t .tsi)) b ∙ joined-self (t .tsi)) h
+same-kept s t q a b h =
+    through s t q (ap (λ (x : List ℕ). joined x (t .tvr)) a ∙ joined-self (t .tvr))
+    (ap (λ (x : List ℕ). joined x (t .tsi)) b ∙ joined-self (t .tsi)) h
 
 -- whatever the card answers
 pub turn-kept : (w : Asked) (a : List ℕ) → Reaches (situationOf w) (turn w a)
@@ -105,7 +111,8 @@ turn-kept (optioning s list) a =
     goes-kept s (optionsReason a) _
     (same-kept s (withProfile s (profileOf a)) _ refl refl (read-kept (withProfile s (profileOf a)) (toRead (locatorOf a))))
 turn-kept (reading s number file rest) a =
-    goes-kept s (recordReason (λ tag. isSome (s .facts tag)) a) _ (same-kept s (withRecord s a) _ refl refl (read-kept (withRecord s a) rest))
+    goes-kept s (recordReason (λ tag. isSome (s .facts tag)) a) _
+    (same-kept s (withRecord s a) _ refl refl (read-kept (withRecord s a) rest))
 turn-kept (first s request) a =
     goes-kept s (cryptogramReason (firstAllows request) a) _
     (through s (answered s) _ (joined-self (s .tvr)) (tsi-kept-on (s .tsi)) (by-first-kept (answered s) (cryptogramOf a)))
@@ -150,7 +157,8 @@ more p q ps g s h =
 
 phases-grow : {p : Phase} {es : List Entry} (play : Plays p es) → Growing (phasesOf play)
 unfolding phasesOf
-phases-grow (exchanged {w} {a} f ok play) = onward (stays (asks w)) (more (asks w) (turn w a) _ (turn-grows w a) (starts play) (phases-grow play))
+phases-grow (exchanged {w} {a} f ok play) =
+    onward (stays (asks w)) (more (asks w) (turn w a) _ (turn-grows w a) (starts play) (phases-grow play))
 phases-grow (heard {h} {p} f fits ok play) = more (hears h) (after h p) _ (after-grows h p) (starts play) (phases-grow play)
 phases-grow (settled f) = alone
 

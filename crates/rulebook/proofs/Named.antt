@@ -19,7 +19,8 @@ use Rattle.rulebook.specs.Session.{isPayload}
 use Rattle.rulebook.specs.Machine.{at, next}
 use Rattle.rulebook.proofs.Running.{takes-heard}
 
-pub takes-start : (b : List ℕ) → validStart b ≡ true → isPayload b ≡ true → next (at opens) (entry start b) ≡ some (at (opened (readingOf b)))
+pub takes-start : (b : List ℕ) → validStart b ≡ true → isPayload b ≡ true
+    → next (at opens) (entry start b) ≡ some (at (opened (readingOf b)))
 unfolding allowed after dueKind
 takes-start b valid ok = takes-heard terminal b valid ok
 

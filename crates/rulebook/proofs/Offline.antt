@@ -17,6 +17,7 @@ unfolding reached
 approved-offline = (reads _ refl, reads _ refl)
 
 -- type 0 has no HOST entry and goes on as unable
-pub offline-only : Session (opening 0 ++ (exchange (firstAsked tc) (given arqc) ++ (exchange (secondAsked tc) (given tc) ++ decides 1 0 0x80 0x20)))
+pub offline-only : Session
+    (opening 0 ++ (exchange (firstAsked tc) (given arqc) ++ (exchange (secondAsked tc) (given tc) ++ decides 1 0 0x80 0x20)))
 unfolding reached
 offline-only = reads _ refl

@@ -16,7 +16,8 @@ use Rattle.rulebook.proofs.Said.{other-kinds}
 use Rattle.rulebook.specs.Machine.{Machine, at, owes, done, due, next, andOn, run}
 use Rattle.rulebook.proofs.Running.{taken, chosen, session-run}
 
-then-twice : (f g h : Machine → Option Machine) (o : Option Machine) → ((σ : Machine) → f σ ≡ andOn g (h σ)) → andOn f o ≡ andOn g (andOn h o)
+then-twice : (f g h : Machine → Option Machine) (o : Option Machine) → ((σ : Machine) → f σ ≡ andOn g (h σ))
+    → andOn f o ≡ andOn g (andOn h o)
 unfolding andOn
 then-twice f g h none same = refl
 then-twice f g h (some σ) same = same σ
@@ -44,7 +45,8 @@ pub other-kind : (k j : ℕ) (test : Bool) (p : List ℕ) → eqb j k ≡ false 
 unfolding due
 other-kind k j test p e = ap (λ (b : Bool). b && test) e
 
-refused-kind : (k j : ℕ) (test : Bool) (p : List ℕ) (o : Option Machine) (τ : Machine) → eqb j k ≡ false → pick (due k test (entry j p)) o none ≡ some τ → ⊥
+refused-kind : (k j : ℕ) (test : Bool) (p : List ℕ) (o : Option Machine) (τ : Machine) → eqb j k ≡ false
+    → pick (due k test (entry j p)) o none ≡ some τ → ⊥
 refused-kind k j test p o τ e h = false≢true (sym (other-kind k j test p e) ∙ chosen (due k test (entry j p)) o τ h .0)
 
 -- only where the card owes an answer is one taken

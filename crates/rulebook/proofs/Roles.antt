@@ -1,4 +1,5 @@
--- There are a right kernel and a right judge: what comes before settles the command or the decision that is due, and each list is a session, or open, or breaks somewhere.
+-- There are a right kernel and a right judge: what comes before settles the command or the decision that is due, and each list is a
+-- session, or open, or breaks somewhere.
 -- Assumes nothing.
 use mathlib.Core.Path.{_≡_, refl, sym, ap, _∙_}
 use mathlib.Core.Bool.{Bool, true, false, _||_, false≢true}

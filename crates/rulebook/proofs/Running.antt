@@ -77,7 +77,8 @@ step-on (at (hears h)) τ e es n rest =
     (heard refl (said-allowed h _ said) (said-payload h _ said) (follows-from τ (at (after h (e .payload))) es (cc (c .1)) rest))
 step-on (at (decides outcome reason s)) τ e es h rest =
     let c = chosen (due decision (alike (e .payload) (decisionOf outcome reason s)) e) (some done) τ h in
-    let same : e .payload ≡ decisionOf outcome reason s = alike-same (e .payload) (decisionOf outcome reason s) (due-test decision _ e (c .0)) in
+    let same : e .payload ≡ decisionOf outcome reason s =
+    alike-same (e .payload) (decisionOf outcome reason s) (due-test decision _ e (c .0)) in
     let ended : es ≡ [] = follows-from τ done es (cc (c .1)) rest in
     subst (λ (x : Entry). Plays (decides outcome reason s) (x ∷ es)) (sym (due-entry decision _ e (c .0)))
     (subst (λ (l : List Entry). Plays (decides outcome reason s) (entry decision (e .payload) ∷ l)) (sym ended) (decided same))
@@ -96,13 +97,16 @@ pub takes-answer : (w : Asked) (a : List ℕ) → isPayload a ≡ true → next 
 unfolding next
 takes-answer w a ok = pick-yes _ _ _ (due-yes answer _ a ok)
 
-pub takes-heard : (h : Heard) (p : List ℕ) → allowed h p ≡ true → isPayload p ≡ true → next (at (hears h)) (entry (dueKind h) p) ≡ some (at (after h p))
+pub takes-heard : (h : Heard) (p : List ℕ) → allowed h p ≡ true → isPayload p ≡ true
+    → next (at (hears h)) (entry (dueKind h) p) ≡ some (at (after h p))
 unfolding next
 takes-heard h p fits ok = pick-yes _ _ _ (due-yes (dueKind h) _ p (say h p fits ok))
 
-pub takes-decision : (outcome reason : ℕ) (s : Situation) → next (at (decides outcome reason s)) (entry decision (decisionOf outcome reason s)) ≡ some done
+pub takes-decision : (outcome reason : ℕ) (s : Situation)
+    → next (at (decides outcome reason s)) (entry decision (decisionOf outcome reason s)) ≡ some done
 unfolding next
-takes-decision outcome reason s = pick-yes _ _ _ (due-yes decision _ (decisionOf outcome reason s) (same-alike (decisionOf outcome reason s)))
+takes-decision outcome reason s =
+    pick-yes _ _ _ (due-yes decision _ (decisionOf outcome reason s) (same-alike (decisionOf outcome reason s)))
 
 -- what an entry leads to
 abbrev pub Led : Machine → Entry → List Entry → Type 0
@@ -125,7 +129,8 @@ from-phase (decided {outcome} {reason} {s} {d} f) e es h =
 
 from-asked : {w : Asked} {l : List Entry} → Plays (asks w) l → (c e : Entry) (es : List Entry) → l ≡ c ∷ e ∷ es → Led (owes w) e es
 from-asked (exchanged {w} {c = d} {a} {es = fs} f ok play) c e es h =
-    led (owes w) (at (turn w a)) (entry answer a) e fs es (takes-answer w a ok) play (tail-same (entry command d) c (entry answer a ∷ fs) (e ∷ es) h)
+    led (owes w) (at (turn w a)) (entry answer a) e fs es (takes-answer w a ok) play
+    (tail-same (entry command d) c (entry answer a ∷ fs) (e ∷ es) h)
 
 -- a session's entry can be, and what follows it follows the next state
 pub step-back : (σ : Machine) (e : Entry) (es : List Entry) → Follows σ (e ∷ es) → Led σ e es
@@ -157,7 +162,8 @@ follows-ends (e ∷ es) σ play =
     let l = step-back σ e es play in
     ap (andOn (run es)) (l .1 .0) ∙ follows-ends es (l .0) (l .1 .1)
 
-pub taken : (f : Machine → Option Machine) (o : Option Machine) (τ : Machine) → andOn f o ≡ some τ → (σ : Machine) × ((o ≡ some σ) × (f σ ≡ some τ))
+pub taken : (f : Machine → Option Machine) (o : Option Machine) (τ : Machine) → andOn f o ≡ some τ
+    → (σ : Machine) × ((o ≡ some σ) × (f σ ≡ some τ))
 unfolding andOn
 taken f none τ h = no-state τ h
 taken f (some σ) τ h = (σ, (refl, h))

@@ -52,7 +52,8 @@ sample =
     ∷ []
 
 sample-valid : validStart sample ≡ true
-unfolding validStart every pick between validKind validDigits digitsOnly decimalByte validStartDate monthAndDay validRandom validPercentages validThreshold validAid zerosOnly readingOf decimal decimalFrom
+unfolding validStart every pick between validKind validDigits digitsOnly decimalByte validStartDate monthAndDay validRandom
+    validPercentages validThreshold validAid zerosOnly readingOf decimal decimalFrom
 sample-valid = refl
 
 sample-payload : isPayload sample ≡ true

@@ -27,7 +27,8 @@ payload-same j k p q e = ap (λ (x : Entry). x .payload) e
 -- nothing can follow
 pub ends : {p : Phase} {es fs rest : List Entry} → Plays p es → Plays p fs → fs ≡ es ++ rest → rest ≡ []
 ends {rest} (exchanged {c} {a} {es} f ok play) (exchanged {w} {c = d} {a = b} {es = fs} g ok′ other) e =
-    let then : entry answer b ∷ fs ≡ entry answer a ∷ (es ++ rest) = tail-same (entry command d) (entry command c) (entry answer b ∷ fs) (entry answer a ∷ (es ++ rest)) e in
+    let then : entry answer b ∷ fs ≡ entry answer a ∷ (es ++ rest) =
+    tail-same (entry command d) (entry command c) (entry answer b ∷ fs) (entry answer a ∷ (es ++ rest)) e in
     let same : b ≡ a = payload-same answer answer b a (head-same (entry answer b) (entry answer a) fs (es ++ rest) then) in
     ends play (subst (λ (x : List ℕ). Plays (turn w x) fs) same other) (tail-same (entry answer b) (entry answer a) fs (es ++ rest) then)
 ends {rest} (heard {k} {p} {es} f fits ok play) (heard {h} {k = j} {p = q} {es = fs} g fits′ ok′ other) e =
@@ -45,7 +46,8 @@ abbrev Passes : Phase → List Entry → List Phase → Type 0
 Passes p es ps = (play : Plays p es) × (phasesOf play ≡ ps)
 
 -- two plays that begin with the same entries pass the same phases while these are read
-same-phases : (n : ℕ) {p : Phase} {l m : List Entry} {qs : List Phase} (a : Plays p l) (b : Plays p m) → phasesOf b ≡ qs → take n l ≡ take n m
+same-phases : (n : ℕ) {p : Phase} {l m : List Entry} {qs : List Phase} (a : Plays p l) (b : Plays p m) → phasesOf b ≡ qs
+    → take n l ≡ take n m
     → take (suc n) (phasesOf a) ≡ take (suc n) qs
 unfolding phasesOf
 same-phases zero (exchanged f ok play) (exchanged {w} g ok′ other) q e = ap (take 1) q
@@ -54,13 +56,15 @@ same-phases (suc (suc n)) (exchanged {c} {a} {es} f ok play) (exchanged {w} {c =
     let then : entry answer a ∷ take n es ≡ entry answer b ∷ take n fs = tail-same (entry command c) (entry command d) _ _ e in
     let same : b ≡ a = sym (payload-same answer answer a b (head-same (entry answer a) (entry answer b) _ _ then)) in
     let moved = subst (λ (x : List ℕ). Passes (turn w x) fs (phasesOf other)) same (other, refl) in
-    ap (λ (ps : List Phase). asks w ∷ asks w ∷ ps) (same-phases n play (moved .0) (moved .1) (tail-same (entry answer a) (entry answer b) _ _ then))
+    ap (λ (ps : List Phase). asks w ∷ asks w ∷ ps)
+    (same-phases n play (moved .0) (moved .1) (tail-same (entry answer a) (entry answer b) _ _ then))
     ∙ ap (take (suc (suc (suc n)))) q
 same-phases zero (heard f fits ok play) (heard g fits′ ok′ other) q e = ap (take 1) q
 same-phases (suc n) (heard {k} {p} {es} f fits ok play) (heard {h} {k = j} {p = p′} {es = fs} g fits′ ok′ other) q e =
     let same : p′ ≡ p = sym (payload-same k j p p′ (head-same (entry k p) (entry j p′) (take n es) (take n fs) e)) in
     let moved = subst (λ (x : List ℕ). Passes (after h x) fs (phasesOf other)) same (other, refl) in
-    ap (λ (ps : List Phase). hears h ∷ ps) (same-phases n play (moved .0) (moved .1) (tail-same (entry k p) (entry j p′) (take n es) (take n fs) e))
+    ap (λ (ps : List Phase). hears h ∷ ps)
+    (same-phases n play (moved .0) (moved .1) (tail-same (entry k p) (entry j p′) (take n es) (take n fs) e))
     ∙ ap (take (suc (suc n))) q
 same-phases n (decided f) (decided g) q e = ap (take (suc n)) q
 
@@ -69,7 +73,8 @@ pub reads-once : (es : List Entry) (ps qs : List Phase) → Reads es ps → Read
 unfolding Reads
 reads-once es ps qs a b =
     let n = length es in
-    let same : take n (es ++ a .0) ≡ take n (es ++ b .0) = take-append-le n es (a .0) (omega arith) ∙ sym (take-append-le n es (b .0) (omega arith)) in
+    let same : take n (es ++ a .0) ≡ take n (es ++ b .0) =
+    take-append-le n es (a .0) (omega arith) ∙ sym (take-append-le n es (b .0) (omega arith)) in
     a .1 .1 ∙ (rw add-one (same-phases n (a .1 .0) (b .1 .0) refl same) ∙ sym (b .1 .1))
 
 -- each session has one, and each beginning

@@ -90,10 +90,12 @@ module _ (finish : (p : Phase) → Finished p) (es : List Entry) where
       by-last : (p : List ℕ) → e .payload ≡ p → Sort es
       by-last [] q =
           either (eqb (e .kind) silence)
-          (λ y. by-state (ap (λ (n : ℕ). entry n (e .payload)) (eqb-true (e .kind) silence y) ∙ ap (entry silence) q) (run before (at opens)) refl)
+          (λ y. by-state (ap (λ (n : ℕ). entry n (e .payload)) (eqb-true (e .kind) silence y) ∙ ap (entry silence) q)
+          (run before (at opens)) refl)
           (λ n. broken (λ c. eqb-false (e .kind) silence n (ap (λ (x : Entry). x .kind) (silent c .0))))
       by-last (b ∷ p) q =
-          broken (λ c. let none-left : b ∷ p ≡ [] = sym q ∙ ap (λ (x : Entry). x .payload) (silent c .0) in let z : _≡_ {A = ℕ} 0 1 = cc in omega arith)
+          broken (λ c. let none-left : b ∷ p ≡ [] = sym q ∙ ap (λ (x : Entry). x .payload) (silent c .0) in
+          let z : _≡_ {A = ℕ} 0 1 = cc in omega arith)
 
     by-end : Last es → Sort es
     unfolding run

@@ -8,7 +8,8 @@ use Rattle.tlv_list.specs.Objects.{isSome}
 use Rattle.tape_read.specs.Entries.{Entry, entry, start, command, answer, decision}
 use Rattle.rulebook.specs.Session.{Session, BreaksAt}
 use Rattle.rulebook.proofs.Opening.{reached}
-use Rattle.rulebook.proofs.Made.{startWith, startOf, amountOf, select, selected, options, profiled, readOne, recorded, number, firstAsked, given, aac, tc, arqc, decides, exchange, reads, breaks}
+use Rattle.rulebook.proofs.Made.{startWith, startOf, amountOf, select, selected, options, profiled, readOne, recorded, number, firstAsked}
+use Rattle.rulebook.proofs.Made.{given, aac, tc, arqc, decides, exchange, reads, breaks}
 
 -- ---- floor limit and selection
 
@@ -24,7 +25,8 @@ abbrev risk : ℕ → Entry
 risk byte = entry decision (1 ∷ 0 ∷ 0x80 ∷ 0 ∷ 0 ∷ byte ∷ 0 ∷ 0x28 ∷ 0 ∷ [])
 
 -- the floor limit itself, 10000, is not below the floor limit
-pub floor-limit : Session (looked (0 ∷ 0 ∷ 0 ∷ 1 ∷ 0 ∷ 0 ∷ []) ++ (risk 0x80 ∷ [])) × BreaksAt (looked (0 ∷ 0 ∷ 0 ∷ 1 ∷ 0 ∷ 0 ∷ []) ++ (risk 0x00 ∷ [])) 9
+pub floor-limit : Session (looked (0 ∷ 0 ∷ 0 ∷ 1 ∷ 0 ∷ 0 ∷ []) ++ (risk 0x80 ∷ []))
+    × BreaksAt (looked (0 ∷ 0 ∷ 0 ∷ 1 ∷ 0 ∷ 0 ∷ []) ++ (risk 0x00 ∷ [])) 9
 unfolding reached isSome
 floor-limit = (reads _ refl, breaks (looked (0 ∷ 0 ∷ 0 ∷ 1 ∷ 0 ∷ 0 ∷ [])) (risk 0x00) [] refl refl refl)
 

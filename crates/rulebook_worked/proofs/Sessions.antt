@@ -7,7 +7,9 @@ use Prim.Native.Nat.{ℕ}
 use Rattle.tape_read.specs.Entries.{Entry, entry, start, host, decision}
 use Rattle.rulebook.specs.Session.{Session}
 use Rattle.rulebook.proofs.Opening.{reached}
-use Rattle.rulebook.proofs.Made.{startIn, amountOf, startOf, select, selected, options, optioned, readOne, recordedWith, recorded, expiring, number, firstAsked, secondAsked, given, aac, tc, arqc, decides, exchange, openingWith, opening, reads}
+use Rattle.rulebook.proofs.Made.{startIn, amountOf, startOf, select, selected, options, optioned, readOne, recordedWith, recorded}
+use Rattle.rulebook.proofs.Made.{expiring, number, firstAsked, secondAsked, given, aac, tc, arqc, decides, exchange, openingWith, opening}
+use Rattle.rulebook.proofs.Made.{reads}
 use Rattle.rulebook.proofs.Offline.{offline}
 
 -- ---- decided sessions
@@ -15,7 +17,8 @@ use Rattle.rulebook.proofs.Offline.{offline}
 abbrev pub online : ℕ → ℕ → List ℕ → ℕ → ℕ → List Entry
 online kind first reply second outcome =
     opening kind
-    ++ (exchange (firstAsked first) (given arqc) ++ (entry host reply ∷ (exchange (secondAsked second) (given second) ++ decides outcome 0 0x80 0x20)))
+    ++ (exchange (firstAsked first) (given arqc)
+    ++ (entry host reply ∷ (exchange (secondAsked second) (given second) ++ decides outcome 0 0x80 0x20)))
 
 pub declined-offline : Session (offline 2 aac 2) × Session (offline 0 aac 2)
 unfolding reached
@@ -45,14 +48,16 @@ afterOptions a reason = entry start (startOf 2) ∷ (exchange select selected ++
 
 abbrev afterRecord : List ℕ → ℕ → ℕ → List Entry
 afterRecord a reason tvr =
-    entry start (startOf 2) ∷ (exchange select selected ++ (exchange options (optioned 1 1) ++ (exchange readOne a ++ decides 3 reason tvr 0)))
+    entry start (startOf 2) ∷ (exchange select selected
+    ++ (exchange options (optioned 1 1) ++ (exchange readOne a ++ decides 3 reason tvr 0)))
 
 -- no bytes; status 6A82; no object; 84 twice; 84 too short
 pub reasons-1-to-5 :
     Session (afterSelect [] 1)
     × Session (afterSelect (0x6A ∷ 0x82 ∷ []) 2)
     × Session (afterSelect (0x90 ∷ 0x00 ∷ []) 3)
-    × Session (afterSelect (0x6F ∷ 0x10 ∷ 0x84 ∷ 0x05 ∷ 0xA0 ∷ 0 ∷ 0 ∷ 0 ∷ 3 ∷ 0x84 ∷ 0x05 ∷ 0xA0 ∷ 0 ∷ 0 ∷ 0 ∷ 3 ∷ 0xA5 ∷ 0x00 ∷ 0x90 ∷ 0x00 ∷ []) 4)
+    × Session (afterSelect (0x6F ∷ 0x10 ∷ 0x84 ∷ 0x05 ∷ 0xA0 ∷ 0 ∷ 0 ∷ 0 ∷ 3 ∷ 0x84 ∷ 0x05 ∷ 0xA0 ∷ 0 ∷ 0 ∷ 0 ∷ 3 ∷ 0xA5 ∷ 0x00 ∷ 0x90
+    ∷ 0x00 ∷ []) 4)
     × Session (afterSelect (0x6F ∷ 0x08 ∷ 0x84 ∷ 0x04 ∷ 0xA0 ∷ 0 ∷ 0 ∷ 0 ∷ 0xA5 ∷ 0x00 ∷ 0x90 ∷ 0x00 ∷ []) 5)
 unfolding reached
 reasons-1-to-5 = (reads _ refl, reads _ refl, reads _ refl, reads _ refl, reads _ refl)
@@ -63,7 +68,8 @@ unfolding reached
 reasons-6-and-7 = (reads _ refl, reads _ refl)
 
 -- nothing told; an object list that breaks off, after the facts' bits were set
-pub reasons-8-and-9 : Session (afterRecord (0x70 ∷ 0x00 ∷ 0x90 ∷ 0x00 ∷ []) 8 0) × Session (afterRecord (recorded (0x95 ∷ 0x01 ∷ 0x9F ∷ [])) 9 0x80)
+pub reasons-8-and-9 : Session (afterRecord (0x70 ∷ 0x00 ∷ 0x90 ∷ 0x00 ∷ []) 8 0)
+    × Session (afterRecord (recorded (0x95 ∷ 0x01 ∷ 0x9F ∷ [])) 9 0x80)
 unfolding reached
 reasons-8-and-9 = (reads _ refl, reads _ refl)
 

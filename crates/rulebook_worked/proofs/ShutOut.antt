@@ -16,7 +16,8 @@ use Rattle.rulebook.specs.Session.{Session, Open, BreaksAt}
 use Rattle.rulebook.proofs.Opening.{reached}
 use Rattle.rulebook.proofs.Breaks.{begins-empty}
 use Rattle.rulebook.specs.Roles.{given, Kernel, RightKernel, Verdict, pass, inconclusive, fail, Judge, RightJudge}
-use Rattle.rulebook.proofs.Made.{startOf, select, selected, withList, options, withNumber, optioned, readOne, recorded, number, firstAsked, secondAsked, given as cryptogram, aac, tc, arqc, decides, exchange, opening, reads, breaks}
+use Rattle.rulebook.proofs.Made.{startOf, select, selected, withList, options, withNumber, optioned, readOne, recorded, number}
+use Rattle.rulebook.proofs.Made.{firstAsked, secondAsked, given as cryptogram, aac, tc, arqc, decides, exchange, opening, reads, breaks}
 use Rattle.rulebook_worked.proofs.Sessions.{approved-online, declined-online, other-list}
 use Rattle.rulebook.proofs.Offline.{offline, approved-offline}
 
@@ -37,7 +38,8 @@ module _ (k : Kernel) (right : RightKernel k) where
   unfolding RightKernel given
   first-command =
       right (entry start (startOf 2) ∷ []) (entry command select)
-      (entry answer selected ∷ (exchange options (optioned 1 1) ++ (exchange readOne (recorded number) ++ (asking ++ decides 1 0 0x80 0x20))))
+      (entry answer selected ∷ (exchange options (optioned 1 1)
+      ++ (exchange readOne (recorded number) ++ (asking ++ decides 1 0 0x80 0x20))))
       (approved-offline .0) refl
 
   second-command : k (entry start (startOf 2) ∷ exchange select selected) ≡ entry command options
@@ -49,7 +51,8 @@ module _ (k : Kernel) (right : RightKernel k) where
 
   request : k (opening 2) ≡ entry command (firstAsked tc)
   unfolding RightKernel given
-  request = right (opening 2) (entry command (firstAsked tc)) (entry answer (cryptogram tc) ∷ decides 1 0 0x80 0x20) (approved-offline .0) refl
+  request =
+      right (opening 2) (entry command (firstAsked tc)) (entry answer (cryptogram tc) ∷ decides 1 0 0x80 0x20) (approved-offline .0) refl
 
   last-entry : k (opening 2 ++ asking) ≡ entry decision (1 ∷ 0 ∷ 0x80 ∷ 0 ∷ 0 ∷ 0 ∷ 0 ∷ 0x20 ∷ 0 ∷ [])
   unfolding RightKernel given
@@ -100,7 +103,8 @@ pub not-settled : (s : Entry) → Parts s → (k : Kernel) → RightKernel k →
 unfolding RightKernel given
 not-settled s p k right f wrong =
     let a : k (s ∷ p .one) ≡ entry command (p .asked) = right (s ∷ p .one) (entry command (p .asked)) (p .rest) (p .session) refl in
-    let b : k (s ∷ p .other) ≡ entry command (p .otherwise) = right (s ∷ p .other) (entry command (p .otherwise)) (p .more) (p .another) refl in
+    let b : k (s ∷ p .other) ≡ entry command (p .otherwise) =
+    right (s ∷ p .other) (entry command (p .otherwise)) (p .more) (p .another) refl in
     let same : k (s ∷ p .one) ≡ k (s ∷ p .other) = wrong s (p .one) ∙ (ap (f s) (p .long) ∙ sym (wrong s (p .other))) in
     p .apart (ap (λ (e : Entry). e .payload) (sym a ∙ (same ∙ b)))
 

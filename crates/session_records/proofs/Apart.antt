@@ -27,7 +27,8 @@ slotIn at rows tag = beside nowhere tag (placed at rows)
 abbrev allRooms : List (ℕ × ℕ)
 allRooms = madeRooms ++ roomsOf recordNames
 
-inside-all : (rows : List (ℕ × ℕ)) (at tag : ℕ) → at + total rows ≤ end → (at ≤ slotIn at rows tag .at) × (slotIn at rows tag .at + slotIn at rows tag .size ≤ end)
+inside-all : (rows : List (ℕ × ℕ)) (at tag : ℕ) → at + total rows ≤ end
+    → (at ≤ slotIn at rows tag .at) × (slotIn at rows tag .at + slotIn at rows tag .size ≤ end)
 unfolding total placed beside nowhere
 inside-all [] at tag h = (omega arith, omega arith)
 inside-all (row ∷ rows) at tag h =
@@ -49,7 +50,8 @@ module _ (t u : ℕ) (other : t ≡ u → ⊥) (c d : List ℕ) (all : length d 
       let ru = slotIn (at + n) rows u in
       let it = inside-all rows (at + n) t (omega arith) in
       let iu = inside-all rows (at + n) u (omega arith) in
-      picked (λ s. length c ≤ s .size → cellIn (put c (s .at) d) (pick (eqb u (row .0)) here ru) ≡ cellIn d (pick (eqb u (row .0)) here ru)) (eqb t (row .0)) here rt
+      picked (λ s. length c ≤ s .size → cellIn (put c (s .at) d) (pick (eqb u (row .0)) here ru) ≡ cellIn d
+      (pick (eqb u (row .0)) here ru)) (eqb t (row .0)) here rt
       (λ y k.
       picked (λ s. cellIn (put c at d) s ≡ cellIn d s) (eqb u (row .0)) here ru
       (λ z. absurd (other (eqb-true _ _ y ∙ sym (eqb-true _ _ z))))
@@ -77,7 +79,8 @@ unfolding recordSlot
 within-told tag = inside-all (roomsOf recordNames) toldFrom tag told-fits .1
 
 -- no slot has more bytes than the longest value and its length
-small-all : (rows : List (ℕ × ℕ)) (at tag : ℕ) → every (map (λ row. leb (row .1) longest) rows) ≡ true → slotIn at rows tag .size ≤ longest + 1
+small-all : (rows : List (ℕ × ℕ)) (at tag : ℕ) → every (map (λ row. leb (row .1) longest) rows) ≡ true
+    → slotIn at rows tag .size ≤ longest + 1
 unfolding every placed beside nowhere
 small-all [] at tag h = omega arith
 small-all (row ∷ rows) at tag h =
@@ -98,10 +101,12 @@ small-told tag = small-all (roomsOf recordNames) toldFrom tag refl
 
 -- a tag that records name is none of the session's own
 own-unnamed : (tag own : ℕ) → listed own recordNames ≡ false → listed tag recordNames ≡ true → eqb tag own ≡ false
-own-unnamed tag own free l = either (eqb tag own) (λ y. absurd (false≢true (sym free ∙ (ap (λ (t : ℕ). listed t recordNames) (sym (eqb-true _ _ y)) ∙ l)))) (λ n. n)
+own-unnamed tag own free l =
+    either (eqb tag own) (λ y. absurd (false≢true (sym free ∙ (ap (λ (t : ℕ). listed t recordNames) (sym (eqb-true _ _ y)) ∙ l)))) (λ n. n)
 
 -- a tag that is none of the session's own has its slot among what records name
-pub slot-told : (tag : ℕ) → eqb tag 0x95 ≡ false → eqb tag 0x9B ≡ false → eqb tag 0x8A ≡ false → eqb tag 0x82 ≡ false → slotFor tag ≡ recordSlot tag
+pub slot-told : (tag : ℕ) → eqb tag 0x95 ≡ false → eqb tag 0x9B ≡ false → eqb tag 0x8A ≡ false → eqb tag 0x82 ≡ false
+    → slotFor tag ≡ recordSlot tag
 unfolding slotFor recordSlot placed beside
 slot-told tag a b c d = pick-no _ _ _ a ∙ (pick-no _ _ _ b ∙ (pick-no _ _ _ c ∙ pick-no _ _ _ d))
 

@@ -9,7 +9,8 @@ use native.Mathlib.Omega.{arith}
 use native.Mathlib.Numerals.{add-one}
 use lib.Dec.{eqb, ltb, leb}
 use lib.ListN.{length, getD, take, drop, length-append, length-take, length-drop, take-append-drop}
-use lib.Seq.{length-take-le, take-at, drop-at, take-append-le, drop-append-le, take-append-add, drop-append-add, drop-drop, take-append-seam, take-length, take-take}
+use lib.Seq.{length-take-le, take-at, drop-at, take-append-le, drop-append-le, take-append-add, drop-append-add, drop-drop}
+use lib.Seq.{take-append-seam, take-length, take-take}
 use borrow.Author.Tests.{eq-eqb, ne-eqb, lt-ltb, leb-true}
 use Rattle.slices.specs.Choice.{pick}
 use Rattle.slices.specs.Writing.{put, laid}
@@ -39,7 +40,8 @@ read-has (n ∷ v) = go (eqb n 0)
     go false = refl
 
 -- a write of two parts
-pub kept-put : (slot : Slot) (v d : List ℕ) → length v < slot .size → slot .at + slot .size ≤ length d → keptAt slot v d ≡ put ((length v + 1) ∷ v) (slot .at) d
+pub kept-put : (slot : Slot) (v d : List ℕ) → length v < slot .size → slot .at + slot .size ≤ length d
+    → keptAt slot v d ≡ put ((length v + 1) ∷ v) (slot .at) d
 unfolding keptAt
 kept-put slot v d f h =
     let n : List ℕ = (length v + 1) ∷ [] in
@@ -71,7 +73,8 @@ read-kept v x =
     pick-no _ _ _ (ne-eqb (length v + 1) 0 (λ e. omega arith))
     ∙ (let e : length v + 1 - 1 ≡ length v = omega arith in ap some (ap (λ (k : ℕ). take k (v ++ x)) e ∙ take-append-seam v x))
 
-pub read-put : (slot : Slot) (v d : List ℕ) → length v < slot .size → slot .at + slot .size ≤ length d → read (cellIn (put ((length v + 1) ∷ v) (slot .at) d) slot) ≡ some v
+pub read-put : (slot : Slot) (v d : List ℕ) → length v < slot .size → slot .at + slot .size ≤ length d
+    → read (cellIn (put ((length v + 1) ∷ v) (slot .at) d) slot) ≡ some v
 unfolding cellIn put
 read-put slot v d f h =
     let c : List ℕ = (length v + 1) ∷ v in
@@ -87,7 +90,8 @@ read-put slot v d f h =
 front : (n p : ℕ) (x y : List ℕ) → p + n ≤ length x → take n (drop p (x ++ y)) ≡ take n (drop p x)
 front n p x y h = ap (take n) (drop-append-le p x y (omega arith)) ∙ take-append-le n (drop p x) y (rw length-drop (omega arith))
 
-pub put-before : (n p : ℕ) (c : List ℕ) (at : ℕ) (d : List ℕ) → p + n ≤ at → at ≤ length d → take n (drop p (put c at d)) ≡ take n (drop p d)
+pub put-before : (n p : ℕ) (c : List ℕ) (at : ℕ) (d : List ℕ) → p + n ≤ at → at ≤ length d
+    → take n (drop p (put c at d)) ≡ take n (drop p d)
 unfolding put
 put-before n p c at d h k =
     let z = length-take-le at d k in

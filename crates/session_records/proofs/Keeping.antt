@@ -25,7 +25,8 @@ use Rattle.decimal_dates.specs.Dates.{validCardDate}
 use Rattle.answer_common.specs.declared.content.Rule.{Rule}
 use Rattle.answer_common.specs.declared.content.Rule.the-variants.{Sizes, Entries, Number, Date, Anything}
 use Rattle.session_records.specs.Runs.{longest}
-use Rattle.session_records.specs.Slots.{orElse, end, room, nowhere, read, cellIn, recordSlot, slotFor, toldIn, keptAt, keptIn, keptTold, keptObjects, full, emptyStore, told}
+use Rattle.session_records.specs.Slots.{orElse, end, room, nowhere, read, cellIn, recordSlot, slotFor, toldIn, keptAt, keptIn}
+use Rattle.session_records.specs.Slots.{keptTold, keptObjects, full, emptyStore, told}
 use Rattle.session_records.proofs.Cells.{kept-put, kept-length, read-put, read-none}
 use Rattle.session_records.proofs.Apart.{apart, within, named-slot, unnamed-slot, named-size}
 
@@ -74,7 +75,8 @@ module _ (d : List ℕ) (all : length d ≡ end) where
       (λ n. ap (λ x. toldIn x u) (told-unnamed t v d n))
 
 -- what records do not name, no record touches
-pub unnamed-kept : (u : ℕ) → listed u recordNames ≡ false → (ms : List Object) (d : List ℕ) → length d ≡ end → toldIn (keptObjects ms d) u ≡ toldIn d u
+pub unnamed-kept : (u : ℕ) → listed u recordNames ≡ false → (ms : List Object) (d : List ℕ) → length d ≡ end
+    → toldIn (keptObjects ms d) u ≡ toldIn d u
 unfolding keptObjects
 unnamed-kept u free [] d all = refl
 unnamed-kept u free (m ∷ ms) d all =
@@ -111,13 +113,17 @@ pub record Fits (tag : ℕ) (o : Option (List ℕ)) (l : Lookup) : Type 0 where
 
 module _ (tag : ℕ) (named : listed tag recordNames ≡ true) where
   abbrev pub Goes : List Object → Type 0
-  Goes ms = (d : List ℕ) → length d ≡ end → Fits tag (toldIn d tag) (lookup tag ms) → toldIn (keptObjects ms d) tag ≡ orElse (toldIn d tag) (toldOf (lookup tag ms))
+  Goes ms =
+      (d : List ℕ) → length d ≡ end → Fits tag (toldIn d tag) (lookup tag ms) → toldIn (keptObjects ms d) tag ≡ orElse (toldIn d tag)
+      (toldOf (lookup tag ms))
 
-  module _ (m : Object) (ms : List Object) (again : Goes ms) (d : List ℕ) (all : length d ≡ end) (f : Fits tag (toldIn d tag) (lookup tag (m ∷ ms))) where
+  module _ (m : Object) (ms : List Object) (again : Goes ms) (d : List ℕ) (all : length d ≡ end)
+      (f : Fits tag (toldIn d tag) (lookup tag (m ∷ ms))) where
     abbrev one-more : List ℕ
     one-more = keptTold (m .tag) (m .value) d
 
-    now-there : eqb (m .tag) tag ≡ true → (l : Lookup) → lookup tag ms ≡ l → toldIn (keptObjects ms one-more) tag ≡ orElse (toldIn d tag) (toldOf (lookup tag (m ∷ ms)))
+    now-there : eqb (m .tag) tag ≡ true → (l : Lookup) → lookup tag ms ≡ l
+        → toldIn (keptObjects ms one-more) tag ≡ orElse (toldIn d tag) (toldOf (lookup tag (m ∷ ms)))
     unfolding lookup met toldOf orElse
     now-there y absent e =
         let l : lookup tag (m ∷ ms) ≡ once (m .value) = pick-yes _ _ _ y ∙ ap (met (m .value)) e in
@@ -139,7 +145,11 @@ module _ (tag : ℕ) (named : listed tag recordNames ≡ true) where
     another n =
         let same = told-other d all (m .tag) tag (m .value) (eqb-false _ _ n) in
         again one-more (told-all d all (m .tag) (m .value))
-        (record { not-twice = λ e. f .not-twice (pick-no _ _ _ n ∙ e); new = λ v e. let g = f .new v (pick-no _ _ _ n ∙ e) in (g .0, ap isSome same ∙ g .1) })
+        (record {
+          not-twice = λ e. f .not-twice (pick-no _ _ _ n ∙ e);
+          new = λ v e. let g = f .new v (pick-no _ _ _ n ∙ e) in
+              (g .0, ap isSome same ∙ g .1);
+        })
         ∙ (ap (λ o. orElse o (toldOf (lookup tag ms))) same
         ∙ ap (λ l. orElse (toldIn d tag) (toldOf l)) (sym (pick-no _ _ _ n)))
 
@@ -174,7 +184,8 @@ meets-room Number v e h = bounds 1 10 (length v) (first-held _ _ e .0) .1
 meets-room Date v e h = let z = eqb-true (length v) 3 (first-held _ _ e .0) in omega arith
 meets-room Anything v e h = h
 
-pub right-room : (tag : ℕ) (v : List ℕ) → listed tag recordNames ≡ true → rightValue tag v ≡ true → length v ≤ longest → length v < slotFor tag .size
+pub right-room : (tag : ℕ) (v : List ℕ) → listed tag recordNames ≡ true → rightValue tag v ≡ true → length v ≤ longest
+    → length v < slotFor tag .size
 unfolding rightValue
 right-room tag v l r h =
     let s = named-size tag l in
@@ -186,7 +197,8 @@ unfolding zeros
 zero-byte i =
     either (ltb i end)
     (λ y. getD-replicate end i 0 0 (ltb-true _ _ y))
-    (λ n. List·getD-eq-default (replicate end 0) 0 {n = i} (let z = length-replicate {A = ℕ} end 0 in let k = ltb-false i end n in omega arith))
+    (λ n. List·getD-eq-default (replicate end 0) 0 {n = i}
+    (let z = length-replicate {A = ℕ} end 0 in let k = ltb-false i end n in omega arith))
 
 -- a store with nothing told
 pub told-nothing : (tag : ℕ) → told emptyStore tag ≡ none

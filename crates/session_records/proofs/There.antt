@@ -28,11 +28,13 @@ pub fixed-all : (n : ℕ) (v : List ℕ) → length v ≡ n → fixed n v ≡ v
 fixed-all n v e =
     let z = zeros-length n in
     laid-fits v 0 (zeros n) (omega arith)
-    ∙ (put-start v (zeros n) ∙ (ap (λ (l : List ℕ). v ++ l) (ap (λ (k : ℕ). drop k (zeros n)) (e ∙ sym z) ∙ drop-length (zeros n)) ∙ append-nil v))
+    ∙ (put-start v (zeros n) ∙ (ap (λ (l : List ℕ). v ++ l) (ap (λ (k : ℕ). drop k (zeros n)) (e ∙ sym z) ∙ drop-length (zeros n))
+    ∙ append-nil v))
 
 pub run-kept : (v : List ℕ) → length v ≤ longest → runHeld (keptRun v) ≡ some v
 unfolding runHeld keptRun
 run-kept v h =
     let z = zeros-length longest in
     pick-yes _ _ _ refl
-    ∙ ap some (ap (take (length v)) (laid-fits v 0 (zeros longest) (omega arith) ∙ put-start v (zeros longest)) ∙ take-at v _ (length v) refl)
+    ∙ ap some (ap (take (length v)) (laid-fits v 0 (zeros longest) (omega arith) ∙ put-start v (zeros longest))
+    ∙ take-at v _ (length v) refl)

@@ -38,7 +38,8 @@ abbrev pub All : List (ℕ × Option (List ℕ)) → Type 0
 All [] = Unit {0}
 All (line ∷ lines) = Told (line .1) × All lines
 
-pub beside-bytes : (other : Option (List ℕ)) (tag : ℕ) (lines : List (ℕ × Option (List ℕ))) → Told other → All lines → Told (beside other tag lines)
+pub beside-bytes : (other : Option (List ℕ)) (tag : ℕ) (lines : List (ℕ × Option (List ℕ))) → Told other → All lines
+    → Told (beside other tag lines)
 unfolding beside
 beside-bytes other tag [] h all = h
 beside-bytes other tag (line ∷ lines) h all =
@@ -55,7 +56,8 @@ ones-bytes (suc n) = bytes-cons 0xFF (replicate n 0xFF) (omega arith) (ones-byte
 
 shaped-bytes : (f : Format) (n : ℕ) (v : List ℕ) → areBytes v ≡ true → areBytes (shaped f n v) ≡ true
 unfolding shaped
-shaped-bytes Numeric n v h = bytes-append (zeros (n - length v)) (drop (length v - n) v) (zeros-bytes (n - length v)) (bytes-drop (length v - n) v h)
+shaped-bytes Numeric n v h =
+    bytes-append (zeros (n - length v)) (drop (length v - n) v) (zeros-bytes (n - length v)) (bytes-drop (length v - n) v h)
 shaped-bytes CardNumber n v h = bytes-append (take n v) (replicate (n - length v) 0xFF) (bytes-take n v h) (ones-bytes (n - length v))
 shaped-bytes Other n v h = bytes-append (take n v) (zeros (n - length v)) (bytes-take n v h) (zeros-bytes (n - length v))
 shaped-bytes Unknown n v h = zeros-bytes n
@@ -95,4 +97,5 @@ module _ (t : Terminal) (k : Facts) (own : (f : Field) → areBytes (bytesOf f t
 
   pub filling-bytes : (list : List ℕ) → areBytes (filling t k list) ≡ true
   unfolding filling filledList
-  filling-bytes list = picked (λ v. areBytes v ≡ true) (fillable list) (filledList t k list) [] (λ y. by-entries (entriesOf list)) (λ n. refl)
+  filling-bytes list =
+      picked (λ v. areBytes v ≡ true) (fillable list) (filledList t k list) [] (λ y. by-entries (entriesOf list)) (λ n. refl)

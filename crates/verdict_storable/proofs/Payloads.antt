@@ -41,7 +41,8 @@ p1-byte Arqc = omega arith
 module _ (s : Situation) (k : Knows s) (response : Option (List ℕ)) (r : Told response) where
   known-bytes : (tag : ℕ) → Told (knownIn s response tag)
   unfolding knownIn
-  known-bytes tag = beside-bytes (s .facts tag) tag _ (k .facts tag) (k .tvr .bytes, (k .tsi .bytes, (r, (profile-known (s .profile) (k .profile), tt))))
+  known-bytes tag =
+      beside-bytes (s .facts tag) tag _ (k .facts tag) (k .tvr .bytes, (k .tsi .bytes, (r, (profile-known (s .profile) (k .profile), tt))))
 
   module _ (list : List ℕ) where
     abbrev pub data′ : List ℕ
@@ -69,14 +70,16 @@ asked-payload (optioning s list) k =
 asked-payload (reading s number file rest) k = command-payload _ (record-most number file) (record-bytes number file (k .1 .0))
 asked-payload (first s request) k =
     let few = data-few s k none refl (listIn s 0x8C) in
-    command-payload _ (cryptogram-most (p1Of request) _ few) (cryptogram-bytes _ few (data-bytes s k none refl (listIn s 0x8C)) (p1Of request) (p1-byte request))
+    command-payload _ (cryptogram-most (p1Of request) _ few)
+    (cryptogram-bytes _ few (data-bytes s k none refl (listIn s 0x8C)) (p1Of request) (p1-byte request))
 asked-payload (second s request code) k =
     let few = data-few s (k .0) (some code) (k .1) (listIn s 0x8D) in
     command-payload _ (cryptogram-most (p1Of request) _ few)
     (cryptogram-bytes _ few (data-bytes s (k .0) (some code) (k .1) (listIn s 0x8D)) (p1Of request) (p1-byte request))
 
 -- and so is the DECISION
-pub decision-payload : (outcome reason : ℕ) (s : Situation) → Stays (decides outcome reason s) → isPayload (decisionOf outcome reason s) ≡ true
+pub decision-payload : (outcome reason : ℕ) (s : Situation) → Stays (decides outcome reason s)
+    → isPayload (decisionOf outcome reason s) ≡ true
 unfolding decisionOf
 decision-payload outcome reason s k =
     let tvr = k .0 .tvr in

@@ -15,7 +15,8 @@ use Rattle.rulebook.proofs.Bound.{session-bound}
 use Rattle.verdict.specs.Saying.{says}
 use Rattle.verdict_judged.specs.Judged.{passes, Judged}
 use Rattle.verdict.specs.declared.Verdict.the-variants.{Pass, Fail, Inconclusive}
-use Rattle.verdict_judged.proofs.Stored.{session-fits, storable-append, written-judged, appended-judged, session-judged, cut-judged, closed-judged}
+use Rattle.verdict_judged.proofs.Stored.{session-fits, storable-append, written-judged, appended-judged, session-judged, cut-judged}
+use Rattle.verdict_judged.proofs.Stored.{closed-judged}
 use Rattle.verdict_judged.proofs.Endings.{after-decision}
 use Rattle.verdict_storable.proofs.Theorem.{session-storable, awaiting-storable}
 
@@ -43,7 +44,8 @@ module _ (number : ℕ) (known : number < 2 ^ 32) (es : List Entry) where
     session-exceeded e h =
         let longer = es ++ (e ∷ []) in
         let few : length longer ≤ blocksMost = omega (arith, length-append es (e ∷ []), session-bound es session) in
-        written-judged number known longer (storable-append es (e ∷ []) fit (and-both (storable e) true h refl)) few (says Fail (length es) 0)
+        written-judged number known longer (storable-append es (e ∷ []) fit (and-both (storable e) true h refl)) few
+        (says Fail (length es) 0)
         (after-decision es e [] session)
 
   -- closed by one silence, what waits for the card is inconclusive

@@ -15,7 +15,8 @@ use Rattle.slices.proofs.Choice.{picked}
 use Rattle.tape_crc.proofs.Bytes.{bytes-head, bytes-rest, bytes-cons, bytes-take, bytes-drop, bytes-each, bytes-at}
 use Rattle.tlv_list.specs.Objects.{isSome}
 use Rattle.start_fields.specs.declared.fields.Field.{Field}
-use Rattle.start_fields.specs.declared.fields.Field.the-variants.{Amount, OtherAmount, Country, Currency, Date, TransactionType, Unpredictable, FloorLimit, Threshold, Version, Denial, Online, Default}
+use Rattle.start_fields.specs.declared.fields.Field.the-variants.{Amount, OtherAmount, Country, Currency, Date, TransactionType}
+use Rattle.start_fields.specs.declared.fields.Field.the-variants.{Unpredictable, FloorLimit, Threshold, Version, Denial, Online, Default}
 use Rattle.start_fields.specs.Layout.{beginOf, sizeOf, aidRoom, aidAt}
 use Rattle.start_fields.specs.Reading.{Terminal, readingOf, bytesOf, runIn, aidLengthIn, aidRoomIn}
 use Rattle.tape_read.proofs.Extra.{zeros-bytes}
@@ -35,8 +36,11 @@ use Rattle.decide_requests.specs.declared.reply.HostReply.{HostReply}
 use Rattle.decide_requests.specs.declared.reply.HostReply.the-variants.{Approve, Decline, Unable}
 use Rattle.decide_tvr.proofs.Laws.{tvr-length, tvr-bytes, tsi-length, tsi-length-on, tsi-bytes, tsi-bytes-on}
 use Rattle.rulebook.specs.Situation.{Situation, begun, listIn}
-use Rattle.rulebook.specs.Phase.{Asked, selecting, optioning, reading, first, second, Heard, terminal, issuer, Phase, asks, hears, decides, decided, ended, approved, declined, terminated}
-use Rattle.rulebook.specs.Turn.{goesOn, opened, selected, managed, requested, allRead, readOn, withProfile, optioned, withRecord, recorded, answered, replied, online, byFirst, firstAllows, secondAllows, firstAnswered, secondAnswered, turn, heard as issuerHeard, after}
+use Rattle.rulebook.specs.Phase.{Asked, selecting, optioning, reading, first, second, Heard, terminal, issuer, Phase, asks, hears}
+use Rattle.rulebook.specs.Phase.{decides, decided, ended, approved, declined, terminated}
+use Rattle.rulebook.specs.Turn.{goesOn, opened, selected, managed, requested, allRead, readOn, withProfile, optioned, withRecord}
+use Rattle.rulebook.specs.Turn.{recorded, answered, replied, online, byFirst, firstAllows, secondAllows, firstAnswered, secondAnswered}
+use Rattle.rulebook.specs.Turn.{turn, heard as issuerHeard, after}
 use Rattle.verdict_storable.proofs.Values.{profile-bytes, locator-bytes, named-bytes}
 use Rattle.verdict_storable.proofs.Filling.{Told, else-bytes}
 use Rattle.verdict_storable.proofs.Numbers.{numbersOf, read-numbers}
@@ -130,7 +134,9 @@ module _ (s : Situation) (k : Knows s) where
     terminal = k .terminal;
     profile = k .profile;
     facts = k .facts;
-    tvr = row 5 _ (tvr-bytes (s .terminal) (s .profile) (s .facts) (s .tvr) (bytes-at (s .tvr) (k .tvr .bytes))) (tvr-length (s .terminal) (s .profile) (s .facts) (s .tvr) (k .tvr .size));
+    tvr =
+        row 5 _ (tvr-bytes (s .terminal) (s .profile) (s .facts) (s .tvr) (bytes-at (s .tvr) (k .tvr .bytes)))
+        (tvr-length (s .terminal) (s .profile) (s .facts) (s .tvr) (k .tvr .size));
     tsi = row 2 _ (tsi-bytes (s .tsi) (s .profile) (bytes-at (s .tsi) (k .tsi .bytes))) (tsi-length (s .tsi) (s .profile) (k .tsi .size));
   }
 
@@ -160,7 +166,8 @@ module _ (s : Situation) (k : Knows s) where
 
   -- ---- the issuer
 
-  code-bytes : (reply : HostReply) (request : Cryptogram) (code : List ℕ) → areBytes code ≡ true → areBytes (responseCode reply request code) ≡ true
+  code-bytes : (reply : HostReply) (request : Cryptogram) (code : List ℕ) → areBytes code ≡ true
+      → areBytes (responseCode reply request code) ≡ true
   unfolding responseCode
   code-bytes Approve request code h = h
   code-bytes Decline request code h = h
@@ -179,7 +186,8 @@ module _ (s : Situation) (k : Knows s) where
   heard-stays : (reply : HostReply) (p : List ℕ) → areBytes p ≡ true → Stays (replied s reply (codeIn p))
   unfolding codeIn
   heard-stays reply p h =
-      replied-stays reply (codeIn p) (bytes-cons (getD p 1 0) (getD p 2 0 ∷ []) (bytes-at p h 1) (bytes-cons (getD p 2 0) [] (bytes-at p h 2) refl))
+      replied-stays reply (codeIn p) (bytes-cons (getD p 1 0) (getD p 2 0 ∷ []) (bytes-at p h 1)
+      (bytes-cons (getD p 2 0) [] (bytes-at p h 2) refl))
 
   first-stays : (type : ℕ) → Stays (byFirst type s)
   unfolding byFirst decided online
@@ -210,13 +218,16 @@ after-stays (issuer s) p k bytes = heard-stays s k _ p bytes
 
 pub turn-stays : (w : Asked) (a : List ℕ) → Asking w → areBytes a ≡ true → Stays (turn w a)
 unfolding turn selected optioned recorded firstAnswered secondAnswered decided
-turn-stays (selecting s) a k h = goes-stays s k (selectReason (s .terminal) a) (asks (optioning s (pdolOf a))) (select-small (s .terminal) a) k
+turn-stays (selecting s) a k h =
+    goes-stays s k (selectReason (s .terminal) a) (asks (optioning s (pdolOf a))) (select-small (s .terminal) a) k
 turn-stays (optioning s list) a k h =
     goes-stays s k (optionsReason a) _ (options-small a)
-    (read-stays (withProfile s (profileOf a)) (toRead (locatorOf a)) (profile-knows s k a h) (read-numbers (locatorOf a) (locator-bytes a h)))
+    (read-stays (withProfile s (profileOf a)) (toRead (locatorOf a)) (profile-knows s k a h)
+    (read-numbers (locatorOf a) (locator-bytes a h)))
 turn-stays (reading s number file rest) a k h =
     let before : ℕ → Bool = λ tag. isSome (s .facts tag) in
-    goes-stays s (k .0) (recordReason before a) _ (record-small before a) (read-stays (withRecord s a) rest (record-knows s (k .0) a h) (k .1 .1))
+    goes-stays s (k .0) (recordReason before a) _ (record-small before a)
+    (read-stays (withRecord s a) rest (record-knows s (k .0) a h) (k .1 .1))
 turn-stays (first s request) a k h =
     goes-stays s k (cryptogramReason (firstAllows request) a) _ (cryptogram-small (firstAllows request) a)
     (first-stays (answered s) (answered-knows s k) (cryptogramOf a))

@@ -16,7 +16,8 @@ use Rattle.verdict_storable.proofs.Payloads.{asked-payload, decision-pa
 use Rattle.rulebook.proofs.Payloads.{payload-bytes}
 
 -- an entry of a kind, with a payload, before others
-stored : (kind : ℕ) (p : List ℕ) (es : List Entry) → isKind kind ≡ true → isPayload p ≡ true → allStorable es ≡ true → allStorable (entry kind p ∷ es) ≡ true
+stored : (kind : ℕ) (p : List ℕ) (es : List Entry) → isKind kind ≡ true → isPayload p ≡ true → allStorable es ≡ true
+    → allStorable (entry kind p ∷ es) ≡ true
 unfolding allStorable storable isPayload
 stored kind p es h k l = and-both _ _ (and-both _ _ h k) l
 
@@ -33,7 +34,8 @@ plays-storable (exchanged {w} {c} {a} {es} f ok play) k =
     (stored answer a es refl ok (plays-storable play (turn-stays w a k (payload-bytes a ok))))
 plays-storable (heard {h} {k = n} {p} {es} f fits ok play) k =
     stored n p es (ap isKind f ∙ heard-kind h) ok (plays-storable play (after-stays h p k (payload-bytes p ok)))
-plays-storable (decided {outcome} {reason} {s} {d} f) k = stored decision d [] refl (ap isPayload f ∙ decision-payload outcome reason s k) refl
+plays-storable (decided {outcome} {reason} {s} {d} f) k =
+    stored decision d [] refl (ap isPayload f ∙ decision-payload outcome reason s k) refl
 
 -- ---- sessions
 

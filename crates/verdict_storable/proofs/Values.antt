@@ -40,7 +40,8 @@ unfolding before anyBytes allBytes
 before-bytes m none h k = refl
 before-bytes m (some ms) h k = and-both (areBytes (m .value)) (allBytes ms) h k
 
-listed-bytes : (f : List ℕ → Option (List Object)) → ((t : List ℕ) → areBytes t ≡ true → anyBytes (f t) ≡ true) → (s : List ℕ) → areBytes s ≡ true
+listed-bytes : (f : List ℕ → Option (List Object)) → ((t : List ℕ) → areBytes t ≡ true → anyBytes (f t) ≡ true) → (s : List ℕ)
+    → areBytes s ≡ true
     → anyBytes (listed f s) ≡ true
 unfolding listed anyBytes allBytes firstObject
 listed-bytes f h s b =

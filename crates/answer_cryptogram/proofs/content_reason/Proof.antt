@@ -19,7 +19,8 @@ use Rattle.answer_cryptogram.proofs.content_reason.Tie as tie
 abbrev From : ℕ → Allowed → List ℕ → Type 0
 From k w a = firstOf (cryptogramLines (allows w) a) ≡ firstOf (drop k (cryptogramLines (allows w) a))
 
-twice-told : (c : tie.After-any-times-in-checked) → c .any-times-in-checked .result ≡ anyTimes 2 cryptogramNames (direct 0x77 (c .before .before .before .before .args .answer .now))
+twice-told : (c : tie.After-any-times-in-checked)
+    → c .any-times-in-checked .result ≡ anyTimes 2 cryptogramNames (direct 0x77 (c .before .before .before .before .args .answer .now))
 twice-told c = c .any-times-in-checked .ensures ∙ ap (anyTimes 2 cryptogramNames) (template-found _ (c .before .before .inside .ensures))
 
 at-1 : (c : tie.Else1) → From 1 (c .before .before .before .before .before .args .allowed) (c .before .before .before .before .before .args .answer .now)
@@ -34,7 +35,8 @@ at-3 : (c : tie.Else3) → From 3 (c .before .before .before .before .before .be
 unfolding cryptogramLines
 at-3 c = at-2 (c .before .before .before) ∙ line-no (c .before .lacks .ensures) 8 _ (c .if3 .left)
 
-allowed-told : (c : tie.After-allows) → not (c .allows .result) ≡ not (allows (c .before .before .before .before .before .before .before .before .before .before .before .before .args .allowed) (cryptogramOf (c .before .before .before .before .before .before .before .before .before .before .before .before .args .answer .now)))
+allowed-told : (c : tie.After-allows)
+    → not (c .allows .result) ≡ not (allows (c .before .before .before .before .before .before .before .before .before .before .before .before .args .allowed) (cryptogramOf (c .before .before .before .before .before .before .before .before .before .before .before .before .args .answer .now)))
 allowed-told c = ap not (c .allows .ensures ∙ ap (allows _) (c .before .cryptogram .ensures))
 
 returns : tie.Need-returns

@@ -17,11 +17,13 @@ use Rattle.answer_cryptogram.proofs.is_wrong.Statement.{statement}
 use Rattle.answer_cryptogram.proofs.is_wrong.Tie as tie
 
 -- what was found among the members
-found : (c : tie.After-any-wrong-in-checked) → c .any-wrong-in-checked .result ≡ anyWrong cryptogramNames (direct 0x77 (c .before .before .before .before .args .answer .now))
+found : (c : tie.After-any-wrong-in-checked)
+    → c .any-wrong-in-checked .result ≡ anyWrong cryptogramNames (direct 0x77 (c .before .before .before .before .args .answer .now))
 found c = c .any-wrong-in-checked .ensures ∙ ap (anyWrong cryptogramNames) (template-found _ (c .before .before .inside .ensures))
 
 -- where the values are joined, their size decides
-by-size : (c : tie.Then2) → cryptogramWrong (c .before .before .before .before .before .before .before .args .answer .now) ≡ not (between 11 43 (length (inside 0x80 (c .before .before .before .before .before .before .before .args .answer .now))))
+by-size : (c : tie.Then2) → cryptogramWrong (c .before .before .before .before .before .before .before .args .answer .now)
+    ≡ not (between 11 43 (length (inside 0x80 (c .before .before .before .before .before .before .before .args .answer .now))))
 unfolding cryptogramWrong
 by-size c =
     let b = c .before .before in

@@ -19,7 +19,8 @@ use Rattle.answer_gpo.proofs.content_reason.Tie as tie
 abbrev From : ℕ → List ℕ → Type 0
 From k a = firstOf (optionsLines a) ≡ firstOf (drop k (optionsLines a))
 
-twice-told : (c : tie.After-any-times-in-checked) → c .any-times-in-checked .result ≡ anyTimes 2 optionNames (direct 0x77 (c .before .before .before .before .args .answer .now))
+twice-told : (c : tie.After-any-times-in-checked)
+    → c .any-times-in-checked .result ≡ anyTimes 2 optionNames (direct 0x77 (c .before .before .before .before .args .answer .now))
 twice-told c = c .any-times-in-checked .ensures ∙ ap (anyTimes 2 optionNames) (template-found _ (c .before .before .inside .ensures))
 
 at-1 : (c : tie.Else1) → From 1 (c .before .before .before .before .before .args .answer .now)
@@ -31,14 +32,16 @@ unfolding optionsLines
 at-2 c = at-1 (c .before .before) ∙ line-no (c .before .is-wrong .ensures) 5 _ (c .if2 .left)
 
 -- the AFL's tests
-entries-told : (c : tie.After-are-right) → not (c .are-right .result) ≡ not (entriesRight (locatorOf (c .before .before .before .before .before .before .before .before .before .args .answer .now)))
+entries-told : (c : tie.After-are-right)
+    → not (c .are-right .result) ≡ not (entriesRight (locatorOf (c .before .before .before .before .before .before .before .before .before .args .answer .now)))
 entries-told c = ap not (c .are-right .ensures ∙ ap entriesRight (c .before .locator .ensures))
 
 at-3 : (c : tie.Else3) → From 3 (c .before .before .before .before .before .before .before .before .before .before .args .answer .now)
 unfolding optionsLines
 at-3 c = at-2 (c .before .before .before) ∙ line-no (entries-told (c .before)) 6 _ (c .if3 .left)
 
-many-told : (c : tie.After-are-too-many) → c .are-too-many .result ≡ tooMany (locatorOf (c .before .before .before .before .before .before .before .before .before .before .before .args .answer .now))
+many-told : (c : tie.After-are-too-many)
+    → c .are-too-many .result ≡ tooMany (locatorOf (c .before .before .before .before .before .before .before .before .before .before .before .args .answer .now))
 many-told c = c .are-too-many .ensures ∙ ap tooMany (c .before .before .before .locator .ensures)
 
 at-4 : (c : tie.Else4) → From 4 (c .before .before .before .before .before .before .before .before .before .before .before .before .args .answer .now)

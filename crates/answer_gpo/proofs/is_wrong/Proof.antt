@@ -12,7 +12,8 @@ use Rattle.answer_gpo.proofs.is_wrong.Statement.{statement}
 use Rattle.answer_gpo.proofs.is_wrong.Tie as tie
 
 -- what was found among the members
-found : (c : tie.After-any-wrong-in-checked) → c .any-wrong-in-checked .result ≡ anyWrong optionNames (direct 0x77 (c .before .before .before .before .args .answer .now))
+found : (c : tie.After-any-wrong-in-checked)
+    → c .any-wrong-in-checked .result ≡ anyWrong optionNames (direct 0x77 (c .before .before .before .before .args .answer .now))
 found c = c .any-wrong-in-checked .ensures ∙ ap (anyWrong optionNames) (template-found _ (c .before .before .inside .ensures))
 
 returns : tie.Need-returns

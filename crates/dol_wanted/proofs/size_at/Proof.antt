@@ -10,7 +10,11 @@ use Rattle.dol_wanted.proofs.size_at.Tie as tie
 
 returns : tie.Need-returns
 unfolding sizeAt
-returns c = (c .byte .ensures .0 ∙ ap (λ (i : ℕ). getD (c .before .before .before .args .s .now) i 0) (c .before .tag-size .ensures .0), c .byte .ensures .1)
+returns c = (
+  c .byte .ensures .0 ∙ ap (λ (i : ℕ). getD (c .before .before .before .args .s .now) i 0)
+      (c .before .tag-size .ensures .0),
+  c .byte .ensures .1,
+)
 
 pub size-at-spec : {M : Type 1} → statement M
 size-at-spec = tie.close (tie.spec (λ c κs. search needs) (λ c κs. search needs) returns)

@@ -8,7 +8,8 @@ use lib.ListN.{length, take, drop, getD, length-take, length-drop}
 use Rattle.tlv_head.specs.Head.{tagSize}
 use Rattle.slices.proofs.Cutting.{rest-part, none-left}
 use Rattle.dol_wanted.specs.Wanted.{sizeAt, asks, entriesOf, most, tally}
-use Rattle.dol_wanted.proofs.Entries.{countedOn, tally-counted, turn-counted, turn-malformed, counted-over, counted-end, entries-empty, entry-fits}
+use Rattle.dol_wanted.proofs.Entries.{countedOn, tally-counted, turn-counted, turn-malformed, counted-over, counted-end}
+use Rattle.dol_wanted.proofs.Entries.{entries-empty, entry-fits}
 use native.Mathlib.Omega.{arith}
 use Rattle.dol_wanted.proofs.total.Statement.{statement}
 use Rattle.dol_wanted.proofs.total.Tie as tie
@@ -39,7 +40,8 @@ returns c =
       omega arith,
     )
 
-inside : (c : tie.After-tag-size Inv-loop μ-loop) → c .tag-size .result + 1 ≤ length (c .before .before .before .before .before .before .loop .rest .now)
+inside : (c : tie.After-tag-size Inv-loop μ-loop)
+    → c .tag-size .result + 1 ≤ length (c .before .before .before .before .before .before .loop .rest .now)
 inside c =
     let r = c .before .before .before .before .before .before .loop .rest .now in
     let f = entry-fits r (entry (c .before .before .before)) in
@@ -74,8 +76,11 @@ loop-again c =
 
 returns-2 : tie.Need-returns-2 Inv-loop μ-loop
 returns-2 c =
-    let l = c .before .before .before .loop in
-    (sym (sym (l .inv .1) ∙ turn-malformed (l .rest .now) (omega arith) (l .sum) (sym (c .before .is-entry .ensures) ∙ c .if1 .left)), omega arith)
+    let l = c .before .before .before .loop in (
+      sym (sym (l .inv .1) ∙ turn-malformed (l .rest .now) (omega arith) (l .sum)
+          (sym (c .before .is-entry .ensures) ∙ c .if1 .left)),
+      omega arith,
+    )
 
 returns-3 : tie.Need-returns-3 Inv-loop μ-loop
 returns-3 c =
@@ -88,4 +93,6 @@ returns-3 c =
     )
 
 pub total-spec : {M : Type 1} → statement M
-total-spec = tie.close (tie.spec Inv-loop μ-loop loop-holds (λ c κs. omega arith) (λ c κs. omega arith) (λ c. omega arith) returns (λ c κs. omega arith) (λ c. omega arith) sub-rest part-rest-start (λ c. omega arith) loop-less loop-again returns-2 returns-3)
+total-spec =
+    tie.close (tie.spec Inv-loop μ-loop loop-holds (λ c κs. omega arith) (λ c κs. omega arith) (λ c. omega arith) returns
+    (λ c κs. omega arith) (λ c. omega arith) sub-rest part-rest-start (λ c. omega arith) loop-less loop-again returns-2 returns-3)

@@ -23,8 +23,11 @@ returns c =
     let b = c .before .before .before in
     let left = sym (b .before .is-left .ensures .0) ∙ b .if1 .taken in
     let first = c .before .byte .ensures .0 ∙ ap (λ (s : List ℕ). getD s 1 0) (c .before .before .from-entry .ensures) in
-    let known = b .before .is-left .ensures .1 (b .if1 .taken) .1 in
-    (ap (λ (n : ℕ). n + b .before .before .before .args .c .done) first ∙ sym (ap (λ (p : ℕ × ℕ). p .0) (pick-yes _ _ _ left)), omega (arith, first, known))
+    let known = b .before .is-left .ensures .1 (b .if1 .taken) .1 in (
+      ap (λ (n : ℕ). n + b .before .before .before .args .c .done) first
+          ∙ sym (ap (λ (p : ℕ × ℕ). p .0) (pick-yes _ _ _ left)),
+      omega (arith, first, known),
+    )
 
 returns-2 : tie.Need-returns-2
 unfolding recordAt

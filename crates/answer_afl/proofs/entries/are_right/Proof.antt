@@ -38,12 +38,14 @@ loop-again c =
     let b = c .before .before .before .before in
     let s = b .loop .rest .now in
     ap entriesRight (rest-part s 4)
-    ∙ (sym (one-on s (c .before .before .before .loop-test .taken) (sym (c .before .before .is-entry-right .ensures) ∙ c .before .if1 .taken)) ∙ b .loop .inv)
+    ∙ (sym (one-on s (c .before .before .before .loop-test .taken)
+    (sym (c .before .before .is-entry-right .ensures) ∙ c .before .if1 .taken)) ∙ b .loop .inv)
 
 returns : tie.Need-returns Inv-loop μ-loop
 returns c =
     let b = c .before .before .before in
-    sym (one-wrong (b .loop .rest .now) (c .before .before .loop-test .taken) (sym (c .before .is-entry-right .ensures) ∙ c .if1 .left)) ∙ b .loop .inv
+    sym (one-wrong (b .loop .rest .now) (c .before .before .loop-test .taken)
+    (sym (c .before .is-entry-right .ensures) ∙ c .if1 .left)) ∙ b .loop .inv
 
 returns-2 : tie.Need-returns-2 Inv-loop μ-loop
 returns-2 c = sym (none-left (c .before .loop .rest .now) (c .loop-test .left)) ∙ c .before .loop .inv

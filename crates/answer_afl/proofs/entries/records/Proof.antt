@@ -9,4 +9,6 @@ use Rattle.answer_afl.proofs.entries.records.Tie as tie
 
 pub records-spec : {M : Type 1} → statement M
 unfolding records firstEntry
-records-spec = tie.close (tie.spec (λ c κs. search needs) (λ c κs. search needs) (λ c. search needs) (λ c. (omega arith, omega arith, omega arith)) (λ c. (omega arith, omega arith, omega arith)))
+records-spec =
+    tie.close (tie.spec (λ c κs. search needs) (λ c κs. search needs) (λ c. search needs)
+    (λ c. (omega arith, omega arith, omega arith)) (λ c. (omega arith, omega arith, omega arith)))

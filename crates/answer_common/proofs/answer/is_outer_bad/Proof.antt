@@ -27,14 +27,16 @@ unfolding outerBad
 returns c =
     let a = c .before .before .before .before .before .before .before .args in
     let l = c .before .before .before .before .loop in
-    let found = any-found (one (a .answer .now)) (a .expected .now) (l .i) (omega arith) (sym (c .before .is-one .ensures) ∙ c .if1 .taken) in
+    let found =
+    any-found (one (a .answer .now)) (a .expected .now) (l .i) (omega arith) (sym (c .before .is-one .ensures) ∙ c .if1 .taken) in
     ap not (sym found ∙ l .inv)
 
 loop-again : tie.Need-loop-again Inv-loop μ-loop
 loop-again c =
     let a = c .before .before .before .before .before .before .before .args in
     let l = c .before .before .before .before .loop in
-    sym (any-one-on (one (a .answer .now)) (a .expected .now) (l .i) (omega arith) (sym (c .before .is-one .ensures) ∙ c .if1 .left)) ∙ l .inv
+    sym (any-one-on (one (a .answer .now)) (a .expected .now) (l .i) (omega arith) (sym (c .before .is-one .ensures) ∙ c .if1 .left))
+    ∙ l .inv
 
 returns-2 : tie.Need-returns-2 Inv-loop μ-loop
 unfolding outerBad

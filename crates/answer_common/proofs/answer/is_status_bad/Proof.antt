@@ -25,4 +25,5 @@ returns-2 c =
     second ∙ sym (or-no first _ (ap not (eq-eqb _ _ (c .before .if1 .left))))
 
 pub is-status-bad-spec : {M : Type 1} → statement M
-is-status-bad-spec = tie.close (tie.spec (λ c. search needs) (λ c κs. search needs) (λ c. search needs) (λ c κs. search needs) returns returns-2)
+is-status-bad-spec =
+    tie.close (tie.spec (λ c. search needs) (λ c κs. search needs) (λ c. search needs) (λ c κs. search needs) returns returns-2)

@@ -5,7 +5,8 @@ use mathlib.Core.Bool.{true}
 use Rattle.tlv_list.specs.Objects.{isList}
 use Rattle.tlv_list.specs.Place.{nextAt}
 use Rattle.tlv_head.specs.declared.Next.the-variants.{Member}
-use Rattle.answer_common.proofs.Outer.{refused, not-refused, only-refused, only-end, only-broken, only-one, only-then-broken, only-and-more}
+use Rattle.answer_common.proofs.Outer.{refused, not-refused, only-refused, only-end, only-broken, only-one, only-then-broken}
+use Rattle.answer_common.proofs.Outer.{only-and-more}
 use borrow.Author.Needs.{needs}
 use Rattle.answer_common.proofs.answer.only.Statement.{statement}
 use Rattle.answer_common.proofs.answer.only.Tie as tie
@@ -33,7 +34,8 @@ returns-4 c =
 returns-5 : tie.Need-returns-5
 returns-5 c =
     let b = c .before .before .before .before .before in
-    only-then-broken _ (is-list (b .before .before)) _ _ _ (sym (b .before .next .ensures) ∙ c .before .before .before .before .tag .given .1)
+    only-then-broken _ (is-list (b .before .before)) _ _ _
+    (sym (b .before .next .ensures) ∙ c .before .before .before .before .tag .given .1)
     (sym (c .before .before .next2 .ensures) ∙ c .enum-told4 .given .1)
 
 returns-6 : tie.Need-returns-6

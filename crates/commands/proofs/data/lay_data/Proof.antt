@@ -23,8 +23,12 @@ returns c =
     let long = data-length t (toldIn (a .known .now)) (a .list .now) in
     let h = c .before .before .before .before .before .before .before .before .before .before .before .before .before .before .pre in
     c .before .before .lay .ensures
-    ∙ (ap (laid (0 ∷ []) (a .at + c .before .before .before .before .before .before .before .before .before .data-size .result)) (c .before .before .before .before .before .before .before .fill .ensures)
-    ∙ two-laid (filling t (toldIn (a .known .now)) (a .list .now)) (0 ∷ []) (a .buf .now) (a .at) (a .at + c .before .before .before .before .before .before .before .before .before .data-size .result) (omega arith) (omega arith))
+    ∙ (ap (laid (0 ∷ []) (a .at + c .before .before .before .before .before .before .before .before .before .data-size .result))
+    (c .before .before .before .before .before .before .before .fill .ensures)
+    ∙ two-laid (filling t (toldIn (a .known .now)) (a .list .now)) (0 ∷ []) (a .buf .now) (a .at)
+    (a .at + c .before .before .before .before .before .before .before .before .before .data-size .result) (omega arith) (omega arith))
 
 pub lay-data-spec : {M : Type 1} → statement M
-lay-data-spec = tie.close (tie.spec (λ c κs. search needs) (λ c. search needs) (λ c κs. search needs) (λ c. search needs) (λ c κs. search needs) (λ c. search needs) returns)
+lay-data-spec =
+    tie.close (tie.spec (λ c κs. search needs) (λ c. search needs) (λ c κs. search needs) (λ c. search needs) (λ c κs. search needs)
+    (λ c. search needs) returns)

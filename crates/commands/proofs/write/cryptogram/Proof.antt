@@ -17,8 +17,12 @@ use native.Mathlib.Omega.{arith}
 use Rattle.commands.proofs.write.cryptogram.Statement.{statement}
 use Rattle.commands.proofs.write.cryptogram.Tie as tie
 
-counted : (c : tie.After-data-size) → length (filling (readingOf (c .before .before .before .before .before .args .start .now)) (toldIn (c .before .before .before .before .before .args .known .now)) (c .before .before .before .before .before .args .list .now)) ≡ c .data-size .result
-counted c = data-length (readingOf (c .before .before .before .before .before .args .start .now)) (toldIn (c .before .before .before .before .before .args .known .now)) (c .before .before .before .before .before .args .list .now) ∙ sym (c .data-size .ensures .0)
+counted : (c : tie.After-data-size)
+    → length (filling (readingOf (c .before .before .before .before .before .args .start .now)) (toldIn (c .before .before .before .before .before .args .known .now)) (c .before .before .before .before .before .args .list .now)) ≡ c .data-size .result
+counted c =
+    data-length (readingOf (c .before .before .before .before .before .args .start .now))
+    (toldIn (c .before .before .before .before .before .args .known .now))
+    (c .before .before .before .before .before .args .list .now) ∙ sym (c .data-size .ensures .0)
 
 module _ (request : ℕ) (d buf out : List ℕ) where
   bare-written : length d ≡ 0 → 5 ≤ length buf → out ≡ laid (0x80 ∷ 0xAE ∷ request ∷ 0 ∷ 0 ∷ []) 0 buf
@@ -42,7 +46,8 @@ module _ (request : ℕ) (d buf out : List ℕ) where
         (o
         ∙ (two-pieces (0x80 ∷ 0xAE ∷ request ∷ 0 ∷ n ∷ []) (d ++ (0 ∷ [])) buf 5 refl (omega arith)
         ∙ ap (λ (c : List ℕ). put c 0 buf)
-        (ap (λ (k : ℕ). (0x80 ∷ 0xAE ∷ request ∷ 0 ∷ k ∷ []) ++ (d ++ (0 ∷ []))) (sym e) ∙ sym (cryptogram-filled d request (λ z. some-data (sym e ∙ z))))))
+        (ap (λ (k : ℕ). (0x80 ∷ 0xAE ∷ request ∷ 0 ∷ k ∷ []) ++ (d ++ (0 ∷ []))) (sym e)
+        ∙ sym (cryptogram-filled d request (λ z. some-data (sym e ∙ z))))))
 
 returns : tie.Need-returns
 returns c =
@@ -55,22 +60,36 @@ returns c =
 returns-2 : tie.Need-returns-2
 returns-2 c =
     let a = c .before .before .before .before .before .before .before .before .before .before .before .before .args in
-    bare-written (a .request) (filling (readingOf (a .start .now)) (toldIn (a .known .now)) (a .list .now)) (a .buf .now) (c .before .before .lay .last .0)
-    (counted (c .before .before .before .before .before .before .before) ∙ c .before .before .before .before .before .before .if1 .taken) (c .before .before .before .before .before .if2 .left) (c .before .before .lay .ensures)
+    bare-written (a .request) (filling (readingOf (a .start .now)) (toldIn (a .known .now)) (a .list .now)) (a .buf .now)
+    (c .before .before .lay .last .0)
+    (counted (c .before .before .before .before .before .before .before)
+    ∙ c .before .before .before .before .before .before .if1 .taken) (c .before .before .before .before .before .if2 .left)
+    (c .before .before .lay .ensures)
 
 returns-3 : tie.Need-returns-3
 returns-3 c =
     let a = c .before .before .before .before .before .before .before .args in
     let d = filling (readingOf (a .start .now)) (toldIn (a .known .now)) (a .list .now) in
-    let k = size (a .request) d (a .buf .now) [] (c .before .before .data-size .result) (counted (c .before .before)) (c .before .if1 .left) in
+    let k =
+    size (a .request) d (a .buf .now) [] (c .before .before .data-size .result) (counted (c .before .before)) (c .before .if1 .left) in
     unissued (cryptogramCommand (a .request) d) (a .buf .now) (omega arith)
 
 returns-4 : tie.Need-returns-4
 returns-4 c =
-    let a = c .before .before .before .before .before .before .before .before .before .before .before .before .before .before .before .before .args in
-    written (a .request) (filling (readingOf (a .start .now)) (toldIn (a .known .now)) (a .list .now)) (a .buf .now) (c .before .before .lay-data .last .1 .1 .1 .0)
-    (c .before .before .before .before .before .before .before .before .before .before .before .data-size .result) (counted (c .before .before .before .before .before .before .before .before .before .before .before)) (c .before .before .before .before .before .before .before .before .before .before .if1 .left) (c .before .before .before .before .before .before .before .before .before .if3 .left)
-    (c .before .before .lay-data .ensures ∙ ap (put (filling (readingOf (a .start .now)) (toldIn (a .known .now)) (a .list .now) ++ (0 ∷ [])) 5) (c .before .before .before .before .before .before .lay2 .ensures))
+    let a =
+    c .before .before .before .before .before .before .before .before .before .before .before .before .before .before .before .before .args in
+    written (a .request) (filling (readingOf (a .start .now)) (toldIn (a .known .now)) (a .list .now)) (a .buf .now)
+    (c .before .before .lay-data .last .1 .1 .1 .0)
+    (c .before .before .before .before .before .before .before .before .before .before .before .data-size .result)
+    (counted (c .before .before .before .before .before .before .before .before .before .before .before))
+    (c .before .before .before .before .before .before .before .before .before .before .if1 .left)
+    (c .before .before .before .before .before .before .before .before .before .if3 .left)
+    (c .before .before .lay-data .ensures
+    ∙ ap (put (filling (readingOf (a .start .now)) (toldIn (a .known .now)) (a .list .now) ++ (0 ∷ [])) 5)
+    (c .before .before .before .before .before .before .lay2 .ensures))
 
 pub cryptogram-spec : {M : Type 1} → statement M
-cryptogram-spec = tie.close (tie.spec (λ c κs. search needs) returns (λ c. search needs) (λ c κs. search needs) (λ c. search needs) returns-2 (λ c. search needs) returns-3 (λ c. search needs) (λ c. search needs) (λ c κs. search needs) (λ c κs. search needs) (λ c. search needs) (λ c. search needs) returns-4)
+cryptogram-spec =
+    tie.close (tie.spec (λ c κs. search needs) returns (λ c. search needs) (λ c κs. search needs) (λ c. search needs) returns-2
+    (λ c. search needs) returns-3 (λ c. search needs) (λ c. search needs) (λ c κs. search needs) (λ c κs. search needs)
+    (λ c. search needs) (λ c. search needs) returns-4)

@@ -18,8 +18,12 @@ use Rattle.commands.proofs.write.options.Statement.{statement}
 use Rattle.commands.proofs.write.options.Tie as tie
 
 -- the data is as long as was counted
-counted : (c : tie.After-data-size) → length (filling (readingOf (c .before .before .before .before .before .args .start .now)) (toldIn (c .before .before .before .before .before .args .known .now)) (c .before .before .before .before .before .args .list .now)) ≡ c .data-size .result
-counted c = data-length (readingOf (c .before .before .before .before .before .args .start .now)) (toldIn (c .before .before .before .before .before .args .known .now)) (c .before .before .before .before .before .args .list .now) ∙ sym (c .data-size .ensures .0)
+counted : (c : tie.After-data-size)
+    → length (filling (readingOf (c .before .before .before .before .before .args .start .now)) (toldIn (c .before .before .before .before .before .args .known .now)) (c .before .before .before .before .before .args .list .now)) ≡ c .data-size .result
+counted c =
+    data-length (readingOf (c .before .before .before .before .before .args .start .now))
+    (toldIn (c .before .before .before .before .before .args .known .now))
+    (c .before .before .before .before .before .args .list .now) ∙ sym (c .data-size .ensures .0)
 
 module _ (d buf out : List ℕ) (n : ℕ) (e : length d ≡ n) where
   small : n < 0x80 → length (optionsCommand d) ≡ n + 8
@@ -50,7 +54,8 @@ module _ (d buf out : List ℕ) (n : ℕ) (e : length d ≡ n) where
       (o
       ∙ (two-pieces (0x80 ∷ 0xA8 ∷ 0 ∷ 0 ∷ (n + 3) ∷ 0x83 ∷ 0x81 ∷ n ∷ []) (d ++ (0 ∷ [])) buf 8 refl (omega arith)
       ∙ ap (λ (c : List ℕ). put c 0 buf)
-      (ap (λ (k : ℕ). (0x80 ∷ 0xA8 ∷ 0 ∷ 0 ∷ (k + 3) ∷ 0x83 ∷ 0x81 ∷ k ∷ []) ++ (d ++ (0 ∷ []))) (sym e) ∙ sym (options-long d (omega arith) (omega arith)))))
+      (ap (λ (k : ℕ). (0x80 ∷ 0xA8 ∷ 0 ∷ 0 ∷ (k + 3) ∷ 0x83 ∷ 0x81 ∷ k ∷ []) ++ (d ++ (0 ∷ []))) (sym e)
+      ∙ sym (options-long d (omega arith) (omega arith)))))
 
 returns : tie.Need-returns
 returns c =
@@ -61,24 +66,45 @@ returns c =
 
 returns-2 : tie.Need-returns-2
 returns-2 c =
-    let a = c .before .before .before .before .before .before .before .before .before .before .before .before .before .before .before .before .args in
-    small-written (filling (readingOf (a .start .now)) (toldIn (a .known .now)) (a .list .now)) (a .buf .now) (c .before .before .lay-data .last .1 .1 .1 .0) (c .before .before .before .before .before .before .before .before .before .before .before .data-size .result) (counted (c .before .before .before .before .before .before .before .before .before .before .before))
-    (c .before .before .before .before .before .before .before .before .before .before .if1 .taken) (c .before .before .before .before .before .before .before .before .before .if2 .left)
-    (c .before .before .lay-data .ensures ∙ ap (put (filling (readingOf (a .start .now)) (toldIn (a .known .now)) (a .list .now) ++ (0 ∷ [])) 7) (c .before .before .before .before .before .before .lay .ensures))
+    let a =
+    c .before .before .before .before .before .before .before .before .before .before .before .before .before .before .before .before .args in
+    small-written (filling (readingOf (a .start .now)) (toldIn (a .known .now)) (a .list .now)) (a .buf .now)
+    (c .before .before .lay-data .last .1 .1 .1 .0)
+    (c .before .before .before .before .before .before .before .before .before .before .before .data-size .result)
+    (counted (c .before .before .before .before .before .before .before .before .before .before .before))
+    (c .before .before .before .before .before .before .before .before .before .before .if1 .taken)
+    (c .before .before .before .before .before .before .before .before .before .if2 .left)
+    (c .before .before .lay-data .ensures
+    ∙ ap (put (filling (readingOf (a .start .now)) (toldIn (a .known .now)) (a .list .now) ++ (0 ∷ [])) 7)
+    (c .before .before .before .before .before .before .lay .ensures))
 
 returns-3 : tie.Need-returns-3
 returns-3 c =
     let a = c .before .before .before .before .before .before .before .args in
     let d = filling (readingOf (a .start .now)) (toldIn (a .known .now)) (a .list .now) in
-    let size = large d (a .buf .now) [] (c .before .before .data-size .result) (counted (c .before .before)) (c .before .if1 .left) (c .before .before .data-size .ensures .1) in
+    let size =
+    large d (a .buf .now) [] (c .before .before .data-size .result) (counted (c .before .before)) (c .before .if1 .left)
+    (c .before .before .data-size .ensures .1) in
     unissued (optionsCommand d) (a .buf .now) (omega arith)
 
 returns-4 : tie.Need-returns-4
 returns-4 c =
-    let a = c .before .before .before .before .before .before .before .before .before .before .before .before .before .before .before .before .args in
-    large-written (filling (readingOf (a .start .now)) (toldIn (a .known .now)) (a .list .now)) (a .buf .now) (c .before .before .lay-data2 .last .1 .1 .1 .0) (c .before .before .before .before .before .before .before .before .before .before .before .data-size .result) (counted (c .before .before .before .before .before .before .before .before .before .before .before))
-    (c .before .before .before .before .before .before .before .before .before .before .if1 .left) (c .before .before .before .before .before .before .before .before .before .before .before .data-size .ensures .1) (c .before .before .before .before .before .before .before .before .before .if3 .left)
-    (c .before .before .lay-data2 .ensures ∙ ap (put (filling (readingOf (a .start .now)) (toldIn (a .known .now)) (a .list .now) ++ (0 ∷ [])) 8) (c .before .before .before .before .before .before .lay2 .ensures))
+    let a =
+    c .before .before .before .before .before .before .before .before .before .before .before .before .before .before .before .before .args in
+    large-written (filling (readingOf (a .start .now)) (toldIn (a .known .now)) (a .list .now)) (a .buf .now)
+    (c .before .before .lay-data2 .last .1 .1 .1 .0)
+    (c .before .before .before .before .before .before .before .before .before .before .before .data-size .result)
+    (counted (c .before .before .before .before .before .before .before .before .before .before .before))
+    (c .before .before .before .before .before .before .before .before .before .before .if1 .left)
+    (c .before .before .before .before .before .before .before .before .before .before .before .data-size .ensures .1)
+    (c .before .before .before .before .before .before .before .before .before .if3 .left)
+    (c .before .before .lay-data2 .ensures
+    ∙ ap (put (filling (readingOf (a .start .now)) (toldIn (a .known .now)) (a .list .now) ++ (0 ∷ [])) 8)
+    (c .before .before .before .before .before .before .lay2 .ensures))
 
 pub options-spec : {M : Type 1} → statement M
-options-spec = tie.close (tie.spec (λ c κs. search needs) (λ c. search needs) returns (λ c. search needs) (λ c. search needs) (λ c. search needs) (λ c. search needs) (λ c κs. search needs) (λ c κs. search needs) (λ c. search needs) (λ c. search needs) returns-2 (λ c. search needs) returns-3 (λ c. search needs) (λ c. search needs) (λ c. search needs) (λ c. search needs) (λ c κs. search needs) (λ c κs. search needs) (λ c. search needs) (λ c. search needs) returns-4)
+options-spec =
+    tie.close (tie.spec (λ c κs. search needs) (λ c. search needs) returns (λ c. search needs) (λ c. search needs) (λ c. search needs)
+    (λ c. search needs) (λ c κs. search needs) (λ c κs. search needs) (λ c. search needs) (λ c. search needs) returns-2
+    (λ c. search needs) returns-3 (λ c. search needs) (λ c. search needs) (λ c. search needs) (λ c. search needs)
+    (λ c κs. search needs) (λ c κs. search needs) (λ c. search needs) (λ c. search needs) returns-4)

@@ -27,4 +27,6 @@ returns-2 c =
     (c .before .before .lay .ensures ∙ laid-fits (recordCommand (a .number) (a .file)) 0 (a .buf .now) (omega arith))
 
 pub record-spec : {M : Type 1} → statement M
-record-spec = tie.close (tie.spec returns (λ c. search needs) (λ c. search needs) (λ c. search needs) (λ c. search needs) (λ c κs. search needs) (λ c. search needs) returns-2)
+record-spec =
+    tie.close (tie.spec returns (λ c. search needs) (λ c. search needs) (λ c. search needs) (λ c. search needs) (λ c κs. search needs)
+    (λ c. search needs) returns-2)

@@ -49,14 +49,25 @@ module _ (name buf out : List ℕ) (n : ℕ) (e : length name ≡ n) where
 
 returns-2 : tie.Need-returns-2
 returns-2 c =
-    let a = c .before .before .before .before .before .before .before .before .before .before .before .before .before .before .before .before .before .before .args in
-    let name = c .before .before .before .before .before .before .before .before .before .before .before .before .before .before .before .aid in
+    let a =
+    c .before .before .before .before .before .before .before .before .before .before .before .before .before .before .before .before .before .before .args in
+    let name =
+    c .before .before .before .before .before .before .before .before .before .before .before .before .before .before .before .aid in
     let text = name .result .now in
     let same = name .ensures in
-    let done = written text (a .buf .now) (c .before .before .lay3 .last .0) (length text) refl (c .before .before .before .before .before .before .before .before .before .before .before .before .before .before .if1 .left)
+    let done =
+    written text (a .buf .now) (c .before .before .lay3 .last .0) (length text) refl
+    (c .before .before .before .before .before .before .before .before .before .before .before .before .before .before .if1 .left)
     (c .before .before .lay3 .ensures
-    ∙ ap (laid (0 ∷ []) (5 + length text)) (c .before .before .before .before .before .before .before .lay2 .ensures ∙ ap (laid text 5) (c .before .before .before .before .before .before .before .before .before .before .before .lay .ensures))) in
-    (done .0 ∙ ap (λ (x : List ℕ). sizeIn (length (a .buf .now)) (selectCommand x)) same, done .1 ∙ ap (λ (x : List ℕ). laid (selectCommand x) 0 (a .buf .now)) same)
+    ∙ ap (laid (0 ∷ []) (5 + length text))
+    (c .before .before .before .before .before .before .before .lay2 .ensures
+    ∙ ap (laid text 5) (c .before .before .before .before .before .before .before .before .before .before .before .lay .ensures))) in (
+      done .0 ∙ ap (λ (x : List ℕ). sizeIn (length (a .buf .now)) (selectCommand x)) same,
+      done .1
+          ∙ ap (λ (x : List ℕ). laid (selectCommand x) 0 (a .buf .now)) same,
+    )
 
 pub select-spec : {M : Type 1} → statement M
-select-spec = tie.close (tie.spec (λ c κs. search needs) (λ c. search needs) returns cast-t10 (λ c. search needs) (λ c κs. search needs) (λ c κs. search needs) (λ c. search needs) (λ c. search needs) (λ c κs. search needs) (λ c. search needs) (λ c. search needs) returns-2)
+select-spec =
+    tie.close (tie.spec (λ c κs. search needs) (λ c. search needs) returns cast-t10 (λ c. search needs) (λ c κs. search needs)
+    (λ c κs. search needs) (λ c. search needs) (λ c. search needs) (λ c κs. search needs) (λ c. search needs) (λ c. search needs) returns-2)

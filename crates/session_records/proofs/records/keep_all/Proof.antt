@@ -28,7 +28,8 @@ module _ (s d : List ℕ) (p : ℕ) where
   unfolding keptPlaces keptObjects follow
   broken e = found Broken e
 
-  further : (t start end : ℕ) → nextAt s p ≡ Member t start end → keptPlaces s (placesFrom s p) d ≡ keptPlaces s (placesFrom s end) (keptTold t (between s start end) d)
+  further : (t start end : ℕ) → nextAt s p ≡ Member t start end
+      → keptPlaces s (placesFrom s p) d ≡ keptPlaces s (placesFrom s end) (keptTold t (between s start end) d)
   unfolding keptPlaces keptObjects follow objectAt
   further t start end e = found (Member t start end) e
 
@@ -94,7 +95,8 @@ loop-again c =
     let g = k .tag .given in
     let v = c .before .before .before .value in (
       omega (arith, c .before .before .keep-told .kept),
-      ap (keptPlaces s (placesFrom s (g .0 .1 .1 .0))) (c .before .before .keep-told .ensures ∙ ap (λ x. keptTold (g .0 .0) x (l .d)) (v .ensures))
+      ap (keptPlaces s (placesFrom s (g .0 .1 .1 .0)))
+          (c .before .before .keep-told .ensures ∙ ap (λ x. keptTold (g .0 .0) x (l .d)) (v .ensures))
           ∙ (sym (further s (l .d) (l .p) (g .0 .0) (g .0 .1 .0) (g .0 .1 .1 .0) (sym (k .before .before .next .ensures) ∙ g .1))
           ∙ l .inv .1),
     )

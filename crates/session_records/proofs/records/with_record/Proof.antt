@@ -22,7 +22,8 @@ returns c =
     ap (λ b. record { bytes = b })
     (c .before .keep-all .ensures
     ∙ (ap (λ s. keptPlaces s (placesFrom s 0) (a .store .bytes)) (c .before .before .inside .ensures)
-    ∙ ap (keptPlaces (inside recordTag (a .answer .now)) (placesFrom (inside recordTag (a .answer .now)) 0)) (sym (full-all (a .store .bytes) z))))
+    ∙ ap (keptPlaces (inside recordTag (a .answer .now)) (placesFrom (inside recordTag (a .answer .now)) 0))
+    (sym (full-all (a .store .bytes) z))))
 
 pub with-record-spec : {M : Type 1} → statement M
 with-record-spec = tie.close (tie.spec (λ c. search needs) (λ c κs. search needs) (λ c κs. search needs) returns)

@@ -11,7 +11,9 @@ use Rattle.session_records.proofs.runs.keep.Tie as tie
 
 returns : tie.Need-returns
 unfolding keptRun zeros
-returns c = let s = c .before .before .before .before .args .s .now in ap (λ b. record { bytes = b; len = length s; there = true }) (c .before .lay .ensures)
+returns c =
+    let s = c .before .before .before .before .args .s .now in
+    ap (λ b. record { bytes = b; len = length s; there = true }) (c .before .lay .ensures)
 
 pub keep-spec : {M : Type 1} → statement M
 keep-spec = tie.close (tie.spec (λ c. search needs) (λ c κs. search needs) returns)

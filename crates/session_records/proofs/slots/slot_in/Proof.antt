@@ -26,7 +26,9 @@ module _ (names : List ℕ) (tag at i : ℕ) (h : i < length names) where
 
   one : total (roomsOf (drop i names)) ≡ room (ruleFor name) + 1 + total (roomsOf (drop (i + 1) names))
   unfolding total
-  one = ap (λ l. total (roomsOf l)) (drop-cons names i 0 h) ∙ ap (λ (k : ℕ). room (ruleFor name) + 1 + total (roomsOf (drop k names))) (sym (add-one i))
+  one =
+      ap (λ l. total (roomsOf l)) (drop-cons names i 0 h)
+      ∙ ap (λ (k : ℕ). room (ruleFor name) + 1 + total (roomsOf (drop k names))) (sym (add-one i))
 
   here : name ≡ tag → from tag at (drop i names) ≡ record { at = at; size = room (ruleFor name) + 1 }
   unfolding placed beside
@@ -55,7 +57,9 @@ loop-holds c = (omega (arith, c .before .pre), refl)
 add-size : tie.Need-add-size Inv-loop μ-loop
 add-size c =
     let l = c .before .before .before .loop in
-    let z = one (c .before .before .before .before .before .args .names .now) (c .before .before .before .before .before .args .tag) (l .at) (l .i) (omega arith) in
+    let z =
+    one (c .before .before .before .before .before .args .names .now) (c .before .before .before .before .before .args .tag) (l .at)
+    (l .i) (omega arith) in
     omega (arith, z, l .inv .0, c .room .ensures)
 
 returns : tie.Need-returns Inv-loop μ-loop

@@ -27,7 +27,9 @@ slot-of-spec =
     let tag = c .before .before .args .tag in
     let r = c .before .match .rest in (
       e .0
-          ∙ sym (pick-no _ _ _ (ne-eqb tag 0x95 (r .0 .0 .0 .1)) ∙ (pick-no _ _ _ (ne-eqb tag 0x9B (r .0 .0 .1)) ∙ (pick-no _ _ _ (ne-eqb tag 0x8A (r .0 .1)) ∙ pick-no _ _ _ (ne-eqb tag 0x82 (r .1))))),
+          ∙ sym (pick-no _ _ _ (ne-eqb tag 0x95 (r .0 .0 .0 .1))
+          ∙ (pick-no _ _ _ (ne-eqb tag 0x9B (r .0 .0 .1))
+          ∙ (pick-no _ _ _ (ne-eqb tag 0x8A (r .0 .1)) ∙ pick-no _ _ _ (ne-eqb tag 0x82 (r .1))))),
       e .1,
       e .2,
     )))

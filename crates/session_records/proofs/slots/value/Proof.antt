@@ -17,7 +17,8 @@ returns c =
     let e = c .before .before .before .cell in
     let b = c .before .before .byte .ensures .0 in
     c .part .ensures
-    ∙ sym (ap (λ l. Option·getD (read l) []) (sym (e .ensures)) ∙ ap (λ o. Option·getD o []) (read-none (e .result .now) (sym b ∙ c .before .if1 .taken)))
+    ∙ sym (ap (λ l. Option·getD (read l) []) (sym (e .ensures))
+    ∙ ap (λ o. Option·getD o []) (read-none (e .result .now) (sym b ∙ c .before .if1 .taken)))
 
 returns-2 : tie.Need-returns-2
 unfolding toldIn
@@ -26,7 +27,10 @@ returns-2 c =
     let b = c .before .before .byte .ensures .0 in
     c .part2 .ensures
     ∙ (ap (λ (n : ℕ). take (n - 1) (drop 1 (e .result .now))) b
-    ∙ sym (ap (λ l. Option·getD (read l) []) (sym (e .ensures)) ∙ ap (λ o. Option·getD o []) (read-some (e .result .now) (λ z. c .before .if1 .left (b ∙ z)))))
+    ∙ sym (ap (λ l. Option·getD (read l) []) (sym (e .ensures))
+    ∙ ap (λ o. Option·getD o []) (read-some (e .result .now) (λ z. c .before .if1 .left (b ∙ z)))))
 
 pub value-spec : {M : Type 1} → statement M
-value-spec = tie.close (tie.spec (λ c κs. search needs) (λ c κs. search needs) (λ c κs. search needs) returns (λ c. search needs) (λ c κs. search needs) returns-2)
+value-spec =
+    tie.close (tie.spec (λ c κs. search needs) (λ c κs. search needs) (λ c κs. search needs) returns (λ c. search needs)
+    (λ c κs. search needs) returns-2)
