@@ -17,7 +17,8 @@ use Rattle.rulebook.specs.Session.{Session, Beginning, AwaitsCard, Close
 use Rattle.rulebook.specs.Machine.{at, run}
 use Rattle.rulebook.proofs.Reading.{not-both, not-begun}
 use Rattle.rulebook.proofs.Sorting.{run-beginning}
-use Rattle.rulebook.proofs.Trichotomy.{snoc-same, Last, no-entry, last, last-of, Sort, finished, unfinished, neither, sorted}
+use Rattle.rulebook.proofs.Trichotomy.{snoc-same, Last, no-entry, last, last-of, sorted}
+use Rattle.rulebook.specs.Stated.{Sort, finished, unfinished, neither}
 use Rattle.rulebook.proofs.Ends.{finishes}
 
 -- ---- what comes before the last entry

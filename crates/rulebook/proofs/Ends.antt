@@ -9,13 +9,10 @@ use native.Mathlib.Omega.{arith}
 use Rattle.tape_read.specs.Entries.{Entry, entry, command, answer, decision}
 use Rattle.rulebook.specs.Phase.{Phase, asks, hears, decides, commandOf, dueKind, decisionOf}
 use Rattle.rulebook.specs.Turn.{turn, after}
+use Rattle.rulebook.specs.Stated.{Finished}
 use Rattle.rulebook.specs.Session.{isPayload, Plays, exchanged, heard, decided}
 use Rattle.rulebook.proofs.Said.{can-say}
 use Rattle.rulebook.proofs.Bound.{toCome, some-come, turn-fewer, after-fewer}
-
--- what leads from a phase to the end
-abbrev pub Finished : Phase → Type 0
-Finished p = (es : List Entry) × Plays p es
 
 no-bytes : isPayload [] ≡ true
 unfolding isPayload

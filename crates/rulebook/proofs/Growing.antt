@@ -30,17 +30,13 @@ use Rattle.rulebook.specs.Phase.{decides, situationOf, decided, ended, t
 use Rattle.rulebook.specs.Turn.{goesOn, opened, selected, managed, requested, allRead, readOn, withProfile, optioned, withRecord}
 use Rattle.rulebook.specs.Turn.{recorded, answered, replied, online, byFirst, firstAllows, secondAllows, firstAnswered}
 use Rattle.rulebook.specs.Turn.{secondAnswered, turn, heard as issuerHeard, after}
+use Rattle.rulebook.specs.Stated.{Grows, Growing, alone, onward}
 use Rattle.rulebook.specs.Session.{Plays, exchanged, heard, decided as settled, phasesOf, Reads}
 
 -- every bit that is set in a situation is set in a phase
 pub record Reaches (s : Situation) (q : Phase) : Type 0 where
   pub tvr : joined (s .tvr) (tvrOf q) ≡ tvrOf q
   pub tsi : joined (s .tsi) (tsiOf q) ≡ tsiOf q
-
--- and from a phase to another
-pub record Grows (p q : Phase) : Type 0 where
-  pub tvr : joined (tvrOf p) (tvrOf q) ≡ tvrOf q
-  pub tsi : joined (tsiOf p) (tsiOf q) ≡ tsiOf q
 
 asks-kept : (w : Asked) → Reaches (situationOf w) (asks w)
 unfolding tvrOf tsiOf
@@ -138,11 +134,6 @@ after-grows (issuer s) p = heard-grows s _ p
 
 stays : (p : Phase) → Grows p p
 stays p = record { tvr = joined-self (tvrOf p); tsi = joined-self (tsiOf p) }
-
--- phases in a row, no bit cleared from one to the next
-pub data Growing : List Phase → Type 0 where
-  alone : {p : Phase} → Growing (p ∷ [])
-  onward : {p q : Phase} {ps : List Phase} → Grows p q → Growing (q ∷ ps) → Growing (p ∷ q ∷ ps)
 
 -- a play passes first the phase that it starts from
 starts : {p : Phase} {es : List Entry} (play : Plays p es) → (qs : List Phase) × (phasesOf play ≡ p ∷ qs)

@@ -18,7 +18,8 @@ use Rattle.rulebook.proofs.Said.{other-kinds}
 use Rattle.rulebook.specs.Machine.{Machine, at, owes, done, due, next, run}
 use Rattle.rulebook.proofs.Running.{due-entry, due-test, chosen, taken, no-state, session-run}
 use Rattle.rulebook.proofs.Reading.{run-append}
-use Rattle.rulebook.proofs.Trichotomy.{Sort, finished, unfinished, neither, sorted, one-sort}
+use Rattle.rulebook.proofs.Trichotomy.{sorted, one-sort}
+use Rattle.rulebook.specs.Stated.{Sort, finished, unfinished, neither}
 use Rattle.rulebook.proofs.Ends.{finishes}
 use Rattle.rulebook.proofs.Breaks.{one-break, break-unlawful, break-found}
 

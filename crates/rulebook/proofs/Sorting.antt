@@ -10,7 +10,7 @@ use Rattle.tape_read.specs.Entries.{Entry, entry, command, answer}
 use Rattle.rulebook.specs.Phase.{Asked, Phase, opens, asks, commandOf}
 use Rattle.rulebook.specs.Turn.{turn}
 use Rattle.rulebook.specs.Session.{isPayload, Session, Beginning, AwaitsCard}
-use Rattle.rulebook.proofs.Ends.{Finished}
+use Rattle.rulebook.specs.Stated.{Finished}
 use Rattle.slices.specs.Tests.{alike}
 use Rattle.rulebook.specs.Machine.{Machine, at, owes, done, due, next, andOn, run}
 use Rattle.rulebook.proofs.Running.{Follows, Led, chosen, at-end, due-entry, no-play, follows-from, step-back, run-session}

@@ -10,10 +10,11 @@ use lib.ListN.{length}
 use Rattle.tape_read.specs.Entries.{Entry}
 use Rattle.rulebook.specs.Phase.{Phase, opens}
 use Rattle.rulebook.specs.Session.{longest, Session, Beginning, Open, Lawful, BreaksAt, Reads}
+use Rattle.rulebook.specs.Stated.{Finished, Sort, Growing}
 use Rattle.rulebook.proofs.Single.{prefix-free, reads-once, session-reads, beginning-reads, reads-lawful}
-use Rattle.rulebook.proofs.Growing.{Growing, reading-grows}
-use Rattle.rulebook.proofs.Trichotomy.{Sort, sorted, one-sort}
-use Rattle.rulebook.proofs.Ends.{Finished, finishes}
+use Rattle.rulebook.proofs.Growing.{reading-grows}
+use Rattle.rulebook.proofs.Trichotomy.{sorted, one-sort}
+use Rattle.rulebook.proofs.Ends.{finishes}
 use Rattle.rulebook.proofs.Breaks.{one-break, break-unlawful, break-found}
 use Rattle.rulebook.proofs.Bound.{session-bound}
 use Rattle.rulebook.proofs.Longest.{fullest, bound-reached}

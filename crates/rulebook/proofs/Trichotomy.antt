@@ -12,7 +12,7 @@ use Rattle.slices.proofs.Choice.{either}
 use Rattle.tape_read.specs.Entries.{Entry, entry, silence}
 use Rattle.rulebook.specs.Phase.{Asked, Phase, opens}
 use Rattle.rulebook.specs.Session.{Session, Beginning, Closed, Open}
-use Rattle.rulebook.proofs.Ends.{Finished}
+use Rattle.rulebook.specs.Stated.{Finished, Sort, finished, unfinished, neither}
 use Rattle.rulebook.specs.Machine.{Machine, at, owes, done, run}
 use Rattle.rulebook.proofs.Running.{no-state, session-run, run-session}
 use Rattle.rulebook.proofs.Reading.{beginning-run, awaits-run, not-both, not-closed}
@@ -48,11 +48,6 @@ one-more x es (last before y e) = last (x ∷ before) y (ap (λ (l : List Entry)
 pub last-of : (es : List Entry) → Last es
 last-of [] = no-entry refl
 last-of (x ∷ es) = one-more x es (last-of es)
-
-pub data Sort (es : List Entry) : Type 0 where
-  finished : Session es → Sort es
-  unfinished : Open es → Sort es
-  neither : (Session es → ⊥) → (Open es → ⊥) → Sort es
 
 module _ (finish : (p : Phase) → Finished p) (es : List Entry) where
   -- where the machine stopped, only a closing silence leaves the list open

@@ -3,5 +3,6 @@ pub mod Situation
 pub mod Phase
 pub mod Turn
 pub mod Session
+pub mod Stated
 pub mod Machine
 pub mod Roles

@@ -9,7 +9,8 @@ use lib.ListN.{length}
 use Rattle.tape_read.specs.Entries.{Entry}
 use Rattle.tape_read.specs.Tapes.{Reading, entries, unreadable, readTape}
 use Rattle.rulebook.specs.Session.{Lawful}
-use Rattle.rulebook.proofs.Trichotomy.{Sort, finished, unfinished, neither, sorted}
+use Rattle.rulebook.specs.Stated.{Sort, finished, unfinished, neither}
+use Rattle.rulebook.proofs.Trichotomy.{sorted}
 use Rattle.rulebook.proofs.Ends.{finishes}
 use Rattle.rulebook.proofs.Breaks.{break-found}
 use Rattle.rulebook.specs.Roles.{Verdict, pass, inconclusive, fail}
