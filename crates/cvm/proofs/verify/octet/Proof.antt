@@ -1,0 +1,12 @@
+-- `verify::octet` meets its contract: past the end the default. Assumes nothing.
+use mathlib.Core.Path.{sym}
+use borrow.Author.Needs.{needs}
+use lib.ListN.{List·getD-eq-default}
+use Rattle.cvm.proofs.verify.octet.Statement.{statement}
+use Rattle.cvm.proofs.verify.octet.Tie as tie
+
+returns-2 : tie.Need-returns-2
+returns-2 c = sym (List·getD-eq-default (c .before .args .s .now) 0 (c .if1 .left))
+
+pub octet-spec : {M : Type 1} → statement M
+octet-spec = tie.close (tie.spec (λ c. search needs) (λ c. search needs) returns-2)
