@@ -1,0 +1,2 @@
+-- What the laws of cardholder verification are stated with.
+pub mod Tries

@@ -1,0 +1,1 @@
+// Cardholder verification has definitions and laws here: see specs/ and proofs/.
