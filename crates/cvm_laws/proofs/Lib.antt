@@ -1,3 +1,4 @@
+pub mod EachTry
 pub mod Growing
 pub mod OneRule
 pub mod Untried
