@@ -146,7 +146,7 @@ mod tests {
     fn option_lines() {
         assert_eq!(asked("GPO 80060800080103019000"), "0 0800 010C 020C 030C");
         assert_eq!(asked("GPO 80060800080001009000"), "6");
-        assert_eq!(asked("GPO 8006080008013B009000"), "7");
+        assert_eq!(asked("GPO 800A08000801FF001001F6009000"), "7");
     }
 
     #[test]

@@ -20,7 +20,8 @@ pub const MISSING: Reason = 8;
 pub const BAD_LIST: Reason = 9;
 pub const NOT_ALLOWED: Reason = 10;
 
-pub const MOST_RECORDS: usize = 58;
+/// 02, R-8; 58 in 01.
+pub const MOST_RECORDS: usize = 500;
 const LONGEST_ANSWER: usize = 258;
 
 /// All of the answer that stands before the status.
@@ -244,10 +245,12 @@ mod tests {
 
     #[test]
     fn cases_h_i_the_most_records() {
+        // 02, R-8: 59 are no longer too many, 501 are.
         assert_eq!(afl("08013A00"), Ok(58));
-        assert_eq!(afl("08013B00"), Err(7));
-        assert_eq!(afl("08011D00 10011D00"), Ok(58));
-        assert_eq!(afl("08011D00 10011E00"), Err(7));
+        assert_eq!(afl("08013B00"), Ok(59));
+        assert_eq!(afl("0801FF00 1001F500"), Ok(500));
+        assert_eq!(afl("0801FF00 1001F600"), Err(7));
+        assert_eq!(afl("0801FF00 1001F600 08000100"), Err(6));
     }
 
     #[test]
@@ -273,7 +276,7 @@ mod tests {
             assert_eq!(afl(bad), Err(6), "{bad}");
         }
         assert_eq!(afl("50FFFF01"), Ok(1));
-        assert_eq!(afl("0801FFFF"), Err(7));
+        assert_eq!(afl("0801FFFF"), Ok(255));
         assert_eq!(afl("08010101 08010101"), Ok(2));
     }
 
@@ -300,7 +303,8 @@ mod tests {
         assert_eq!(options("77 0E 82020000 82020000 9404 08010100 9000"), Err(4));
         assert_eq!(options("77 09 820100 9404 08000100 9000"), Err(5));
         assert_eq!(options("77 06 9404 08000100 9000"), Err(6));
-        assert_eq!(options("77 06 9404 08013B00 9000"), Err(7));
+        assert_eq!(options("77 0A 9408 0801FF00 0801F600 9000"), Err(7));
+        assert_eq!(options("77 06 9404 08013B00 9000"), Err(8));
         assert_eq!(options("77 06 9404 08010100 9000"), Err(8));
         assert_eq!(options("77 04 82020000 9000"), Err(8));
         assert_eq!(options("77 06 82020000 9400 9000"), Err(5));

@@ -1,7 +1,8 @@
 //! The subcommands that work on files and lines.
 
+use crate::feed::UnderWay;
 use crate::hex;
-use crate::judge::{judge, Judgement};
+use crate::judge::Judgement;
 use crate::kernel::{Event, Reply, Session, LONGEST_COMMAND};
 use crate::lists::{fill, Known};
 use crate::objects;
@@ -19,11 +20,32 @@ fn failed(what: &str) -> impl Fn(io::Error) -> String + '_ {
     move |error| format!("{what}: {error}")
 }
 
-/// Judges without taking in more than is needed to see that it is too much.
+/// Fills a block from the source, as far as there are bytes.
+fn read_block(source: &mut impl Read, block: &mut [u8; BLOCK]) -> io::Result<usize> {
+    let mut filled = 0;
+    while filled < BLOCK {
+        match source.read(&mut block[filled..]) {
+            Ok(0) => break,
+            Ok(count) => filled += count,
+            Err(error) if error.kind() == io::ErrorKind::Interrupted => (),
+            Err(error) => return Err(error),
+        }
+    }
+    Ok(filled)
+}
+
+/// Judges block by block, and no further than to see that it is too much.
 fn judge_from(source: impl Read) -> io::Result<Judgement> {
-    let mut bytes = Vec::new();
-    source.take((MOST_BLOCKS * BLOCK + 1) as u64).read_to_end(&mut bytes)?;
-    Ok(judge(&bytes))
+    let mut source = io::BufReader::new(source);
+    let mut under_way = UnderWay::begin();
+    let mut block = [0; BLOCK];
+    loop {
+        let size = read_block(&mut source, &mut block)?;
+        if size < BLOCK || under_way.is_too_long() {
+            return Ok(under_way.end(size % BLOCK));
+        }
+        under_way = under_way.feed(&block);
+    }
 }
 
 pub fn judge_tapes(files: &[String]) -> Outcome {

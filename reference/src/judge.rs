@@ -45,7 +45,9 @@ impl fmt::Display for Judgement {
 }
 
 /// What may stand next on the tape.
+#[derive(Default)]
 enum Next {
+    #[default]
     Start,
     /// Exactly this command.
     Command(Vec<u8>),
@@ -62,12 +64,37 @@ enum Next {
 
 /// Follows a tape with a kernel of its own: what came from outside is fed to
 /// it, what came from the terminal is held against it.
-struct Follower {
+#[derive(Default)]
+pub struct Follower {
     session: Session,
     next: Next,
 }
 
 impl Follower {
+    /// Whether the entry is one that may stand next. One that may not leaves
+    /// all as it was.
+    pub fn follow(&mut self, entry: Entry) -> bool {
+        match self.after(entry) {
+            Some(next) => {
+                self.next = next;
+                true
+            }
+            None => false,
+        }
+    }
+
+    /// The verdict where a tape ends that broke no rule.
+    pub fn verdict_at_end(&self, entries: usize) -> Verdict {
+        match self.next {
+            Next::Finished => Verdict::Pass(entries),
+            _ => Verdict::Inconclusive(entries),
+        }
+    }
+
+    pub fn judgement(&self, verdict: Verdict) -> Judgement {
+        Judgement { verdict, unsupplied: self.session.unsupplied() }
+    }
+
     /// What stands next after the entry, or nothing if it breaks the rules.
     fn after(&mut self, entry: Entry) -> Option<Next> {
         match (&self.next, entry.kind) {
@@ -104,23 +131,13 @@ pub fn judge(bytes: &[u8]) -> Judgement {
 
 /// The judgement on the entries of a readable tape.
 fn follow(entries: &[Entry]) -> Judgement {
-    let mut follower = Follower { session: Session::default(), next: Next::Start };
-    let mut verdict = None;
-    for (index, &entry) in entries.iter().enumerate() {
-        match follower.after(entry) {
-            Some(next) => follower.next = next,
-            None => {
-                verdict = Some(Verdict::Fail(index));
-                break;
-            }
-        }
-    }
-    let verdict = verdict.unwrap_or(match follower.next {
-        Next::Finished => Verdict::Pass(entries.len()),
-        _ => Verdict::Inconclusive(entries.len()),
-    });
-    // An entry that breaks the rules has left the session as it was.
-    Judgement { verdict, unsupplied: follower.session.unsupplied() }
+    let mut follower = Follower::default();
+    let broken = entries.iter().position(|&entry| !follower.follow(entry));
+    let verdict = match broken {
+        Some(index) => Verdict::Fail(index),
+        None => follower.verdict_at_end(entries.len()),
+    };
+    follower.judgement(verdict)
 }
 
 #[cfg(test)]

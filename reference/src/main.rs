@@ -5,6 +5,7 @@ mod answers;
 mod calls;
 mod commands;
 mod decide;
+mod feed;
 mod hex;
 mod json;
 mod judge;

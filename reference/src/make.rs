@@ -7,6 +7,7 @@ mod damage;
 mod endings;
 mod exchanges;
 mod faults;
+mod long;
 mod nodes;
 mod plan;
 mod resets;
@@ -91,6 +92,7 @@ pub fn make(folder: &Path, count: usize, seed: u64, list: Option<&Path>) -> io::
 #[cfg(test)]
 mod tests {
     use super::*;
+    use crate::feed::tests::judge_fed;
 
     /// The reason byte a played session ends with.
     fn reason(items: &[Item]) -> u8 {
@@ -114,8 +116,10 @@ mod tests {
         for index in 0..600 {
             let mut r = Random::nth(3, index);
             let items = play(&by_chance(&mut r).plan, &mut r);
-            assert!(items.len() <= 127);
-            for count in 0..=items.len() {
+            assert!(items.len() <= 1011);
+            // Of the long ones some beginnings will do.
+            let step = 1 + items.len() / 100;
+            for count in (0..items.len()).step_by(step).chain([items.len()]) {
                 let verdict = judge(&tape_of(&items[..count], 1)).to_string();
                 let word = if count == items.len() { "PASS" } else { "INCONCLUSIVE" };
                 assert!(verdict.starts_with(&format!("{word} {count} 0 ")), "{verdict}");
@@ -124,21 +128,22 @@ mod tests {
     }
 
     #[test]
-    fn the_longest_session_has_127_entries() {
+    fn the_longest_session_has_1011_entries() {
         let all = systematic();
-        let longest = all.iter().filter(|s| s.label == "58 records, whole");
+        let longest = all.iter().filter(|s| s.label == "500 records, whole");
         for scenario in longest {
-            assert_eq!(play(&scenario.plan, &mut Random::nth(1, 1)).len(), 127);
+            assert_eq!(play(&scenario.plan, &mut Random::nth(1, 1)).len(), 1011);
         }
     }
 
     #[test]
-    fn making_never_panics() {
+    fn fed_or_whole_made_tapes_are_judged_alike() {
         let all = systematic();
         for index in 0..(all.len() + 2000) {
             let mut r = Random::nth(11, index as u64);
             let scenario = scenario_for(index, &all, &mut r);
-            judge(&tape(&scenario, &mut r));
+            let bytes = tape(&scenario, &mut r);
+            assert_eq!(judge(&bytes), judge_fed(&bytes), "{}", scenario.label);
         }
     }
 }

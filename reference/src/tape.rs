@@ -1,7 +1,8 @@
 //! The tape: blocks of equal size, each with its own entry (01, "The tape").
 
 pub const BLOCK: usize = 512;
-pub const MOST_BLOCKS: usize = 128;
+/// 02, R-8; 128 in 01.
+pub const MOST_BLOCKS: usize = 1024;
 pub const LONGEST_PAYLOAD: usize = 496;
 const PAYLOAD_AT: usize = 12;
 const CHECK_AT: usize = 508;
@@ -129,7 +130,7 @@ pub fn read(tape: &[u8]) -> Result<Vec<Entry<'_>>, Unreadable> {
 }
 
 /// The entry of one block, or the lowest code from 3 to 9 that applies.
-fn read_block<'a>(block: &'a [u8], place: usize, session: &[u8]) -> Result<Entry<'a>, u8> {
+pub fn read_block<'a>(block: &'a [u8], place: usize, session: &[u8]) -> Result<Entry<'a>, u8> {
     if word(&block[CHECK_AT..]) != crc32(&block[..CHECK_AT]) {
         return Err(3);
     }
@@ -211,10 +212,11 @@ mod tests {
 
     #[test]
     fn codes_of_the_whole() {
-        assert_eq!(read(&[0; 65_537]).err(), Some(Unreadable { place: 0, code: 1 }));
+        assert_eq!(read(&[0; 524_289]).err(), Some(Unreadable { place: 0, code: 1 }));
         assert_eq!(read(&[0; 1]).err(), Some(Unreadable { place: 0, code: 2 }));
-        assert_eq!(read(&[0; 65_535]).err(), Some(Unreadable { place: 127, code: 2 }));
-        assert_eq!(read(&[0; 65_536]).err(), Some(Unreadable { place: 0, code: 3 }));
+        assert_eq!(read(&[0; 65_537]).err(), Some(Unreadable { place: 128, code: 2 }));
+        assert_eq!(read(&[0; 524_287]).err(), Some(Unreadable { place: 1023, code: 2 }));
+        assert_eq!(read(&[0; 524_288]).err(), Some(Unreadable { place: 0, code: 3 }));
     }
 
     #[test]
@@ -228,7 +230,7 @@ mod tests {
         assert_eq!(small.add(entry(1)), Err(8));
         assert_eq!(small.add(entry(0)), Err(7));
         let mut large = Writer::new(0, 1 << 20);
-        let added = (0..200).filter(|_| large.add(entry(2)).is_ok()).count();
-        assert_eq!(added, 128);
+        let added = (0..1100).filter(|_| large.add(entry(2)).is_ok()).count();
+        assert_eq!(added, 1024);
     }
 }

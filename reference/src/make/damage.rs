@@ -13,7 +13,7 @@ pub struct Damage {
     pub apply: Rc<Change>,
 }
 
-fn damage(label: &str, apply: impl Fn(&mut Vec<u8>, &mut Random) + 'static) -> Damage {
+pub fn damage(label: &str, apply: impl Fn(&mut Vec<u8>, &mut Random) + 'static) -> Damage {
     Damage { label: label.to_string(), apply: Rc::new(apply) }
 }
 
@@ -166,13 +166,13 @@ fn sized(size: usize, label: &str, byte: u8) -> Damage {
 
 fn sizes() -> Vec<Damage> {
     let mut all: Vec<Damage> = [
-        0, 1, 511, 512, 513, 1023, 1024, 1025, 65_023, 65_024, 65_535, 65_536, 65_537, 66_048,
-        131_072,
+        0, 1, 511, 512, 513, 1023, 1024, 1025, 65_535, 65_536, 65_537, 66_048, 523_776, 524_287,
+        524_288, 524_289, 524_800, 1_048_576,
     ]
     .into_iter()
     .map(|size| sized(size, &format!("{size} bytes"), 0))
     .collect();
-    all.push(sized(65_537, "65537 bytes of FF", 0xFF));
+    all.push(sized(524_289, "524289 bytes of FF", 0xFF));
     all.push(damage("some bytes less", |tape, r| {
         let less = r.between(1, 511).min(tape.len());
         tape.truncate(tape.len() - less);
@@ -190,7 +190,7 @@ fn sizes() -> Vec<Damage> {
         tape.push(0);
     }));
     all.push(damage("any bytes", |tape, r| {
-        let size = *r.pick(&[1, 511, 512, 1024, 5120, 65_536]);
+        let size = *r.pick(&[1, 511, 512, 1024, 5120, 524_288]);
         *tape = r.bytes(size);
     }));
     all

@@ -1,5 +1,6 @@
 //! Ways to change the entries of a session that has been played.
 
+use super::long::filled_up;
 use super::plan::Item;
 use super::start::{any_date, NO_DAYS};
 use crate::random::Random;
@@ -167,7 +168,7 @@ fn strangers() -> Vec<Ending> {
             items.insert(at, Item::new(HOST, [1, 0x30, 0x30]));
         }),
         ending("HOST dropped", |items, _| items.retain(|item| item.kind != HOST)),
-        ending("128 entries", |items, r| {
+        ending("a full tape", |items, r| {
             while items.len() < MOST_BLOCKS {
                 items.push(any_item(items, r));
             }
@@ -286,5 +287,5 @@ pub fn any_ending(r: &mut Random) -> Ending {
 }
 
 pub fn endings() -> Vec<Ending> {
-    [cuts(), silences(), additions(), strangers(), payloads(), starts()].concat()
+    [cuts(), silences(), additions(), strangers(), payloads(), starts(), filled_up()].concat()
 }

@@ -2,7 +2,9 @@
 //! nothing else is wrong (0: the answer stays good).
 
 use super::card::{any_list, meaningless, wish};
+use super::long::dealt;
 use super::nodes::{Answer, Node};
+use crate::answers::MOST_RECORDS;
 use crate::random::Random;
 use std::rc::Rc;
 
@@ -375,11 +377,13 @@ fn options_members() -> Vec<Fault> {
             set_locator(a, &[&bad_entry(r)[..], &[8, 1, 2, 1]].concat())
         }),
         fault(6, "bad entry and too many", |a, r| {
-            set_locator(a, &[&[8, 1, 200, 1][..], &bad_entry(r)].concat());
+            set_locator(a, &[&[8, 1, 255, 1].repeat(2)[..], &bad_entry(r)].concat());
         }),
-        fault(7, "59 records", |a, _| set_locator(a, &[8, 1, 59, 0])),
-        fault(7, "255 records", |a, _| set_locator(a, &[80, 1, 255, 255])),
-        fault(7, "30 and 29 records", |a, _| set_locator(a, &[8, 1, 30, 0, 16, 1, 29, 29])),
+        fault(7, "501 records", |a, r| set_locator(a, &dealt(MOST_RECORDS + 1, r).concat())),
+        fault(7, "510 records", |a, _| set_locator(a, &[80, 1, 255, 255].repeat(2))),
+        fault(7, "255 and 246 records", |a, _| {
+            set_locator(a, &[8, 1, 255, 0, 16, 1, 246, 246]);
+        }),
         fault(7, "very many records", |a, _| set_locator(a, &[8, 1, 255, 0].repeat(40))),
         fault(8, "no 82", |a, _| a.remove(0x82)),
         fault(8, "no 94", |a, _| a.remove(0x94)),
@@ -402,9 +406,13 @@ fn options_pairs() -> Vec<Fault> {
             a.remove(0x82);
             set_locator(a, &bad_entry(r));
         }),
-        fault(7, "no 82, too many", |a, _| {
+        fault(7, "no 82, too many", |a, r| {
             a.remove(0x82);
-            set_locator(a, &[8, 1, 59, 0]);
+            set_locator(a, &dealt(MOST_RECORDS + 1, r).concat());
+        }),
+        fault(8, "no 82, as many as can be", |a, r| {
+            a.remove(0x82);
+            set_locator(a, &dealt(MOST_RECORDS, r).concat());
         }),
     ]
 }

@@ -5,6 +5,7 @@ use super::card::Steer;
 use super::damage::{damages, Damage};
 use super::endings::{any_ending, endings, Ending};
 use super::faults::{anywhere, cryptogram, options, record, select, Fault};
+use super::long::{long_damages, long_locators};
 use super::plan::{Place, Plan};
 use super::tweaks::{bad_records, edges_of_money, good_edges, list_edges, Tweak};
 use crate::random::Random;
@@ -139,7 +140,7 @@ fn second_lists() -> Vec<Scenario> {
 /// Sessions with as many entries as there can be, whole and not.
 fn longest() -> Vec<Scenario> {
     let full: Vec<Tweak> =
-        good_edges().into_iter().filter(|t| t.label.starts_with("58 records")).collect();
+        good_edges().into_iter().filter(|t| t.label.starts_with("500 records")).collect();
     let mut all = Vec::new();
     for tweak in full {
         for ending in endings()
@@ -151,6 +152,28 @@ fn longest() -> Vec<Scenario> {
             plan.tweaks.push(tweak.clone());
             let label = format!("{}, {}", tweak.label, ending.label);
             all.push(Scenario { label, plan, endings: vec![ending], ..Scenario::default() });
+        }
+    }
+    all
+}
+
+/// Tapes at the limits of 02, R-8: long sessions and long tails of short
+/// ones, with and without a broken rule before.
+fn long_tapes() -> Vec<Scenario> {
+    let all_endings = endings();
+    let named = |label: &str| all_endings.iter().find(|e| e.label == label).cloned();
+    let mut all = Vec::new();
+    for (number, damage) in long_damages().into_iter().enumerate() {
+        for (ending, long) in [("whole", true), ("whole", false), ("an entry dropped", false)] {
+            let mut plan = long_plan(1 + (number % 2) as u8);
+            if long {
+                plan.tweaks.extend(long_locators().into_iter().nth(number));
+            }
+            let length = if long { "long" } else { "short" };
+            let label = format!("{}, {length}, {ending}", damage.label);
+            let endings = named(ending).into_iter().collect();
+            let damages = vec![damage.clone()];
+            all.push(Scenario { label, plan, endings, damages, ..Scenario::default() });
         }
     }
     all
@@ -224,6 +247,7 @@ pub fn systematic() -> Vec<Scenario> {
         ended(),
         damaged(),
         counted_tapes(),
+        long_tapes(),
     ]
     .concat()
 }
@@ -271,7 +295,8 @@ pub fn by_chance(r: &mut Random) -> Scenario {
         scenario.endings.push(ending);
     }
     if r.chance(15) {
-        let damage = r.pick(&damages()).clone();
+        let table = if r.chance(10) { long_damages() } else { damages() };
+        let damage = r.pick(&table).clone();
         scenario.label += &format!("; {}", damage.label);
         scenario.damages.push(damage);
     }

@@ -2,6 +2,7 @@
 
 use super::card::{any_list, Card};
 use super::faults::bad_list;
+use super::long::long_locators;
 use super::start::{month_end, shifted, Start, BORDER_DAYS, MOST_AMOUNT, NO_DAYS};
 use crate::random::Random;
 use std::rc::Rc;
@@ -121,7 +122,7 @@ fn dates(label: &str, expiry: Option<bool>, effective: Option<bool>) -> Tweak {
 /// Dates, versions, locators and lists that stay good.
 pub fn good_edges() -> Vec<Tweak> {
     let dates = [edges_of_dates(), borders_of_years(), ends_of_months(), days_of_cards()].concat();
-    [dates, optional_objects(), good_locators(), good_accounts()].concat()
+    [dates, optional_objects(), good_locators(), good_accounts(), long_locators()].concat()
 }
 
 fn edges_of_dates() -> Vec<Tweak> {
