@@ -93,9 +93,8 @@ fn grown(blocks: usize, tail: usize) -> Damage {
 /// A bit of a late block, and perhaps a tail.
 fn late(tail: usize) -> Damage {
     damage(&format!("a late bit and {tail} bytes"), move |tape, r| {
-        let late = tape.len() / 8;
-        let at = tape.len() - 1 - r.below(late.max(1)).min(tape.len().saturating_sub(1));
-        if let Some(byte) = tape.get_mut(at) {
+        let from_end = r.below(tape.len() / 8);
+        if let Some(byte) = tape.iter_mut().rev().nth(from_end) {
             *byte ^= 1 << r.below(8);
         }
         tape.extend(r.bytes(tail));
