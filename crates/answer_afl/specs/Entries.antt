@@ -53,9 +53,9 @@ entryRight e =
 unfoldable pub entriesRight : List ℕ → Bool
 entriesRight v = every (map entryRight (entries v))
 
--- the most records in all (house)
+-- the most records in all (house; 02, R-8)
 abbrev pub mostRecords : ℕ
-mostRecords = 58
+mostRecords = 500
 
 unfoldable pub recordsOf : List Entry → ℕ
 recordsOf [] = 0

@@ -6,7 +6,7 @@ ghost use Rattle.answer_afl.specs.Entries.{firstEntry, records as record
 ghost use Rattle.answer_afl.specs.Entries.{tooMany};
 
 // The most records in all.
-const MOST_RECORDS: usize = 58;
+const MOST_RECORDS: usize = 500;
 
 // Whether the bytes are whole entries, one at least.
 pub fn are_whole(locator: &[u8]) -> bool

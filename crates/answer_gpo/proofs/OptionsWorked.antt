@@ -25,6 +25,10 @@ afl v = one 0x94 v
 abbrev entry : List ℕ
 entry = 0x08 ∷ 0x01 ∷ 0x03 ∷ 0x01 ∷ []
 
+-- 250 records of one file and so many of the next
+abbrev many : ℕ → List ℕ
+many last = 0x08 ∷ 0x01 ∷ 0xFA ∷ 0x00 ∷ 0x10 ∷ 0x01 ∷ last ∷ 0x00 ∷ []
+
 -- what stands in 77, and the reason
 abbrev rows : List (List (List ℕ) × ℕ)
 rows =
@@ -44,9 +48,11 @@ rows =
     ∷ (afl (0x08 ∷ 0x00 ∷ 0x01 ∷ 0x00 ∷ []) ∷ [], 6)
     ∷ (aip ∷ afl (entry ++ (0x58 ∷ 0x01 ∷ 0x01 ∷ 0x00 ∷ [])) ∷ [], 6)
     -- records in all
-    ∷ (aip ∷ afl (0x08 ∷ 0x01 ∷ 0x3A ∷ 0x00 ∷ []) ∷ [], 0)
-    ∷ (aip ∷ afl (0x08 ∷ 0x01 ∷ 0x3B ∷ 0x00 ∷ []) ∷ [], 7)
-    ∷ (afl (0x08 ∷ 0x01 ∷ 0x38 ∷ 0x00 ∷ entry) ∷ [], 7)
+    ∷ (aip ∷ afl (0x08 ∷ 0x01 ∷ 0x3B ∷ 0x00 ∷ []) ∷ [], 0)
+    ∷ (aip ∷ afl (many 0xFA) ∷ [], 0)
+    ∷ (aip ∷ afl (many 0xFB) ∷ [], 7)
+    ∷ (afl (many 0xFB) ∷ [], 7)
+    ∷ (afl (many 0xFA) ∷ [], 8)
     -- mandatory
     ∷ (afl entry ∷ [], 8)
     ∷ (aip ∷ [], 8)
@@ -54,7 +60,7 @@ rows =
     -- the lowest counts
     ∷ (aip ∷ one 0x82 [] ∷ [], 4)
     ∷ (one 0x82 [] ∷ afl (0x08 ∷ 0x00 ∷ 0x01 ∷ 0x00 ∷ []) ∷ [], 5)
-    ∷ (aip ∷ afl (0x08 ∷ 0x01 ∷ 0x3B ∷ 0x00 ∷ 0x00 ∷ 0x01 ∷ 0x01 ∷ 0x00 ∷ []) ∷ [], 6)
+    ∷ (aip ∷ afl (many 0xFB ++ (0x00 ∷ 0x01 ∷ 0x01 ∷ 0x00 ∷ [])) ∷ [], 6)
     ∷ []
 
 judged : map (λ row. judge (good (one 0x77 (joinedAll (row .0))))) rows ≡ map (λ row. row .1) rows
@@ -72,8 +78,8 @@ joined-rows =
     ∷ (0x08 ∷ entry, 5)
     ∷ (0x08 ∷ 0x00 ∷ 0x00 ∷ entry, 5)
     ∷ (0x08 ∷ 0x00 ∷ 0x08 ∷ 0x00 ∷ 0x01 ∷ 0x00 ∷ [], 6)
-    ∷ (0x08 ∷ 0x00 ∷ 0x08 ∷ 0x01 ∷ 0x3A ∷ 0x00 ∷ [], 0)
-    ∷ (0x08 ∷ 0x00 ∷ 0x08 ∷ 0x01 ∷ 0x3B ∷ 0x00 ∷ [], 7)
+    ∷ (0x08 ∷ 0x00 ∷ many 0xFA, 0)
+    ∷ (0x08 ∷ 0x00 ∷ many 0xFB, 7)
     ∷ []
 
 joined-judged : map (λ row. judge (good (one 0x80 (row .0)))) joined-rows ≡ map (λ row. row .1) joined-rows

@@ -33,7 +33,7 @@ unfoldable pub anyWrong : List Entry → Bool
 anyWrong [] = false
 anyWrong (e ∷ es) = pick (wrong e) true (anyWrong es)
 
--- 8: after so many blocks used, no more than 128 in all, and 512 bytes for each
+-- 8: after so many blocks used, no more than 1,024 in all, and 512 bytes for each
 unfoldable pub hasRoom : ℕ → ℕ → List ℕ → Bool
 hasRoom more used t = leb (used + more) blocksMost && leb ((used + more) * blockSize) (length t)
 

@@ -25,7 +25,7 @@ use Rattle.answer_gpo.specs.Options.{profileOf, locatorOf, optionsWrong, option
 use Rattle.decide_tvr.specs.Bits.{joined, meet}
 use Rattle.decide_tvr.specs.Selection.{biased, chosen, selected}
 use Rattle.decide_requests.specs.Requests.{issuerCode, codeMatch, byType, firstRequest}
-use Rattle.rulebook_cases.specs.Table.{plain, noCodes, trial, amount7500, amount7499, Cases}
+use Rattle.rulebook_cases.specs.Table.{plain, noCodes, trial, amount7500, amount7499, located, unprofiled, Cases}
 
 pub table : Cases
 unfolding pick firstOf counted shorter zeros firstByte constructed twoBytes tagSize tagOf tagRight lengthByte lengthForm lengthSize
@@ -36,7 +36,7 @@ unfolding pick firstOf counted shorter zeros firstByte constructed twoBytes tagS
     profileOf locatorOf optionsWrong optionsLines optionsReason membersIn named among direct standing times told valueOf wrongValue
     anyTimes anyWrong fileRight isList readRefusal decimalFrom decimal andThen sizeAt firstWanted asks wantedStep entriesOf total fits
     fillable ownField valueBy valueFor withFormat supplied entryBytes filled filledBy filledList filling selected trial
-    amount7500 amount7499
+    amount7500 amount7499 located unprofiled
 table =
     record {
       a-read = refl;
@@ -51,7 +51,12 @@ table =
       g-command = refl;
       h = refl;
       h-read = refl;
+      i-59 = refl;
+      i-500 = refl;
       i = refl;
+      i-wrong = refl;
+      i-lacks = refl;
+      h-lacks = refl;
       j-selected = refl;
       j-not = refl;
       k = refl;

@@ -3,9 +3,10 @@
 -- Assumes nothing.
 use mathlib.Core.Path.{_≡_}
 use mathlib.Core.Bool.{Bool, true, false}
-use mathlib.Core.List.{List, [], _∷_}
+use mathlib.Core.List.{List, [], _∷_, _++_}
 use mathlib.Core.Option.{Option, some}
-use Prim.Native.Nat.{ℕ}
+use Prim.Native.Nat.{ℕ, _+_}
+use lib.ListN.{length}
 use Rattle.tlv_list.specs.Objects.{Object, objects, readRefusal}
 use Rattle.session_records.specs.Slots.{Facts}
 use Rattle.dol_fill.specs.Filled.{filling}
@@ -57,6 +58,13 @@ amount7500 = 0x00 ∷ 0x00 ∷ 0x00 ∷ 0x00 ∷ 0x75 ∷ 0x00 ∷ []
 unfoldable pub amount7499 : List ℕ
 amount7499 = 0x00 ∷ 0x00 ∷ 0x00 ∷ 0x00 ∷ 0x74 ∷ 0x99 ∷ []
 
+-- an answer to GPO with an AIP of zeros and an AFL, and one with the AFL alone
+unfoldable pub located : List ℕ → List ℕ
+located afl = 0x77 ∷ (6 + length afl) ∷ 0x82 ∷ 0x02 ∷ 0x00 ∷ 0x00 ∷ 0x94 ∷ length afl ∷ (afl ++ (0x90 ∷ 0x00 ∷ []))
+
+unfoldable pub unprofiled : List ℕ → List ℕ
+unprofiled afl = 0x77 ∷ (2 + length afl) ∷ 0x94 ∷ length afl ∷ (afl ++ (0x90 ∷ 0x00 ∷ []))
+
 pub record Cases : Type 0 where
   -- a longer length form than needed
   pub a-read : readRefusal (0x5A ∷ 0x81 ∷ 0x02 ∷ 0x12 ∷ 0x34 ∷ []) ≡ 0
@@ -74,10 +82,17 @@ pub record Cases : Type 0 where
   -- three records, and the first command
   pub g : toRead (0x08 ∷ 0x01 ∷ 0x03 ∷ 0x01 ∷ []) ≡ (1, 1) ∷ (2, 1) ∷ (3, 1) ∷ []
   pub g-command : recordCommand 1 1 ≡ 0x00 ∷ 0xB2 ∷ 0x01 ∷ 0x0C ∷ 0x00 ∷ []
-  -- 58 records are read, 59 are too many
+  -- 58 records are read
   pub h : recordCount (0x08 ∷ 0x01 ∷ 0x3A ∷ 0x00 ∷ []) ≡ 58
-  pub h-read : optionsReason (0x77 ∷ 0x0A ∷ 0x82 ∷ 0x02 ∷ 0x00 ∷ 0x00 ∷ 0x94 ∷ 0x04 ∷ 0x08 ∷ 0x01 ∷ 0x3A ∷ 0x00 ∷ 0x90 ∷ 0x00 ∷ []) ≡ 0
-  pub i : optionsReason (0x77 ∷ 0x0A ∷ 0x82 ∷ 0x02 ∷ 0x00 ∷ 0x00 ∷ 0x94 ∷ 0x04 ∷ 0x08 ∷ 0x01 ∷ 0x3B ∷ 0x00 ∷ 0x90 ∷ 0x00 ∷ []) ≡ 7
+  pub h-read : optionsReason (located (0x08 ∷ 0x01 ∷ 0x3A ∷ 0x00 ∷ [])) ≡ 0
+  -- 02, R-8: 59 too, and 500; 501 are too many, over two files at least since a record's number is one byte
+  pub i-59 : optionsReason (located (0x08 ∷ 0x01 ∷ 0x3B ∷ 0x00 ∷ [])) ≡ 0
+  pub i-500 : optionsReason (located (0x08 ∷ 0x01 ∷ 0xFA ∷ 0x00 ∷ 0x10 ∷ 0x01 ∷ 0xFA ∷ 0x00 ∷ [])) ≡ 0
+  pub i : optionsReason (located (0x08 ∷ 0x01 ∷ 0xFA ∷ 0x00 ∷ 0x10 ∷ 0x01 ∷ 0xFB ∷ 0x00 ∷ [])) ≡ 7
+  -- reason 7 goes after 6 and before 8: a first record 0 beside 501 records; no AIP beside 501, and beside 500
+  pub i-wrong : optionsReason (located (0x08 ∷ 0x00 ∷ 0xFA ∷ 0x00 ∷ 0x10 ∷ 0x01 ∷ 0xFB ∷ 0x00 ∷ [])) ≡ 6
+  pub i-lacks : optionsReason (unprofiled (0x08 ∷ 0x01 ∷ 0xFA ∷ 0x00 ∷ 0x10 ∷ 0x01 ∷ 0xFB ∷ 0x00 ∷ [])) ≡ 7
+  pub h-lacks : optionsReason (unprofiled (0x08 ∷ 0x01 ∷ 0xFA ∷ 0x00 ∷ 0x10 ∷ 0x01 ∷ 0xFA ∷ 0x00 ∷ [])) ≡ 8
   -- target 10, maximum 70, threshold 5000, floor limit 10000
   pub j-selected : selected (trial 40 amount7500) ≡ true
   pub j-not : selected (trial 41 amount7500) ≡ false

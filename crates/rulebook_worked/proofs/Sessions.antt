@@ -62,8 +62,11 @@ pub reasons-1-to-5 :
 unfolding reached
 reasons-1-to-5 = (reads _ refl, reads _ refl, reads _ refl, reads _ refl, reads _ refl)
 
--- a first record 0; 59 records
-pub reasons-6-and-7 : Session (afterOptions (optioned 0 1) 6) × Session (afterOptions (optioned 1 0x3B) 7)
+-- a first record 0; 501 records (02, R-8), 250 in one file and 251 in the next
+abbrev many : List ℕ
+many = 0x77 ∷ 0x0E ∷ 0x82 ∷ 0x02 ∷ 0 ∷ 0 ∷ 0x94 ∷ 0x08 ∷ 0x08 ∷ 0x01 ∷ 0xFA ∷ 0x00 ∷ 0x10 ∷ 0x01 ∷ 0xFB ∷ 0x00 ∷ 0x90 ∷ 0x00 ∷ []
+
+pub reasons-6-and-7 : Session (afterOptions (optioned 0 1) 6) × Session (afterOptions many 7)
 unfolding reached
 reasons-6-and-7 = (reads _ refl, reads _ refl)
 

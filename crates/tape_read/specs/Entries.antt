@@ -11,9 +11,9 @@ use lib.Pow.{areBytes}
 abbrev pub blockSize : ℕ
 blockSize = 512
 
--- at most so many blocks to a tape, and so many bytes
+-- at most so many blocks to a tape (02, R-8), and so many bytes
 abbrev pub blocksMost : ℕ
-blocksMost = 128
+blocksMost = 1024
 
 abbrev pub tapeMost : ℕ
 tapeMost = blocksMost * blockSize

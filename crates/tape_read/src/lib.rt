@@ -27,7 +27,7 @@ pub const DECISION: u8 = 6;
 // The limits: the bytes of a block, the blocks of a tape and its bytes, the bytes of a payload.
 pub const BLOCK: usize = 512;
 
-pub const BLOCKS: usize = 128;
+pub const BLOCKS: usize = 1024;
 
 pub const TAPE: usize = BLOCKS * BLOCK;
 
