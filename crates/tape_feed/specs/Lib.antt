@@ -1,0 +1,2 @@
+-- A tape read piece by piece.
+pub mod Feeding
