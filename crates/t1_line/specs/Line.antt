@@ -88,7 +88,7 @@ keeps more n s =
     })
     (record {
       state = atPhase Due (withReceived 0 (withNumbers (s .numbers .next) (not (s .numbers .expected)) s));
-      act = Whole;
+      act = Whole (s .received + n);
     })
 
 -- a message has at most so many bytes (house)

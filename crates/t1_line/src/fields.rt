@@ -57,8 +57,9 @@ fn keep(s: State, more: bool, n: u8) -> Turn
     let numbers = s.numbers;
     let received = s.received;
     let toggled = with_numbers(s, numbers.next, !numbers.expected);
+    let total = received + n as usize;
     if more {
-        let kept = with_received(toggled, received + n as usize);
+        let kept = with_received(toggled, total);
         return Turn {
             state: ready_for(at_phase(kept, Phase::Receiving), 0),
             act: Act::Keep,
@@ -66,6 +67,6 @@ fn keep(s: State, more: bool, n: u8) -> Turn
     }
     Turn {
         state: at_phase(with_received(toggled, 0), Phase::Due),
-        act: Act::Whole,
+        act: Act::Whole(total),
     }
 }

@@ -84,13 +84,13 @@ pub enum Refusal {
 }
 
 // Nothing goes out; a block goes out; its field is kept and a block goes out; its value is taken and a block goes out; its field
-// is kept and the message is whole; the end; or a refusal.
+// is kept and the message is whole, with so many bytes; the end; or a refusal.
 pub enum Act {
     Nothing,
     Send,
     Keep,
     Value,
-    Whole,
+    Whole(usize),
     End(End),
     Refuse(Refusal),
 }

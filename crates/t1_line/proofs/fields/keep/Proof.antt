@@ -29,7 +29,8 @@ returns-2 : tie.Need-returns-2
 unfolding keeps
 returns-2 c =
     let tested = c .before .before in
-    ap (λ (x : State). record { state = x; act = Whole })
+    let a = tested .before .before .before .before .args in
+    ap (λ (x : State). record { state = x; act = Whole (a .s .received + a .n) })
     (c .at-phase2 .ensures
     ∙ ap (atPhase Due) (c .before .with-received2 .ensures ∙ ap (withReceived 0) (tested .before .with-numbers .ensures)))
     ∙ sym (pick-no _ _ _ (tested .if1 .left))
