@@ -1,0 +1,2 @@
+-- What is said of ends of a line: which fields they keep.
+pub mod Keeping

@@ -1,0 +1,1 @@
+// Laws of the T=1 layer: see specs/ and proofs/. No code.
