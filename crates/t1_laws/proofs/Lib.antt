@@ -1,3 +1,6 @@
 pub mod Reading
 pub mod Spoiled
 pub mod Kept
+pub mod Rounds
+pub mod Delivery
+pub mod Stopping

@@ -1,2 +1,4 @@
 -- What is said of ends of a line: which fields they keep.
 pub mod Keeping
+pub mod Joined
+pub mod Stopping
