@@ -4,3 +4,4 @@ pub mod Kept
 pub mod Rounds
 pub mod Delivery
 pub mod Stopping
+pub mod Patience

@@ -4,6 +4,7 @@ use mathlib.Core.Path.{_≡_}
 use mathlib.Core.Bool.{Bool, true, false}
 use mathlib.Core.List.{List, [], _∷_}
 use Prim.Native.Nat.{ℕ, _≤_, _-_}
+use Rattle.slices.specs.Choice.{pick}
 use Rattle.t1_block.specs.Faults.{heardOf}
 use Rattle.t1_block.specs.declared.Heard.{Heard}
 use Rattle.t1_block.specs.declared.Heard.the-variants.{Valid, Bad}
@@ -47,3 +48,23 @@ awaits Due = false
 awaits Sent = true
 awaits Receiving = true
 awaits Over = false
+
+-- whether a block that is not valid brings the same block out again
+abbrev pub isSame : Last → Bool
+isSame Nothing = false
+isSame Information = false
+isSame (Ready pcb) = true
+isSame (Request w v) = true
+isSame (Response w v) = false
+
+abbrev pub repeats : Phase → Last → Bool
+repeats Start last = isSame last
+repeats Asking last = true
+repeats Due last = isSame last
+repeats Sent last = isSame last
+repeats Receiving last = isSame last
+repeats Over last = isSame last
+
+-- how many blocks that are not valid an end still answers
+unfoldable pub patience : State → ℕ
+patience s = pick (repeats (s .phase) (s .last)) (sameLimit (s .role) (s .last) - s .counts .same) 3
