@@ -5,3 +5,4 @@ pub mod Rounds
 pub mod Delivery
 pub mod Stopping
 pub mod Patience
+pub mod Shared
