@@ -59,7 +59,8 @@ module _ (pcb : ℕ) (inf d : List ℕ) (fits : 4 + length inf ≤ length d) whe
 
   -- what stands there is what the LRC is taken over
   pub body-there : take (3 + length inf) (drop 0 (laid inf 3 (laid head 0 d))) ≡ bodyOf pcb inf
-  body-there = ap (take (3 + length inf)) (with-field ∙ put-start (bodyOf pcb inf) d) ∙ take-at (bodyOf pcb inf) _ (3 + length inf) (omega arith)
+  body-there = ap (take (3 + length inf)) (with-field ∙ put-start (bodyOf pcb inf) d) ∙ take-at (bodyOf pcb inf) _ (3 + length inf)
+      (omega arith)
 
   -- and the whole block
   pub with-lrc : laid (lrcOf (bodyOf pcb inf) ∷ []) (3 + length inf) (laid inf 3 (laid head 0 d)) ≡ laid (framed pcb inf) 0 d

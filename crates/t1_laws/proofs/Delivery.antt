@@ -54,11 +54,13 @@ stops (suc n) p e = pick-yes _ _ _ e
 
 module _ (m rest : List ℕ) (s r : State) (k : List ℕ) (did : Act) (g : Going m rest s r k) where
   -- a round with more to come
-  on : moreOf (s .message) ≡ true → round (joined s r k did) ≡ joined (sendsNext s) (keeps true (s .message .size) r .state) (k ++ infOf (blockOf s)) Keep
+  on : moreOf (s .message) ≡ true
+      → round (joined s r k did) ≡ joined (sendsNext s) (keeps true (s .message .size) r .state) (k ++ infOf (blockOf s)) Keep
   unfolding round keeps pick keptBy
   on more =
       ap (answered s k) (taken m rest s r k g ∙ ap (λ (x : Bool). keeps x (s .message .size) r) more)
-      ∙ ap (λ (t : Turn). joined (t .state) (keeps true (s .message .size) r .state) (k ++ infOf (blockOf s)) Keep) (returned m rest s r k g more)
+      ∙ ap (λ (t : Turn). joined (t .state) (keeps true (s .message .size) r .state) (k ++ infOf (blockOf s)) Keep)
+      (returned m rest s r k g more)
 
   -- the last round
   last-one : moreOf (s .message) ≡ false → Delivered m s r (answered s k (keeps false (s .message .size) r))
@@ -121,7 +123,8 @@ all-rounds (suc n) m rest s r k did g w h =
     (λ more.
     subst (λ (p : Pair). Delivered m s r (rounds n p)) (sym (on m rest s r k did g more))
     (moved m s r (s .message .size) _
-    (all-rounds n m rest (sendsNext s) (keeps true (s .message .size) r .state) (k ++ infOf (blockOf s)) Keep (goes-on m rest s r k g more) refl
+    (all-rounds n m rest (sendsNext s) (keeps true (s .message .size) r .state) (k ++ infOf (blockOf s)) Keep
+    (goes-on m rest s r k g more) refl
     (nearer n m rest s r k g h))))
     (λ final.
     let d = over m rest s r k did g final in
@@ -129,15 +132,16 @@ all-rounds (suc n) m rest s r k did g w h =
 
 -- a message that may be sent goes out with its first piece
 module _ (m : List ℕ) (some : 1 ≤ length m) (most : length m ≤ messageMost) (s r : State) (due : s .phase ≡ Due) where
-  begun : onSend m s ≡ goesOut (sendsPiece (messageOf (s .sizes .theirs) m) s)
+  pub begun : onSend m s ≡ goesOut (sendsPiece (messageOf (s .sizes .theirs) m) s)
   unfolding onSend sendIn sendsMessage between
   begun =
-      ap (λ (p : Phase). sendIn p m s) due ∙ pick-yes _ _ _ (held refl _ (le-leb 1 (length m) some) ∙ (last refl ∙ le-leb (length m) messageMost most))
+      ap (λ (p : Phase). sendIn p m s) due ∙ pick-yes _ _ _
+      (held refl _ (le-leb 1 (length m) some) ∙ (last refl ∙ le-leb (length m) messageMost most))
 
   abbrev first : State
   first = sendsPiece (messageOf (s .sizes .theirs) m) s
 
-  bytes-are : laid m 0 (zeros messageMost) ≡ m ++ drop (length m) (zeros messageMost)
+  pub bytes-are : laid m 0 (zeros messageMost) ≡ m ++ drop (length m) (zeros messageMost)
   bytes-are =
       laid-fits m 0 (zeros messageMost) (let z = zeros-length messageMost in omega arith) ∙ put-start m (zeros messageMost)
 
@@ -183,7 +187,8 @@ module _ (m : List ℕ) (some : 1 ≤ length m) (most : length m ≤ messageMost
   delivered step takes none′ fits =
       subst (λ (t : Turn). Delivered m s r (rounds (length m) (joined (t .state) r [] Nothing))) (sym begun)
       (same-ends _
-      (all-rounds (length m) m (drop (length m) (zeros messageMost)) first r [] Nothing (under-way step takes none′ fits) refl (omega arith)))
+      (all-rounds (length m) m (drop (length m) (zeros messageMost)) first r [] Nothing (under-way step takes none′ fits) refl
+      (omega arith)))
 
 -- every IFS from 1 to 254 is the room that it gives
 pub every-size : (i : ℕ) → 1 ≤ i → i ≤ 254 → room i ≡ i
@@ -211,6 +216,7 @@ module _ (command answer : List ℕ) (t c : State) where
       (subst (λ (z : Sizes). room (z .theirs) ≤ t .sizes .ours) (sym (over .receiver-sizes)) fits′)
       in (
         over,
-        delivered answer some′ most′ (there .receiver) (there .sender) (over .due) (over .expects ∙ (step′ ∙ sym (over .numbered))) (over .waits)
+        delivered answer some′ most′ (there .receiver) (there .sender) (over .due) (over .expects ∙ (step′ ∙ sym (over .numbered)))
+            (over .waits)
             (over .sender-received ∙ mine) room-back,
       )

@@ -40,7 +40,8 @@ record Quiet (s : State) (t : Turn) : Type 0 where
 
 -- what a block can do to an end
 pub record Fate (s : State) (h : Heard) (t : Turn) : Type 0 where
-  pub takes : isKept (t .act) ≡ true → (carries (s .numbers .expected) h ≡ true) × (t .state .numbers .expected ≡ not (s .numbers .expected))
+  pub takes : isKept (t .act) ≡ true
+      → (carries (s .numbers .expected) h ≡ true) × (t .state .numbers .expected ≡ not (s .numbers .expected))
   pub leaves : isKept (t .act) ≡ false → t .state .numbers .expected ≡ s .numbers .expected
 
 quietly : (s : State) (h : Heard) (t : Turn) → Quiet s t → Fate s h t

@@ -1,8 +1,13 @@
 pub mod Reading
 pub mod Spoiled
 pub mod Kept
+pub mod Pieces
 pub mod Rounds
 pub mod Delivery
 pub mod Stopping
 pub mod Patience
 pub mod Shared
+pub mod Still
+pub mod Hearing
+pub mod Lossy
+pub mod Arriving

@@ -70,7 +70,8 @@ module _ (s : State) (waits : awaits (s .phase) ≡ true) where
       r : Last
       r = Ready (pcbOfR (s .numbers .expected) code)
 
-      less : pick (repeats (s .phase) r) (sameLimit (s .role) r - 1) 3 < pick (repeats (s .phase) (s .last)) (sameLimit (s .role) (s .last) - s .counts .same) 3
+      less : pick (repeats (s .phase) r) (sameLimit (s .role) r - 1) 3 < pick (repeats (s .phase) (s .last))
+          (sameLimit (s .role) (s .last) - s .counts .same) 3
       less =
           let x = pick-yes (repeats (s .phase) r) (sameLimit (s .role) r - 1) 3 (repeats-same (s .phase) r refl) in
           let y = pick-no (repeats (s .phase) (s .last)) (sameLimit (s .role) (s .last) - s .counts .same) 3 new in
@@ -118,7 +119,8 @@ stays (b ∷ bs) s e = stays bs _ (over (s .phase) e)
     over Over f = e
 
 -- the law: more invalid blocks in a row than an end has patience for stop it
-pub bad-ends : (bs : List (List ℕ)) (s : State) → awaits (s .phase) ≡ true → AllBad bs s → patience s < length bs → heardAll bs s .phase ≡ Over
+pub bad-ends : (bs : List (List ℕ)) (s : State) → awaits (s .phase) ≡ true → AllBad bs s → patience s < length bs
+    → heardAll bs s .phase ≡ Over
 unfolding heardAll AllBad
 bad-ends [] s w all h = absurd (not-suc-le-zero h)
 bad-ends (b ∷ bs) s w all h = after (λ w′ l. bad-ends bs (onBlock b s .state) w′ (all .1) (omega arith)) (one-bad s w b (all .0))

@@ -28,9 +28,10 @@ use Rattle.t1_again.specs.Again.{goesOut, readyFor}
 use Rattle.t1_line.specs.Line.{equal, sendsPiece, sendsNext, takesFields, isSent, onReady, keeps, onInformation, onKind, onLine}
 use Rattle.t1_turns.specs.Turns.{byPhase, onBlock}
 use Rattle.t1.specs.Steps.{blockFor, blockOf}
+use Rattle.t1_laws.proofs.Pieces.{piece-low, piece-high, piece-inside, piece-of, piece-size}
 use Rattle.t1_laws.proofs.Reading.{field-back, heard-back, kind-i, kind-r}
 
-equal-same : (a : Bool) → equal a a ≡ true
+pub equal-same : (a : Bool) → equal a a ≡ true
 unfolding equal pick
 equal-same true = refl
 equal-same false = refl
@@ -38,23 +39,6 @@ equal-same false = refl
 pub not-not : (b : Bool) → not (not b) ≡ b
 not-not true = refl
 not-not false = refl
-
--- a piece has at least one byte and at most 254
-pub room-low : (n : ℕ) → 1 ≤ room n
-unfolding room
-room-low n =
-    picked (λ (x : ℕ). 1 ≤ x) _ _ _ (λ e. omega arith)
-    (λ e. picked (λ (x : ℕ). 1 ≤ x) _ _ _ (λ f. positive n e) (λ f. omega arith))
-  where
-    positive : (k : ℕ) → eqb k 0 ≡ false → 1 ≤ k
-    positive zero e = absurd (let z : _≡_ {A = ℕ} 0 1 = cc in omega arith)
-    positive (suc k) e = omega arith
-
-pub room-high : (n : ℕ) → room n ≤ 254
-unfolding room
-room-high n =
-    picked (λ (x : ℕ). x ≤ 254) _ _ _ (λ e. omega arith)
-    (λ e. picked (λ (x : ℕ). x ≤ 254) _ _ _ (λ f. leb-true n infMost f) (λ f. omega arith))
 
 -- a message under way: its piece is out, the receiver has kept all before it and expects the piece's number
 pub record Going (m rest : List ℕ) (s r : State) (k : List ℕ) : Type 0 where
@@ -72,7 +56,7 @@ pub record Going (m rest : List ℕ) (s r : State) (k : List ℕ) : Type 0 where
   pub most : length m ≤ messageMost
 
 -- an end that takes fields looks at a block as one without a request of its own
-on-line : (p : Phase) (more : Bool) (h : Heard) (v n : ℕ) (r : State) → takesFields p more ≡ true → byPhase p h v n r ≡ onLine h v n r
+pub on-line : (p : Phase) (more : Bool) (h : Heard) (v n : ℕ) (r : State) → takesFields p more ≡ true → byPhase p h v n r ≡ onLine h v n r
 unfolding byPhase
 on-line Start more h v n r e = absurd (let z : _≡_ {A = ℕ} 0 1 = cc in omega arith)
 on-line Asking more h v n r e = absurd (let z : _≡_ {A = ℕ} 0 1 = cc in omega arith)
@@ -92,25 +76,22 @@ module _ (m rest : List ℕ) (s r : State) (k : List ℕ) (g : Going m rest s r 
   piece = take n (drop at (s .message .bytes))
 
   pub n-low : 1 ≤ n
-  n-low = let l = room-low (s .sizes .theirs) in let i = g .inside in let e = g .size in omega arith
+  n-low = piece-low m rest s (g .bytes) (g .inside) (g .size)
 
   pub n-high : n ≤ 254
-  n-high = let h = room-high (s .sizes .theirs) in let e = g .size in omega arith
+  n-high = piece-high m rest s (g .bytes) (g .inside) (g .size)
 
   pub n-room : n ≤ r .sizes .ours
   n-room = let f = g .fits in let e = g .size in omega arith
 
   pub n-inside : at + n ≤ length m
-  n-inside = let i = g .inside in let e = g .size in omega arith
+  n-inside = piece-inside m rest s (g .bytes) (g .inside) (g .size)
 
   pub piece-is : piece ≡ take n (drop at m)
-  piece-is =
-      ap (λ (x : List ℕ). take n (drop at x)) (g .bytes)
-      ∙ (ap (take n) (drop-append-le at m rest (let i = g .inside in omega arith))
-      ∙ take-append-le n (drop at m) rest (let i = n-inside in simp length-drop (omega arith)))
+  piece-is = piece-of m rest s (g .bytes) (g .inside) (g .size)
 
   pub piece-length : length piece ≡ n
-  piece-length = ap length piece-is ∙ length-take-le n (drop at m) (let i = n-inside in simp length-drop (omega arith))
+  piece-length = piece-size m rest s (g .bytes) (g .inside) (g .size)
 
   -- the block that is out, and what the receiver hears
   pub block-is : blockOf s ≡ framed (pcbOfI (not (s .numbers .next)) (moreOf (s .message))) piece
@@ -119,7 +100,8 @@ module _ (m rest : List ℕ) (s r : State) (k : List ℕ) (g : Going m rest s r 
       ap (λ (l : Last). blockFor l s) (g .out)
       ∙ not-too-long _ piece (let l = piece-length in let h = n-high in omega arith)
 
-  heard : heardOf (framed (pcbOfI (not (s .numbers .next)) (moreOf (s .message))) piece) (r .sizes .ours) ≡ Valid (I (not (s .numbers .next)) (moreOf (s .message)))
+  heard : heardOf (framed (pcbOfI (not (s .numbers .next)) (moreOf (s .message))) piece) (r .sizes .ours) ≡ Valid
+      (I (not (s .numbers .next)) (moreOf (s .message)))
   unfolding fieldFault
   heard =
       let l = piece-length in let low = n-low in let high = n-high in let fit = n-room in
@@ -140,7 +122,8 @@ module _ (m rest : List ℕ) (s r : State) (k : List ℕ) (g : Going m rest s r 
       ∙ (ap (λ (h : Heard). onLine h (getD b 3 0) (length piece) r) heard
       ∙ (ap (λ (j : ℕ). onInformation number more j r) piece-length
       ∙ (pick-yes _ _ _ (g .takes)
-      ∙ (pick-yes _ _ _ (ap (equal number) (g .number) ∙ equal-same number) ∙ pick-no _ _ _ (le-ltb messageMost (r .received + n) in-most))))))
+      ∙ (pick-yes _ _ _ (ap (equal number) (g .number) ∙ equal-same number) ∙ pick-no _ _ _
+      (le-ltb messageMost (r .received + n) in-most))))))
 
   -- what the receiver has then
   pub field-kept : k ++ infOf (blockOf s) ≡ take (at + n) m

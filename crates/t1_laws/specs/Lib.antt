@@ -2,3 +2,4 @@
 pub mod Keeping
 pub mod Joined
 pub mod Stopping
+pub mod Lossy

@@ -83,7 +83,8 @@ unfoldable pub keeps : Bool → ℕ → State → Turn
 keeps more n s =
     pick more
     (record {
-      state = readyFor 0 (atPhase Receiving (withReceived (s .received + n) (withNumbers (s .numbers .next) (not (s .numbers .expected)) s)));
+      state = readyFor 0 (atPhase Receiving
+          (withReceived (s .received + n) (withNumbers (s .numbers .next) (not (s .numbers .expected)) s)));
       act = Keep;
     })
     (record {

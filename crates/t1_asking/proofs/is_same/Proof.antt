@@ -13,13 +13,15 @@ returns : tie.Need-returns
 unfolding isResponse
 returns c =
     let tested = c in
-    sym (pick-yes _ _ _ (sym (ap₂ eqb (tested .before .before .number-of .ensures) (tested .before .number-of2 .ensures)) ∙ eq-eqb _ _ (tested .if1 .taken)))
+    sym (pick-yes _ _ _ (sym (ap₂ eqb (tested .before .before .number-of .ensures) (tested .before .number-of2 .ensures))
+    ∙ eq-eqb _ _ (tested .if1 .taken)))
 
 returns-2 : tie.Need-returns-2
 unfolding isResponse
 returns-2 c =
     let tested = c in
-    sym (pick-no _ _ _ (sym (ap₂ eqb (tested .before .before .number-of .ensures) (tested .before .number-of2 .ensures)) ∙ ne-eqb _ _ (tested .if1 .left)))
+    sym (pick-no _ _ _ (sym (ap₂ eqb (tested .before .before .number-of .ensures) (tested .before .number-of2 .ensures))
+    ∙ ne-eqb _ _ (tested .if1 .left)))
 
 pub is-same-spec : {M : Type 1} → statement M
 is-same-spec =

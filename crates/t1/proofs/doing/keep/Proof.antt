@@ -27,31 +27,36 @@ returns-3 : tie.Need-returns-3
 unfolding keptBy
 returns-3 c =
     let a = c .before .before .before .args in
-    kept-as (a .act) Nothing (c .enum-told3 .given .1) (a .inf .now) _ (a .message .now) (a .received) (sym (laid-nothing (a .received) (a .message .now)))
+    kept-as (a .act) Nothing (c .enum-told3 .given .1) (a .inf .now) _ (a .message .now) (a .received)
+    (sym (laid-nothing (a .received) (a .message .now)))
 
 returns-4 : tie.Need-returns-4
 unfolding keptBy
 returns-4 c =
     let a = c .before .before .before .args in
-    kept-as (a .act) Send (c .enum-told4 .given .1) (a .inf .now) _ (a .message .now) (a .received) (sym (laid-nothing (a .received) (a .message .now)))
+    kept-as (a .act) Send (c .enum-told4 .given .1) (a .inf .now) _ (a .message .now) (a .received)
+    (sym (laid-nothing (a .received) (a .message .now)))
 
 returns-5 : tie.Need-returns-5
 unfolding keptBy
 returns-5 c =
     let a = c .before .before .before .args in
-    kept-as (a .act) Value (c .enum-told5 .given .1) (a .inf .now) _ (a .message .now) (a .received) (sym (laid-nothing (a .received) (a .message .now)))
+    kept-as (a .act) Value (c .enum-told5 .given .1) (a .inf .now) _ (a .message .now) (a .received)
+    (sym (laid-nothing (a .received) (a .message .now)))
 
 returns-6 : tie.Need-returns-6
 unfolding keptBy
 returns-6 c =
     let a = c .before .before .before .args in
-    kept-as (a .act) (End _) (c .enum-told6 .given .1) (a .inf .now) _ (a .message .now) (a .received) (sym (laid-nothing (a .received) (a .message .now)))
+    kept-as (a .act) (End _) (c .enum-told6 .given .1) (a .inf .now) _ (a .message .now) (a .received)
+    (sym (laid-nothing (a .received) (a .message .now)))
 
 returns-7 : tie.Need-returns-7
 unfolding keptBy
 returns-7 c =
     let a = c .before .before .before .args in
-    kept-as (a .act) (Refuse _) (c .enum-told7 .given .1) (a .inf .now) _ (a .message .now) (a .received) (sym (laid-nothing (a .received) (a .message .now)))
+    kept-as (a .act) (Refuse _) (c .enum-told7 .given .1) (a .inf .now) _ (a .message .now) (a .received)
+    (sym (laid-nothing (a .received) (a .message .now)))
 
 pub keep-spec : {M : Type 1} → statement M
 keep-spec =

@@ -17,19 +17,22 @@ returns : tie.Need-returns
 unfolding sentBy
 returns c =
     let a = c .before .before .before .before .args in
-    laid-as _ (blockOf (a .s)) _ _ (a .out .now) (sent-as (a .act) Send (c .before .before .enum-told .given .1) (a .s)) (c .write-block .ensures .0) (c .write-block .ensures .1)
+    laid-as _ (blockOf (a .s)) _ _ (a .out .now) (sent-as (a .act) Send (c .before .before .enum-told .given .1) (a .s))
+    (c .write-block .ensures .0) (c .write-block .ensures .1)
 
 returns-2 : tie.Need-returns-2
 unfolding sentBy
 returns-2 c =
     let a = c .before .before .before .before .args in
-    laid-as _ (blockOf (a .s)) _ _ (a .out .now) (sent-as (a .act) Keep (c .before .before .enum-told2 .given .1) (a .s)) (c .write-block2 .ensures .0) (c .write-block2 .ensures .1)
+    laid-as _ (blockOf (a .s)) _ _ (a .out .now) (sent-as (a .act) Keep (c .before .before .enum-told2 .given .1) (a .s))
+    (c .write-block2 .ensures .0) (c .write-block2 .ensures .1)
 
 returns-3 : tie.Need-returns-3
 unfolding sentBy
 returns-3 c =
     let a = c .before .before .before .before .args in
-    laid-as _ (blockOf (a .s)) _ _ (a .out .now) (sent-as (a .act) Value (c .before .before .enum-told3 .given .1) (a .s)) (c .write-block3 .ensures .0) (c .write-block3 .ensures .1)
+    laid-as _ (blockOf (a .s)) _ _ (a .out .now) (sent-as (a .act) Value (c .before .before .enum-told3 .given .1) (a .s))
+    (c .write-block3 .ensures .0) (c .write-block3 .ensures .1)
 
 returns-4 : tie.Need-returns-4
 unfolding sentBy

@@ -18,7 +18,8 @@ unfolding blockFor
 returns c =
     let a = c .before .before .before .before .before .before .before .before .before .before .args in
     laid-as _ _ _ _ (a .out .now)
-    (ap₂ written (c .before .before .before .before .pcb-of-i .ensures ∙ ap (pcbOfI (not (a .s .numbers .next))) (c .before .before .before .before .before .more-of .ensures)) (c .before .before .part .ensures))
+    (ap₂ written (c .before .before .before .before .pcb-of-i .ensures ∙ ap (pcbOfI (not (a .s .numbers .next)))
+    (c .before .before .before .before .before .more-of .ensures)) (c .before .before .part .ensures))
     (c .write .ensures .0)
     (c .write .ensures .1)
 

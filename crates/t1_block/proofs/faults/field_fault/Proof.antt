@@ -20,25 +20,29 @@ sized n a b e = ap (λ (m : ℕ). pick (eqb n m) Sound Inf) e
 
 returns : tie.Need-returns
 unfolding fieldFault
-returns c = let a = c .before .before .before .args in c .of-information .ensures ∙ told (a .kind) (Information _ _) (a .n) (a .most) (c .before .enum-told .given .1)
+returns c = let a = c .before .before .before .args in c .of-information .ensures ∙ told (a .kind) (Information _ _) (a .n)
+    (a .most) (c .before .enum-told .given .1)
 
 returns-2 : tie.Need-returns-2
 unfolding fieldFault
-returns-2 c = let a = c .before .before .before .args in c .exactly .ensures ∙ told (a .kind) (Ready _) (a .n) (a .most) (c .before .enum-told2 .given .1)
+returns-2 c = let a = c .before .before .before .args in c .exactly .ensures ∙ told (a .kind) (Ready _) (a .n) (a .most)
+    (c .before .enum-told2 .given .1)
 
 returns-3 : tie.Need-returns-3
 unfolding fieldFault
 returns-3 c =
     let a = c .before .before .before .before .before .args in
     c .exactly2 .ensures
-    ∙ (sized (a .n) _ _ (c .before .size-of .ensures) ∙ told (a .kind) (Request _) (a .n) (a .most) (c .before .before .before .kind .given .1))
+    ∙ (sized (a .n) _ _ (c .before .size-of .ensures) ∙ told (a .kind) (Request _) (a .n) (a .most)
+    (c .before .before .before .kind .given .1))
 
 returns-4 : tie.Need-returns-4
 unfolding fieldFault
 returns-4 c =
     let a = c .before .before .before .before .before .args in
     c .exactly3 .ensures
-    ∙ (sized (a .n) _ _ (c .before .size-of2 .ensures) ∙ told (a .kind) (Response _) (a .n) (a .most) (c .before .before .before .kind2 .given .1))
+    ∙ (sized (a .n) _ _ (c .before .size-of2 .ensures) ∙ told (a .kind) (Response _) (a .n) (a .most)
+    (c .before .before .before .kind2 .given .1))
 
 returns-5 : tie.Need-returns-5
 unfolding fieldFault

@@ -15,12 +15,18 @@ use Rattle.t1_block.proofs.faults.frame_fault.Statement.{statement}
 use Rattle.t1_block.proofs.faults.frame_fault.Tie as tie
 
 -- the LRC that was computed
-computed : (c : tie.After-lrc) → c .lrc .result ≡ lrcOf (take (3 + c .before .before .byte .result) (c .before .before .before .before .args .block .now))
+computed : (c : tie.After-lrc)
+    → c .lrc .result ≡ lrcOf (take (3 + c .before .before .byte .result) (c .before .before .before .before .args .block .now))
 computed c = c .lrc .ensures ∙ ap lrcOf (c .before .part .ensures)
 
-agrees : (c : tie.Then1)
-    → lrcOf (take (3 + c .before .before .before .before .byte .result) (c .before .before .before .before .before .before .args .block .now))
-    ≡ getD (c .before .before .before .before .before .before .args .block .now) (3 + c .before .before .before .before .byte .result) 0
+-- the block, and its LEN as it was read
+abbrev bytes : tie.Then1 → List ℕ
+bytes c = c .before .before .before .before .before .before .args .block .now
+
+abbrev len : tie.Then1 → ℕ
+len c = c .before .before .before .before .byte .result
+
+agrees : (c : tie.Then1) → lrcOf (take (3 + len c) (bytes c)) ≡ getD (bytes c) (3 + len c) 0
 agrees c = sym (computed (c .before .before)) ∙ (c .if1 .taken ∙ c .before .byte2 .ensures .0)
 
 returns : tie.Need-returns

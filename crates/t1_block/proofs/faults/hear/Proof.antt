@@ -11,7 +11,8 @@ use Rattle.t1_block.proofs.faults.hear.Statement.{statement}
 use Rattle.t1_block.proofs.faults.hear.Tie as tie
 
 -- the code that was found
-found : (c : tie.After-code-of) → c .code-of .result ≡ codeOf (faultOf (c .before .before .before .args .block .now) (c .before .before .before .args .most))
+found : (c : tie.After-code-of)
+    → c .code-of .result ≡ codeOf (faultOf (c .before .before .before .args .block .now) (c .before .before .before .args .most))
 found c = c .code-of .ensures ∙ ap codeOf (c .before .fault-of .ensures)
 
 returns : tie.Need-returns

@@ -33,7 +33,8 @@ returns-2 c =
     in (
       sym (ap length whole ∙ framed-length (a .pcb) (a .inf .now)),
       c .lay3 .ensures
-          ∙ (ap (λ (x : ℕ). laid (x ∷ []) (3 + length (a .inf .now)) (second .lay2 .last .0)) (c .before .before .before .lrc .ensures ∙ ap lrcOf over)
+          ∙ (ap (λ (x : ℕ). laid (x ∷ []) (3 + length (a .inf .now)) (second .lay2 .last .0))
+          (c .before .before .before .lrc .ensures ∙ ap lrcOf over)
           ∙ (ap (laid (lrcOf (bodyOf (a .pcb) (a .inf .now)) ∷ []) (3 + length (a .inf .now))) laid-two
           ∙ (with-lrc (a .pcb) (a .inf .now) (a .out .now) fits ∙ sym (ap (λ (x : List ℕ). laid x 0 (a .out .now)) whole)))),
     )

@@ -22,7 +22,8 @@ returns c =
     (c .ready-for .ensures
     ∙ ap (readyFor 0)
     (c .before .at-phase .ensures
-    ∙ ap (atPhase Receiving) (c .before .before .with-received .ensures ∙ ap (withReceived (a .s .received + a .n)) (toggled .with-numbers .ensures))))
+    ∙ ap (atPhase Receiving) (c .before .before .with-received .ensures ∙ ap (withReceived (a .s .received + a .n))
+    (toggled .with-numbers .ensures))))
     ∙ sym (pick-yes _ _ _ (tested .if1 .taken))
 
 returns-2 : tie.Need-returns-2

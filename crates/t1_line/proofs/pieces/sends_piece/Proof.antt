@@ -16,7 +16,8 @@ returns c =
     c .sends .ensures
     ∙ ap (λ (x : State). sending Information (record { information = 1; same = a .s .counts .same }) x)
     (c .before .at-phase .ensures
-    ∙ ap (atPhase Sent) (c .before .before .with-message .ensures ∙ ap (withMessage (a .m)) (c .before .before .before .with-numbers .ensures)))
+    ∙ ap (atPhase Sent) (c .before .before .with-message .ensures ∙ ap (withMessage (a .m))
+    (c .before .before .before .with-numbers .ensures)))
 
 pub sends-piece-spec : {M : Type 1} → statement M
 sends-piece-spec =

@@ -12,7 +12,8 @@ returns : tie.Need-returns
 unfolding asksFor
 returns c =
     let a = c .before .before .before .args in
-    c .sends .ensures ∙ ap (λ (x : State). sending (Request (a .w) (a .v)) (record { information = a .s .counts .information; same = 1 }) x) (c .before .at-phase .ensures)
+    c .sends .ensures ∙ ap (λ (x : State). sending (Request (a .w) (a .v))
+    (record { information = a .s .counts .information; same = 1 }) x) (c .before .at-phase .ensures)
 
 pub asks-for-spec : {M : Type 1} → statement M
 asks-for-spec =

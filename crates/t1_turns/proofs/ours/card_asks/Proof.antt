@@ -11,7 +11,8 @@ returns : tie.Need-returns
 unfolding cardAsks
 returns c =
     let tested = c .before .before in
-    c .goes-out .ensures ∙ (ap goesOut (c .before .asks-for .ensures) ∙ sym (pick-yes _ _ _ (sym (tested .before .may-ask .ensures) ∙ tested .if1 .taken)))
+    c .goes-out .ensures ∙ (ap goesOut (c .before .asks-for .ensures) ∙ sym
+    (pick-yes _ _ _ (sym (tested .before .may-ask .ensures) ∙ tested .if1 .taken)))
 
 returns-2 : tie.Need-returns-2
 unfolding cardAsks

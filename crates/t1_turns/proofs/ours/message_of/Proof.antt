@@ -14,7 +14,8 @@ returns : tie.Need-returns
 unfolding messageOf zeros
 returns c =
     let a = c .before .before .before .before .before .args in
-    c .piece-at .ensures ∙ ap (λ (x : List ℕ). pieceAt (a .theirs) 0 (record { bytes = x; length = length (a .m .now); at = 0; size = 0 })) (c .before .before .lay .ensures)
+    c .piece-at .ensures ∙ ap (λ (x : List ℕ). pieceAt (a .theirs) 0
+    (record { bytes = x; length = length (a .m .now); at = 0; size = 0 })) (c .before .before .lay .ensures)
 
 pub message-of-spec : {M : Type 1} → statement M
 message-of-spec =

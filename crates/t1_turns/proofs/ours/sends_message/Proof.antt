@@ -20,7 +20,9 @@ returns c =
     let second = c .before .before .before in
     let first = second .before in
     let a = first .before .before .before .args in
-    c .goes-out .ensures ∙ (ap goesOut (c .before .sends-piece .ensures ∙ ap (λ (x : Message). sendsPiece x (a .s)) (c .before .before .message-of .ensures)) ∙ sym (pick-yes _ _ _ (held refl _ (le-leb _ _ (first .if1 .taken)) ∙ (last refl ∙ le-leb _ _ (second .if2 .taken)))))
+    c .goes-out .ensures ∙ (ap goesOut
+    (c .before .sends-piece .ensures ∙ ap (λ (x : Message). sendsPiece x (a .s)) (c .before .before .message-of .ensures)) ∙ sym
+    (pick-yes _ _ _ (held refl _ (le-leb _ _ (first .if1 .taken)) ∙ (last refl ∙ le-leb _ _ (second .if2 .taken)))))
 
 returns-2 : tie.Need-returns-2
 unfolding sendsMessage between
