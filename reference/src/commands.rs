@@ -6,6 +6,7 @@ use crate::judge::Judgement;
 use crate::kernel::{Event, Reply, Session, LONGEST_COMMAND};
 use crate::lists::{fill, Known};
 use crate::objects;
+use crate::recover::{recover, Found};
 use crate::reset::{self, Reset};
 use crate::t0;
 use crate::tape::{self, Entry, Writer, BLOCK, MOST_BLOCKS};
@@ -60,6 +61,25 @@ pub fn judge_tapes(files: &[String]) -> Outcome {
         let judgement = File::open(path).and_then(judge_from).map_err(failed(file))?;
         writeln!(out, "{name} {judgement}").map_err(failed("standard output"))?;
     }
+    Ok(())
+}
+
+/// What is left of a damaged tape: a line for each good block, and the tail.
+pub fn recover_tape(file: Option<&str>) -> Outcome {
+    let bytes = match file {
+        Some(path) => std::fs::read(path).map_err(failed(path))?,
+        None => {
+            let mut bytes = Vec::new();
+            io::stdin().lock().read_to_end(&mut bytes).map_err(failed("standard input"))?;
+            bytes
+        }
+    };
+    let remains = recover(&bytes);
+    for block in &remains.blocks {
+        let Found { step, number, session, kind, length } = block;
+        println!("BLOCK {step} {number} {session} {kind} {length}");
+    }
+    println!("TAIL {}", remains.tail);
     Ok(())
 }
 

@@ -14,6 +14,7 @@ mod lists;
 mod make;
 mod objects;
 mod random;
+mod recover;
 mod reset;
 mod t0;
 mod tape;
@@ -39,7 +40,10 @@ const USAGE: &str = "usage:
   reference check-atr FILE
   reference t0 [handed]
   reference make-t0 COUNT SEED
-  reference check-t0 FILE";
+  reference check-t0 FILE
+  reference recover [FILE]
+  reference make-recover COUNT SEED
+  reference check-recover FILE";
 
 /// Takes `--name VALUE` out of the arguments.
 fn option(arguments: &mut Vec<String>, name: &str) -> Result<Option<String>, String> {
@@ -105,6 +109,13 @@ fn run(mut arguments: Vec<String>) -> Outcome {
             Ok(())
         }
         ("check-t0", [file]) => vectors::check_exchanges(file),
+        ("recover", []) => commands::recover_tape(None),
+        ("recover", [file]) => commands::recover_tape(Some(file)),
+        ("make-recover", [count, seed]) => {
+            make::make_remains(number(count)?, number(seed)?);
+            Ok(())
+        }
+        ("check-recover", [file]) => vectors::check_remains(file),
         _ => Err(USAGE.to_string()),
     }
 }

@@ -10,6 +10,7 @@ mod faults;
 mod long;
 mod nodes;
 mod plan;
+mod remains;
 mod resets;
 mod scenarios;
 mod start;
@@ -17,6 +18,7 @@ mod tweaks;
 
 pub use calls::make_calls;
 pub use exchanges::make_exchanges;
+pub use remains::make_remains;
 pub use resets::make_resets;
 
 use crate::judge::judge;

@@ -108,7 +108,7 @@ impl Writer {
     }
 }
 
-fn word(bytes: &[u8]) -> u32 {
+pub fn word(bytes: &[u8]) -> u32 {
     bytes.iter().fold(0, |n, &b| n << 8 | u32::from(b))
 }
 
@@ -131,7 +131,7 @@ pub fn read(tape: &[u8]) -> Result<Vec<Entry<'_>>, Unreadable> {
 
 /// The entry of one block, or the lowest code from 3 to 9 that applies.
 pub fn read_block<'a>(block: &'a [u8], place: usize, session: &[u8]) -> Result<Entry<'a>, u8> {
-    if word(&block[CHECK_AT..]) != crc32(&block[..CHECK_AT]) {
+    if !check_holds(block) {
         return Err(3);
     }
     if word(&block[0..4]) as usize != place {
@@ -140,6 +140,16 @@ pub fn read_block<'a>(block: &'a [u8], place: usize, session: &[u8]) -> Result<E
     if block[4..8] != *session {
         return Err(5);
     }
+    read_shape(block)
+}
+
+/// Whether the check of a block is what its other bytes demand.
+pub fn check_holds(block: &[u8]) -> bool {
+    word(&block[CHECK_AT..]) == crc32(&block[..CHECK_AT])
+}
+
+/// The entry of a block by itself, or the lowest code from 6 to 9 that applies.
+pub fn read_shape(block: &[u8]) -> Result<Entry<'_>, u8> {
     let kind = block[8];
     if !(START..=DECISION).contains(&kind) {
         return Err(6);

@@ -4,6 +4,7 @@
 use crate::commands::Outcome;
 use crate::hex;
 use crate::json::{self, Value};
+use crate::recover::{recover, said_of};
 use crate::reset::{self, Reset};
 use crate::t0::{Exchange, Step, Wait};
 
@@ -142,5 +143,33 @@ pub fn check_exchanges(path: &str) -> Outcome {
         let capture = bytes_at(value, "capture")?;
         let wanted = exchange_wanted(value.get("expect")?)?;
         Some((wanted, exchange_got(&command, &capture)))
+    })
+}
+
+/// A list of numbers, as text.
+fn numbers(value: &Value) -> Option<Vec<u64>> {
+    value.array()?.iter().map(Value::number).collect()
+}
+
+/// What a vector of R-9 says of its bytes.
+fn remains_wanted(value: &Value) -> Option<String> {
+    let blocks: Option<Vec<_>> = value.get("blocks")?.array()?.iter().map(numbers).collect();
+    let (tail, line) = (number_at(value, "tail")?, value.get("judge")?.text()?);
+    Some(format!("\"blocks\": {:?}, \"tail\": {tail}, \"judge\": \"{line}\"", blocks?))
+}
+
+/// Vectors of damaged tapes (02, R-9). Where blocks were overwritten, those
+/// that were not must be exactly the ones listed.
+pub fn check_remains(path: &str) -> Outcome {
+    check(path, |value| {
+        let bytes = bytes_at(value, "bytes")?;
+        let mut wanted = remains_wanted(value)?;
+        let mut got = said_of(&bytes);
+        if value.get("premise")?.truth()? {
+            let steps: Vec<usize> = recover(&bytes).blocks.iter().map(|b| b.step).collect();
+            wanted += &format!(" {:?}", numbers(value.get("untouched")?)?);
+            got += &format!(" {steps:?}");
+        }
+        Some((wanted, got))
     })
 }

@@ -49,7 +49,7 @@ fn set_length(block: &mut [u8], length: usize) {
 }
 
 /// A byte behind the payload: the first, the last or any.
-fn behind_payload(block: &mut [u8], r: &mut Random) {
+pub fn behind_payload(block: &mut [u8], r: &mut Random) {
     let length = usize::from(block[10]) * 256 + usize::from(block[11]);
     let first = 12 + length.min(496);
     if first < 508 {
@@ -59,7 +59,7 @@ fn behind_payload(block: &mut [u8], r: &mut Random) {
 }
 
 /// One change for each of the codes 4 to 9.
-fn break_block(code: usize, block: &mut [u8], r: &mut Random) {
+pub fn break_block(code: usize, block: &mut [u8], r: &mut Random) {
     match code {
         4 => block[r.below(4)] ^= 1 << r.below(8),
         5 => block[4 + r.below(4)] ^= 1 << r.below(8),
