@@ -2,6 +2,7 @@
 
 mod answer_lines;
 mod answers;
+mod book;
 mod calls;
 mod commands;
 mod decide;
@@ -15,6 +16,7 @@ mod make;
 mod objects;
 mod random;
 mod recover;
+mod reopening;
 mod reset;
 mod t0;
 mod tape;
@@ -43,7 +45,9 @@ const USAGE: &str = "usage:
   reference check-t0 FILE
   reference recover [FILE]
   reference make-recover COUNT SEED
-  reference check-recover FILE";
+  reference check-recover FILE
+  reference make-book COUNT SEED
+  reference check-book FILE";
 
 /// Takes `--name VALUE` out of the arguments.
 fn option(arguments: &mut Vec<String>, name: &str) -> Result<Option<String>, String> {
@@ -116,6 +120,11 @@ fn run(mut arguments: Vec<String>) -> Outcome {
             Ok(())
         }
         ("check-recover", [file]) => vectors::check_remains(file),
+        ("make-book", [count, seed]) => {
+            make::make_books(number(count)?, number(seed)?);
+            Ok(())
+        }
+        ("check-book", [file]) => vectors::check_books(file),
         _ => Err(USAGE.to_string()),
     }
 }

@@ -1,6 +1,7 @@
 //! The generator: tapes and call sequences, with the answers of this program.
 
 mod asked;
+mod books;
 mod calls;
 mod card;
 mod damage;
@@ -16,6 +17,7 @@ mod scenarios;
 mod start;
 mod tweaks;
 
+pub use books::make_books;
 pub use calls::make_calls;
 pub use exchanges::make_exchanges;
 pub use remains::make_remains;

@@ -1,6 +1,10 @@
 //! Files of vectors made elsewhere, one JSON object a line, held against this
 //! program.
 
+mod book;
+
+pub use book::check_books;
+
 use crate::commands::Outcome;
 use crate::hex;
 use crate::json::{self, Value};
