@@ -19,6 +19,8 @@ mod recover;
 mod reopening;
 mod reset;
 mod t0;
+mod t1;
+mod t1_lines;
 mod tape;
 mod terminal;
 mod vectors;
@@ -47,7 +49,9 @@ const USAGE: &str = "usage:
   reference make-recover COUNT SEED
   reference check-recover FILE
   reference make-book COUNT SEED
-  reference check-book FILE";
+  reference check-book FILE
+  reference make-t1 COUNT SEED
+  reference check-t1 FILE";
 
 /// Takes `--name VALUE` out of the arguments.
 fn option(arguments: &mut Vec<String>, name: &str) -> Result<Option<String>, String> {
@@ -125,6 +129,11 @@ fn run(mut arguments: Vec<String>) -> Outcome {
             Ok(())
         }
         ("check-book", [file]) => vectors::check_books(file),
+        ("make-t1", [count, seed]) => {
+            make::make_blocks(number(count)?, number(seed)?);
+            Ok(())
+        }
+        ("check-t1", [file]) => vectors::check_blocks(file),
         _ => Err(USAGE.to_string()),
     }
 }

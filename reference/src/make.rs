@@ -1,6 +1,7 @@
 //! The generator: tapes and call sequences, with the answers of this program.
 
 mod asked;
+mod blocks;
 mod books;
 mod calls;
 mod card;
@@ -17,6 +18,7 @@ mod scenarios;
 mod start;
 mod tweaks;
 
+pub use blocks::make_blocks;
 pub use books::make_books;
 pub use calls::make_calls;
 pub use exchanges::make_exchanges;

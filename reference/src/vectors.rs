@@ -2,8 +2,10 @@
 //! program.
 
 mod book;
+mod t1;
 
 pub use book::check_books;
+pub use t1::check_blocks;
 
 use crate::commands::Outcome;
 use crate::hex;
