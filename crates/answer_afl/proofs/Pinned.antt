@@ -42,12 +42,16 @@ unfolding entriesRight entries firstEntry every pick between fileRight entryRigh
 judged = refl
 
 -- how many records, and whether that is too many
-counts : map recordCount ((0x08 ∷ 1 ∷ 3 ∷ 1 ∷ []) ∷ (0x08 ∷ 1 ∷ 0x3A ∷ 0 ∷ []) ∷ (0x08 ∷ 1 ∷ 0xFF ∷ 0 ∷ []) ∷ (0x08 ∷ 1 ∷ 0xFA ∷ 0 ∷ 0x10 ∷ 1 ∷ 0xFB ∷ 0 ∷ []) ∷ [] ∷ []) ≡ 3 ∷ 58 ∷ 255 ∷ 501 ∷ 0 ∷ []
+counts : map recordCount
+    ((0x08 ∷ 1 ∷ 3 ∷ 1 ∷ []) ∷ (0x08 ∷ 1 ∷ 0x3A ∷ 0 ∷ []) ∷ (0x08 ∷ 1 ∷ 0xFF ∷ 0 ∷ []) ∷ (0x08 ∷ 1 ∷ 0xFA ∷ 0 ∷ 0x10 ∷ 1 ∷ 0xFB ∷ 0 ∷ [])
+    ∷ [] ∷ []) ≡ 3 ∷ 58 ∷ 255 ∷ 501 ∷ 0 ∷ []
 unfolding recordCount recordsOf entries firstEntry records
 counts = refl
 
 -- (02, R-8: 500; a number is one byte, so that a file has at most 255)
-limit : map tooMany ((0x08 ∷ 1 ∷ 0x3B ∷ 0 ∷ []) ∷ (0x08 ∷ 1 ∷ 0xFF ∷ 0 ∷ []) ∷ (0x08 ∷ 1 ∷ 0xFA ∷ 0 ∷ 0x10 ∷ 1 ∷ 0xFA ∷ 0 ∷ []) ∷ (0x08 ∷ 1 ∷ 0xFA ∷ 0 ∷ 0x10 ∷ 1 ∷ 0xFB ∷ 0 ∷ []) ∷ [] ∷ [])
+limit : map tooMany
+    ((0x08 ∷ 1 ∷ 0x3B ∷ 0 ∷ []) ∷ (0x08 ∷ 1 ∷ 0xFF ∷ 0 ∷ []) ∷ (0x08 ∷ 1 ∷ 0xFA ∷ 0 ∷ 0x10 ∷ 1 ∷ 0xFA ∷ 0 ∷ [])
+    ∷ (0x08 ∷ 1 ∷ 0xFA ∷ 0 ∷ 0x10 ∷ 1 ∷ 0xFB ∷ 0 ∷ []) ∷ [] ∷ [])
     ≡ false ∷ false ∷ false ∷ true ∷ false ∷ []
 unfolding tooMany recordCount recordsOf entries firstEntry records
 limit = refl

@@ -30,7 +30,8 @@ fn from_entry(locator: &[u8], k: usize) -> &[u8]
 
 // Whether a record stands at the cursor.
 pub fn is_left(locator: &[u8], c: Cursor) -> bool
-    ensures { λ r. ⌜ (r ≡ isLeft (now (locator .entry)) c) × (r ≡ true → (c .done < 256) × (entryAt (now (locator .entry)) c .first + c .done < 256)) ⌝ }
+    ensures { λ r. ⌜ (r ≡ isLeft (now (locator .entry)) c)
+        × (r ≡ true → (c .done < 256) × (entryAt (now (locator .entry)) c .first + c .done < 256)) ⌝ }
 {
     let s = from_entry(locator, c.entry);
     4 <= s.len() && c.done < records(s)

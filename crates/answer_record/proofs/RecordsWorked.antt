@@ -32,8 +32,11 @@ expiry = two 0x5F 0x24 (0x26 ∷ 0x12 ∷ 0x31 ∷ [])
 
 -- what stands in 70, and the reason
 abbrev rows : List (List (List ℕ) × ℕ)
-rows =
-    (number ∷ expiry ∷ two 0x5F 0x25 (0x20 ∷ 0x01 ∷ 0x01 ∷ []) ∷ two 0x9F 0x08 (0x00 ∷ 0x02 ∷ []) ∷ one 0x8C [] ∷ one 0x8D (0x00 ∷ []) ∷ two 0x9F 0x0D (replicate 5 0) ∷ two 0x9F 0x0E (replicate 5 0) ∷ two 0x9F 0x0F (replicate 5 0) ∷ [], 0)
+rows = (
+  number ∷ expiry ∷ two 0x5F 0x25 (0x20 ∷ 0x01 ∷ 0x01 ∷ []) ∷ two 0x9F 0x08 (0x00 ∷ 0x02 ∷ []) ∷ one 0x8C [] ∷ one 0x8D
+      (0x00 ∷ []) ∷ two 0x9F 0x0D (replicate 5 0) ∷ two 0x9F 0x0E (replicate 5 0) ∷ two 0x9F 0x0F (replicate 5 0) ∷ [],
+  0,
+)
     ∷ ([], 0)
     ∷ (one 0x57 [] ∷ one 0x57 [] ∷ one 0x72 (number ++ number) ∷ [], 0)
     -- twice in one record
@@ -58,15 +61,20 @@ judged = refl
 
 -- a record with all nine names
 abbrev full : List ℕ
-full = number ++ expiry ++ two 0x5F 0x25 (0x20 ∷ 0x01 ∷ 0x01 ∷ []) ++ two 0x9F 0x08 (0x00 ∷ 0x02 ∷ []) ++ one 0x8C [] ++ one 0x8D [] ++ two 0x9F 0x0D (replicate 5 0) ++ two 0x9F 0x0E (replicate 5 0) ++ two 0x9F 0x0F (replicate 5 0)
+full = number ++ expiry ++ two 0x5F 0x25 (0x20 ∷ 0x01 ∷ 0x01 ∷ []) ++ two 0x9F 0x08
+    (0x00 ∷ 0x02 ∷ []) ++ one 0x8C [] ++ one 0x8D [] ++ two 0x9F 0x0D (replicate 5 0) ++ two 0x9F 0x0E (replicate 5 0) ++ two 0x9F 0x0F
+    (replicate 5 0)
 
 -- each of them told by an earlier record; nothing told, or another name; a name told, and not there again
-told-again : (map (λ name. judge (eqb name) (good (one 0x70 full))) recordNames ≡ replicate 9 4) × (judge nothing (good (one 0x70 full)) ≡ 0) × (judge (eqb 0x57) (good (one 0x70 full)) ≡ 0) × (judge (eqb 0x5A) (good (one 0x70 expiry)) ≡ 0)
+told-again : (map (λ name. judge (eqb name) (good (one 0x70 full))) recordNames ≡ replicate 9 4)
+    × (judge nothing (good (one 0x70 full)) ≡ 0) × (judge (eqb 0x57) (good (one 0x70 full)) ≡ 0)
+    × (judge (eqb 0x5A) (good (one 0x70 expiry)) ≡ 0)
 unfolding judge nothing
 told-again = (refl, refl, refl, refl)
 
 -- another object; told before and wrong
-others : (judge nothing (good (one 0x77 number)) ≡ 3) × (judge (eqb 0x5A) (good (one 0x70 (one 0x5A []))) ≡ 4) × (judge (eqb 0x5A) (one 0x70 number ++ (0x90 ∷ 0x01 ∷ [])) ≡ 2)
+others : (judge nothing (good (one 0x77 number)) ≡ 3) × (judge (eqb 0x5A) (good (one 0x70 (one 0x5A []))) ≡ 4)
+    × (judge (eqb 0x5A) (one 0x70 number ++ (0x90 ∷ 0x01 ∷ [])) ≡ 2)
 unfolding judge
 others = (refl, refl, refl)
 
@@ -74,7 +82,8 @@ read : ℕ → List ℕ → Option (List ℕ)
 unfolding judge valueIn
 read name a = valueIn name a
 
-values : (read 0x5A (good (one 0x70 (expiry ++ number))) ≡ some (0x12 ∷ 0x3F ∷ [])) × (read 0x8C (good (one 0x70 number)) ≡ none) × (read 0x8C (good (one 0x70 (one 0x8C []))) ≡ some [])
+values : (read 0x5A (good (one 0x70 (expiry ++ number))) ≡ some (0x12 ∷ 0x3F ∷ [])) × (read 0x8C (good (one 0x70 number)) ≡ none)
+    × (read 0x8C (good (one 0x70 (one 0x8C []))) ≡ some [])
 unfolding read
 values = (refl, refl, refl)
 

@@ -71,7 +71,8 @@ unfolding judge
 judged = refl
 
 -- another object, and another status
-elsewhere : (judge (good (one 0x70 (name [] ++ a5))) ≡ 3) × (judge (one 0x6F (name [] ++ a5) ++ (0x62 ∷ 0x83 ∷ [])) ≡ 2) × (judge (0x90 ∷ []) ≡ 1)
+elsewhere : (judge (good (one 0x70 (name [] ++ a5))) ≡ 3) × (judge (one 0x6F (name [] ++ a5) ++ (0x62 ∷ 0x83 ∷ [])) ≡ 2)
+    × (judge (0x90 ∷ []) ≡ 1)
 unfolding judge
 elsewhere = (refl, refl, refl)
 
@@ -79,6 +80,7 @@ told : List ℕ → List ℕ
 unfolding judge
 told a = pdolOf a
 
-lists : (told (good (one 0x6F (name [] ++ one 0xA5 (one 0x50 [] ++ pdol (0x9F ∷ 0x02 ∷ 0x06 ∷ []))))) ≡ 0x9F ∷ 0x02 ∷ 0x06 ∷ []) × (told (good (one 0x6F (name [] ++ a5))) ≡ [])
+lists : (told (good (one 0x6F (name [] ++ one 0xA5 (one 0x50 [] ++ pdol (0x9F ∷ 0x02 ∷ 0x06 ∷ []))))) ≡ 0x9F ∷ 0x02 ∷ 0x06 ∷ [])
+    × (told (good (one 0x6F (name [] ++ a5))) ≡ [])
 unfolding told
 lists = (refl, refl)

@@ -74,7 +74,8 @@ module _ (n : ℕ) (e : Entry) where
   -- a block holds its entry
   pub entry-back : Fitting e → entryIn (block n e) ≡ e
   unfolding entryIn
-  entry-back f = λ i. record { tape = tape-in (f .tape) i; verdict = verdict-in i; place = place-in (f .place) i; code = code-in (f .code) i }
+  entry-back f =
+      λ i. record { tape = tape-in (f .tape) i; verdict = verdict-in i; place = place-in (f .place) i; code = code-in (f .code) i }
 
   spare-zero : take 3 (drop 9 (block n e)) ≡ zeros 3
   unfolding block body head bytesOf zeros
@@ -116,7 +117,8 @@ module _ (n : ℕ) (e : Entry) where
         bytes-append (head n e) (zeros padding)
         (bytes-append (bytesOf 4 n) _ (bytes-are 4 n)
         (bytes-append (bytesOf 4 (e .tape)) _ (bytes-are 4 (e .tape))
-        (bytes-cons (e .verdict) (0 ∷ 0 ∷ 0 ∷ (bytesOf 4 (e .place) ++ bytesOf 4 (e .code))) (omega (arith, verdict-most (e .verdict) verdict))
+        (bytes-cons (e .verdict) (0 ∷ 0 ∷ 0 ∷ (bytesOf 4 (e .place) ++ bytesOf 4 (e .code)))
+        (omega (arith, verdict-most (e .verdict) verdict))
         (bytes-append (bytesOf 4 (e .place)) (bytesOf 4 (e .code)) (bytes-are 4 (e .place)) (bytes-are 4 (e .code))))))
         (zeros-bytes padding)
 

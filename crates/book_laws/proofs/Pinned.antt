@@ -30,6 +30,7 @@ unfolding replyTo entered isVerdict pick
 limits = (refl, refl, refl, refl)
 
 -- the order: no verdict before already entered, and that before full
-pub order : (replyTo (made 7 1 0 0 ∷ []) 4096 0 (made 7 5 0 0) ≡ NoVerdict) × (replyTo (made 7 1 0 0 ∷ []) 4096 0 (made 7 2 0 0) ≡ AlreadyEntered)
+pub order : (replyTo (made 7 1 0 0 ∷ []) 4096 0 (made 7 5 0 0) ≡ NoVerdict)
+    × (replyTo (made 7 1 0 0 ∷ []) 4096 0 (made 7 2 0 0) ≡ AlreadyEntered)
 unfolding replyTo entered isVerdict pick
 order = (refl, refl)

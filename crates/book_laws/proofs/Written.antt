@@ -97,7 +97,8 @@ tape-of b = refl
 written-fine : (done : List Entry) (e : Entry) → Fit done e → length done < 2 ^ 32 → faultAfter done (block (length done) e) ≡ 0
 unfolding entryIn
 written-fine done e f h =
-    let tape : tapeIn (block (length done) e) ≡ e .tape = ap (λ (x : Entry). x .tape) (entry-back (length done) e (fitting e (f .numbers))) in
+    let tape : tapeIn (block (length done) e) ≡ e .tape =
+    ap (λ (x : Entry). x .tape) (entry-back (length done) e (fitting e (f .numbers))) in
     no-fault done (block (length done) e) (block-fine (length done) e (f .verdict) h) (ap (λ (k : ℕ). entered k done) tape ∙ f .first)
 
 -- what was written reads back, after the entries before it
@@ -114,7 +115,8 @@ reads-written done (e ∷ es) h most =
     let fine : faultAfter done (block n e) ≡ 0 = written-fine done e (h .0) (omega arith) in
     ap₂ (λ (b t : List ℕ). readOn done (b ∷ cut (length es) t)) front back
     ∙ (pick-yes _ _ _ (eq-eqb _ _ fine)
-    ∙ (ap₂ (λ (d : Entry) (k : ℕ). readOn (done ++ (d ∷ [])) (cut (length es) (written k es))) (entry-back n e (fitting e (h .0 .numbers))) next
+    ∙ (ap₂ (λ (d : Entry) (k : ℕ). readOn (done ++ (d ∷ [])) (cut (length es) (written k es)))
+    (entry-back n e (fitting e (h .0 .numbers))) next
     ∙ (reads-written (done ++ (e ∷ [])) es (h .1) (omega arith) ∙ ap good (append-assoc done (e ∷ []) es))))
 
 -- bytes in whole blocks that read as entries: those before, and the ones that were written
@@ -135,7 +137,8 @@ good-same es fs p = cc
 -- one block, where what follows is known
 block-wrote : (n : ℕ) (done : List Entry) (t : List ℕ) (es : List Entry) → areBytes t ≡ true → blockSize ≤ length t
     → readOn done (cut (suc n) t) ≡ good es
-    → ((e : Entry) → readOn (done ++ (e ∷ [])) (cut n (drop blockSize t)) ≡ good es → Wrote (done ++ (e ∷ [])) (drop blockSize t) es) → Wrote done t es
+    → ((e : Entry) → readOn (done ++ (e ∷ [])) (cut n (drop blockSize t)) ≡ good es → Wrote (done ++ (e ∷ [])) (drop blockSize t) es)
+    → Wrote done t es
 unfolding written cut readOn Holds
 block-wrote n done t es bytes more r rest = go (ℕ-discrete (faultAfter done (take blockSize t)) 0)
   where

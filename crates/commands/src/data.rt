@@ -25,7 +25,9 @@ pub fn data_size(list: &[u8]) -> usize
 // The list filled from a place on, and '00' after it.
 pub fn lay_data(list: &[u8], start: &[u8], known: &[u8], buf: &mut [u8], at: usize)
     requires { ⌜ at + (dataSize (now list) + 1) ≤ length (now buf) ⌝ }
-    ensures { λ _. ⌜ now (buf .exit) ≡ put (filling (readingOf (now (start .entry))) (toldIn (now (known .entry))) (now (list .entry)) ++ (0 ∷ [])) at (now (buf .entry)) ⌝ }
+    ensures { λ _. ⌜ now (buf .exit)
+        ≡ put (filling (readingOf (now (start .entry))) (toldIn (now (known .entry))) (now (list .entry)) ++ (0 ∷ [])) at
+        (now (buf .entry)) ⌝ }
 {
     let end = at + data_size(list);
     fill(list, start, known, buf, at);

@@ -31,8 +31,12 @@ pub fn select(start: &[u8], buf: &mut [u8]) -> usize
 }
 
 pub fn options(list: &[u8], start: &[u8], known: &[u8], buf: &mut [u8]) -> usize
-    ensures size { λ r. ⌜ r ≡ sizeIn (length (now (buf .entry))) (optionsCommand (filling (readingOf (now (start .entry))) (toldIn (now (known .entry))) (now (list .entry)))) ⌝ }
-    ensures buffer { λ _. ⌜ now (buf .exit) ≡ laid (optionsCommand (filling (readingOf (now (start .entry))) (toldIn (now (known .entry))) (now (list .entry)))) 0 (now (buf .entry)) ⌝ }
+    ensures size { λ r. ⌜ r
+        ≡ sizeIn (length (now (buf .entry)))
+        (optionsCommand (filling (readingOf (now (start .entry))) (toldIn (now (known .entry))) (now (list .entry)))) ⌝ }
+    ensures buffer { λ _. ⌜ now (buf .exit)
+        ≡ laid (optionsCommand (filling (readingOf (now (start .entry))) (toldIn (now (known .entry))) (now (list .entry)))) 0
+        (now (buf .entry)) ⌝ }
 {
     let n = data_size(list);
     if n < 0x80 {
@@ -67,8 +71,12 @@ pub fn record(number: u8, file: u8, buf: &mut [u8]) -> usize
 }
 
 pub fn cryptogram(request: u8, list: &[u8], start: &[u8], known: &[u8], buf: &mut [u8]) -> usize
-    ensures size { λ r. ⌜ r ≡ sizeIn (length (now (buf .entry))) (cryptogramCommand request (filling (readingOf (now (start .entry))) (toldIn (now (known .entry))) (now (list .entry)))) ⌝ }
-    ensures buffer { λ _. ⌜ now (buf .exit) ≡ laid (cryptogramCommand request (filling (readingOf (now (start .entry))) (toldIn (now (known .entry))) (now (list .entry)))) 0 (now (buf .entry)) ⌝ }
+    ensures size { λ r. ⌜ r
+        ≡ sizeIn (length (now (buf .entry)))
+        (cryptogramCommand request (filling (readingOf (now (start .entry))) (toldIn (now (known .entry))) (now (list .entry)))) ⌝ }
+    ensures buffer { λ _. ⌜ now (buf .exit)
+        ≡ laid (cryptogramCommand request (filling (readingOf (now (start .entry))) (toldIn (now (known .entry))) (now (list .entry)))) 0
+        (now (buf .entry)) ⌝ }
 {
     let n = data_size(list);
     if n == 0 {

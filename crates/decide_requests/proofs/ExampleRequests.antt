@@ -55,7 +55,8 @@ firsts =
     -- ones find nothing in a TVR of zeros
     ∷ (plain 0, no-codes, none-set, Tc) ∷ (plain 2, no-codes, none-set, Tc)
     -- a denial match gives AAC for every type, be it the issuer's code or the terminal's
-    ∷ (plain 0, codes (some first-bit) none none, first-bit, Aac) ∷ (plain 1, codes (some first-bit) none none, first-bit, Aac) ∷ (plain 2, codes (some first-bit) none none, first-bit, Aac)
+    ∷ (plain 0, codes (some first-bit) none none, first-bit, Aac) ∷ (plain 1, codes (some first-bit) none none, first-bit, Aac)
+    ∷ (plain 2, codes (some first-bit) none none, first-bit, Aac)
     ∷ (bare 1 first-bit none-set none-set, zero-codes, first-bit, Aac) ∷ (bare 2 first-bit none-set none-set, zero-codes, first-bit, Aac)
     -- type 0 looks at the default codes, type 2 at the online codes
     ∷ (bare 0 none-set first-bit none-set, zero-codes, first-bit, Tc) ∷ (bare 0 none-set none-set first-bit, zero-codes, first-bit, Aac)
@@ -75,7 +76,8 @@ seconds =
     ∷ (Unable, plain 1, zero-codes, first-bit, Aac) ∷ (Unable, plain 1, zero-codes, none-set, Aac)
     ∷ (Unable, plain 0, zero-codes, first-bit, Tc) ∷ (Unable, plain 0, no-codes, first-bit, Aac)
     ∷ (Unable, plain 2, zero-codes, first-bit, Tc) ∷ (Unable, plain 2, no-codes, first-bit, Aac)
-    ∷ (Unable, bare 2 none-set first-bit none-set, zero-codes, first-bit, Tc) ∷ (Unable, bare 2 none-set none-set first-bit, zero-codes, first-bit, Aac)
+    ∷ (Unable, bare 2 none-set first-bit none-set, zero-codes, first-bit, Tc)
+    ∷ (Unable, bare 2 none-set none-set first-bit, zero-codes, first-bit, Aac)
     ∷ []
 
 seconds-right : map (λ row. secondRequest (row .0) (row .1) (row .2) (row .3)) seconds ≡ map (λ row. row .4) seconds
@@ -88,7 +90,8 @@ p1s = refl
 -- ---- answers
 
 -- the top two bits count, and the other six are free
-givens : map givenBy (0x00 ∷ 0x3F ∷ 0x40 ∷ 0x7F ∷ 0x80 ∷ 0xBF ∷ 0xC0 ∷ 0xFF ∷ []) ≡ Of Aac ∷ Of Aac ∷ Of Tc ∷ Of Tc ∷ Of Arqc ∷ Of Arqc ∷ Reserved ∷ Reserved ∷ []
+givens : map givenBy (0x00 ∷ 0x3F ∷ 0x40 ∷ 0x7F ∷ 0x80 ∷ 0xBF ∷ 0xC0 ∷ 0xFF ∷ [])
+    ≡ Of Aac ∷ Of Aac ∷ Of Tc ∷ Of Tc ∷ Of Arqc ∷ Of Arqc ∷ Reserved ∷ Reserved ∷ []
 unfolding givenBy pick
 givens = refl
 
@@ -103,7 +106,8 @@ first-answers : map (λ asked. answers (firstAllowed asked)) (Tc ∷ Arqc ∷ Aa
     ∷ []
 first-answers = refl
 
-second-answers : map (λ asked. answers (secondAllowed asked)) (Tc ∷ Aac ∷ []) ≡ (true ∷ false ∷ true ∷ false ∷ []) ∷ (false ∷ false ∷ true ∷ false ∷ []) ∷ []
+second-answers : map (λ asked. answers (secondAllowed asked)) (Tc ∷ Aac ∷ [])
+    ≡ (true ∷ false ∷ true ∷ false ∷ []) ∷ (false ∷ false ∷ true ∷ false ∷ []) ∷ []
 second-answers = refl
 
 -- ---- the issuer's reply

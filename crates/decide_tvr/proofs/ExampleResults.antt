@@ -102,7 +102,8 @@ unfolding tvrAfterRecords joined restrictions risks flag differentVersions alike
 facts-right = refl
 
 -- bits that stand are left standing
-tvr-left-standing : tvrAfterRecords (at 0 0x10) (0 ∷ 0 ∷ []) (card 0 none 0x29 none .1) (0x41 ∷ 0xFF ∷ 0x24 ∷ 0x08 ∷ 0x01 ∷ []) ≡ 0xC1 ∷ 0xFF ∷ 0x24 ∷ 0x08 ∷ 0x01 ∷ []
+tvr-left-standing : tvrAfterRecords (at 0 0x10) (0 ∷ 0 ∷ []) (card 0 none 0x29 none .1) (0x41 ∷ 0xFF ∷ 0x24 ∷ 0x08 ∷ 0x01 ∷ [])
+    ≡ 0xC1 ∷ 0xFF ∷ 0x24 ∷ 0x08 ∷ 0x01 ∷ []
 unfolding tvrAfterRecords joined restrictions risks flag differentVersions expired notYetEffective dateKey riskManaged beside pick
 tvr-left-standing = refl
 

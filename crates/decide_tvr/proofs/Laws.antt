@@ -43,7 +43,13 @@ module _ (t : Terminal) (aip : List ℕ) (f : Facts) (tvr : List ℕ) where
   restrictions-byte : restrictions t f < 256
   unfolding restrictions
   restrictions-byte =
-      omega (arith, flag-small (differentVersions t (f 0x9F08)) 0x80, flag-small (expired t (Option·getD (f 0x5F24) [])) 0x40, flag-small (notYetEffective t (f 0x5F25)) 0x20)
+      omega (
+        arith,
+        flag-small (differentVersions t (f 0x9F08)) 0x80,
+        flag-small (expired t (Option·getD (f 0x5F24) [])) 0x40,
+        flag-small
+            (notYetEffective t (f 0x5F25)) 0x20,
+      )
 
   risks-byte : risks t aip < 256
   unfolding risks

@@ -71,7 +71,8 @@ module _ (a b c d : ℕ) (p : a < 256) (q : b < 256) (r : c < sixBytesLimit) (s 
   factors = ap₂ _*ℤ_ (difference-back a b (omega arith) (omega arith)) (difference-back c d (omega arith) (omega arith))
 
   size : natAbs ((pos a -ℤ pos b) *ℤ (pos c -ℤ pos d)) ≤ 255 * sixBytesLimit
-  size = rw product-size (mul-le-mul (difference-size a b 255 (omega arith) (omega arith)) (difference-size c d sixBytesLimit (omega arith) (omega arith)))
+  size = rw product-size
+      (mul-le-mul (difference-size a b 255 (omega arith) (omega arith)) (difference-size c d sixBytesLimit (omega arith) (omega arith)))
 
   pub product-fits : SFits w64 (less a b *ℤ less c d)
   product-fits = rw factors (fits-by-size _ (lt-of-le-of-lt size (lit< tt)))

@@ -23,7 +23,8 @@ every-both (t ∷ a) b e =
     (held refl a (f .0) ∙ g .0, g .1)
 
 -- a run in two parts
-pub digits-split : (n m from : ℕ) (s : List ℕ) → digitsOnly (take (n + m) (drop from s)) ≡ true → (digitsOnly (take n (drop from s)) ≡ true) × (digitsOnly (take m (drop (from + n) s)) ≡ true)
+pub digits-split : (n m from : ℕ) (s : List ℕ) → digitsOnly (take (n + m) (drop from s)) ≡ true
+    → (digitsOnly (take n (drop from s)) ≡ true) × (digitsOnly (take m (drop (from + n) s)) ≡ true)
 unfolding digitsOnly
 digits-split n m from s e =
     let front = take n (drop from s) in

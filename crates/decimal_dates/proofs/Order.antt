@@ -61,11 +61,13 @@ module _ (a b c : ℕ) (e : digitsOnly (a ∷ b ∷ c ∷ []) ≡ true) (x y z :
   pub key-earlier : dateKey one < dateKey other → Earlier one other
   unfolding dateKey
   key-earlier h =
-      by-places (wholeYear (year one)) (month one) (day one) (wholeYear (year other)) (month other) (day other) (month-digits a b c e) (day-digits a b c e)
+      by-places (wholeYear (year one)) (month one) (day one) (wholeYear (year other)) (month other) (day other) (month-digits a b c e)
+      (day-digits a b c e)
       (month-digits x y z f) (day-digits x y z f) h
 
   pub earlier-key : Earlier one other → dateKey one < dateKey other
   unfolding dateKey
   earlier-key h =
-      in-places (wholeYear (year one)) (month one) (day one) (wholeYear (year other)) (month other) (day other) (month-digits a b c e) (day-digits a b c e)
+      in-places (wholeYear (year one)) (month one) (day one) (wholeYear (year other)) (month other) (day other) (month-digits a b c e)
+      (day-digits a b c e)
       (month-digits x y z f) (day-digits x y z f) h

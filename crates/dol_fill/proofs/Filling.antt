@@ -36,17 +36,20 @@ turn-filled : (r : List ℕ) (some-bytes : 0 < length r) (right : isSome (entrie
     → filledBy t k (entriesOf r) ≡ firstBytes t k r ++ filledBy t k (entriesOf (drop (tagSize r + 1) r))
 unfolding firstWanted firstBytes
 turn-filled r some-bytes right t k =
-    ap (filledBy t k) (entries-more r some-bytes (asked r some-bytes right)) ∙ filled-then (firstWanted r) t k (entriesOf (drop (tagSize r + 1) r)) (turn-some r some-bytes right)
+    ap (filledBy t k) (entries-more r some-bytes (asked r some-bytes right))
+    ∙ filled-then (firstWanted r) t k (entriesOf (drop (tagSize r + 1) r)) (turn-some r some-bytes right)
 
 -- an entry's bytes are as many as it asks for, and the list's as many as all of them do
 pub shaped-length : (f : Format) (n : ℕ) (v : List ℕ) → length (shaped f n v) ≡ n
 unfolding shaped
 shaped-length Numeric n v =
     length-append (zeros (n - length v)) (drop (length v - n) v)
-    ∙ (ap₂ _+_ (zeros-length (n - length v)) (length-drop (length v - n) v) ∙ (let e : n - length v + (length v - (length v - n)) ≡ n = omega arith in e))
+    ∙ (ap₂ _+_ (zeros-length (n - length v)) (length-drop (length v - n) v)
+    ∙ (let e : n - length v + (length v - (length v - n)) ≡ n = omega arith in e))
 shaped-length CardNumber n v =
     length-append (take n v) (replicate (n - length v) 0xFF)
-    ∙ (ap₂ _+_ (length-take n v) (length-replicate (n - length v) 0xFF) ∙ (let e : min n (length v) + (n - length v) ≡ n = omega arith in e))
+    ∙ (ap₂ _+_ (length-take n v) (length-replicate (n - length v) 0xFF)
+    ∙ (let e : min n (length v) + (n - length v) ≡ n = omega arith in e))
 shaped-length Other n v =
     length-append (take n v) (zeros (n - length v))
     ∙ (ap₂ _+_ (length-take n v) (zeros-length (n - length v)) ∙ (let e : min n (length v) + (n - length v) ≡ n = omega arith in e))
@@ -97,7 +100,8 @@ module _ (t : Terminal) (k : Facts) (list : List ℕ) where
 
 -- writing the entry at the front and then the rest is writing all of it
 pub turn-put : (t : Terminal) (k : Facts) (r buf : List ℕ) (p : ℕ) → 0 < length r → isSome (entriesOf r) ≡ true → p + sizeAt r ≤ length buf
-    → put (filledBy t k (entriesOf (drop (tagSize r + 1) r))) (p + sizeAt r) (put (firstBytes t k r) p buf) ≡ put (filledBy t k (entriesOf r)) p buf
+    → put (filledBy t k (entriesOf (drop (tagSize r + 1) r))) (p + sizeAt r) (put (firstBytes t k r) p buf)
+    ≡ put (filledBy t k (entriesOf r)) p buf
 turn-put t k r buf p h right fits′ =
     let x = firstBytes t k r in
     let y = filledBy t k (entriesOf (drop (tagSize r + 1) r)) in

@@ -31,7 +31,8 @@ module _ (t : Terminal) (k : Facts) where
   unfolding missing
   missing-most tag = picked (λ (n : ℕ). n ≤ 1) (isSome (supplied t k tag)) 0 1 (λ y. omega arith) (λ n. omega arith)
 
-  missing-then : (w : Wanted) (o : Option (List Wanted)) → isSome o ≡ true → missingBy t k (andThen w o) ≡ missing t k (w .tag) + missingBy t k o
+  missing-then : (w : Wanted) (o : Option (List Wanted)) → isSome o ≡ true
+      → missingBy t k (andThen w o) ≡ missing t k (w .tag) + missingBy t k o
   unfolding isSome andThen missingBy missingIn
   missing-then w none e = absurd (false≢true e)
   missing-then w (some ws) e = refl
@@ -58,7 +59,8 @@ module _ (t : Terminal) (k : Facts) where
 
   -- an entry takes two bytes or more
   half : (n : ℕ) (r : List ℕ) → length r ≤ n → isSome (entriesOf r) ≡ true → 2 * missingBy t k (entriesOf r) ≤ length r
-  half zero r h right = let none′ = ap (λ (l : List ℕ). missingBy t k (entriesOf l)) (none-left r (omega arith)) ∙ nothing-missing in omega arith
+  half zero r h right =
+      let none′ = ap (λ (l : List ℕ). missingBy t k (entriesOf l)) (none-left r (omega arith)) ∙ nothing-missing in omega arith
   half (suc n) r h right =
       either (ltb 0 (length r))
       (λ y.
@@ -71,7 +73,8 @@ module _ (t : Terminal) (k : Facts) where
       let more = half n (drop (tagSize r + 1) r) (omega arith) (turn-some r some-bytes right) in
       omega arith)
       (λ f.
-      let none′ = ap (λ (l : List ℕ). missingBy t k (entriesOf l)) (none-left r (omega (arith, ltb-false 0 (length r) f))) ∙ nothing-missing in
+      let none′ = ap (λ (l : List ℕ). missingBy t k (entriesOf l)) (none-left r (omega (arith, ltb-false 0 (length r) f)))
+      ∙ nothing-missing in
       omega arith)
 
   pub unsupplied-half : (list : List ℕ) → 2 * unsupplied t k list ≤ length list

@@ -43,7 +43,8 @@ fn is_supplied(start: &[u8], known: &[u8], tag: usize) -> bool
 
 // 1 where the entry at the front of a list is not supplied, else 0.
 fn missing(list: &[u8], start: &[u8], known: &[u8]) -> usize
-    ensures { λ r. ⌜ (r ≡ missingOf (readingOf (now (start .entry))) (toldIn (now (known .entry))) (tagOf (now (list .entry)))) × (r ≤ 1) ⌝ }
+    ensures { λ r. ⌜ (r ≡ missingOf (readingOf (now (start .entry))) (toldIn (now (known .entry))) (tagOf (now (list .entry))))
+        × (r ≤ 1) ⌝ }
 {
     if is_supplied(start, known, tag_of(list)) {
         0

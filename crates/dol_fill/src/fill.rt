@@ -24,7 +24,8 @@ ghost use Rattle.dol_fill.specs.Filled.{entryBytes, firstBytes, filledLi
 
 // One entry's place, filled with the value of its tag, or with zeros where there is none.
 fn fill_entry(part: &mut [u8], start: &[u8], known: &[u8], tag: usize)
-    ensures { λ _. ⌜ now (part .exit) ≡ entryBytes (length (now (part .entry))) (supplied (readingOf (now (start .entry))) (toldIn (now (known .entry))) tag) ⌝ }
+    ensures { λ _. ⌜ now (part .exit)
+        ≡ entryBytes (length (now (part .entry))) (supplied (readingOf (now (start .entry))) (toldIn (now (known .entry))) tag) ⌝ }
 {
     let format = format_of(tag);
     match own_field(tag) {
@@ -42,7 +43,8 @@ fn fill_entry(part: &mut [u8], start: &[u8], known: &[u8], tag: usize)
 // The entry at the front of a list, filled at its place of the buffer, which is lent on as a part.
 fn fill_first(list: &[u8], start: &[u8], known: &[u8], buf: &mut [u8], p: usize)
     requires { ⌜ p + sizeAt (now list) ≤ length (now buf) ⌝ }
-    ensures { λ _. ⌜ now (buf .exit) ≡ put (firstBytes (readingOf (now (start .entry))) (toldIn (now (known .entry))) (now (list .entry))) p (now (buf .entry)) ⌝ }
+    ensures { λ _. ⌜ now (buf .exit)
+        ≡ put (firstBytes (readingOf (now (start .entry))) (toldIn (now (known .entry))) (now (list .entry))) p (now (buf .entry)) ⌝ }
 {
     let tag = tag_of(list);
     let end = p + size_at(list);
@@ -52,7 +54,8 @@ fn fill_first(list: &[u8], start: &[u8], known: &[u8], buf: &mut [u8], p: usize)
 // All entries of a list that can be filled, from a place on where they fit.
 fn fill_all(list: &[u8], start: &[u8], known: &[u8], buf: &mut [u8], at: usize)
     requires { ⌜ (fillable (now list) ≡ true) × (at + totalOf (now list) ≤ length (now buf)) ⌝ }
-    ensures { λ _. ⌜ now (buf .exit) ≡ put (filledList (readingOf (now (start .entry))) (toldIn (now (known .entry))) (now (list .entry))) at (now (buf .entry)) ⌝ }
+    ensures { λ _. ⌜ now (buf .exit)
+        ≡ put (filledList (readingOf (now (start .entry))) (toldIn (now (known .entry))) (now (list .entry))) at (now (buf .entry)) ⌝ }
 {
     let mut rest = list;
     let mut p = at;
@@ -66,7 +69,8 @@ fn fill_all(list: &[u8], start: &[u8], known: &[u8], buf: &mut [u8], at: usize)
 
 // The list filled from a place of the buffer on. A list that cannot be filled, or that does not fit, changes nothing.
 pub fn fill(list: &[u8], start: &[u8], known: &[u8], buf: &mut [u8], at: usize)
-    ensures { λ _. ⌜ now (buf .exit) ≡ laid (filling (readingOf (now (start .entry))) (toldIn (now (known .entry))) (now (list .entry))) at (now (buf .entry)) ⌝ }
+    ensures { λ _. ⌜ now (buf .exit)
+        ≡ laid (filling (readingOf (now (start .entry))) (toldIn (now (known .entry))) (now (list .entry))) at (now (buf .entry)) ⌝ }
 {
     let n = total(list);
     if 252 < n {

@@ -21,14 +21,18 @@ unfolding shaped
 number-shapes = (refl, refl)
 
 -- the rest: cut on the right, filled there with zeros
-other-shapes : (shaped Other 2 (0x11 ∷ 0x22 ∷ 0x33 ∷ 0x44 ∷ []) ≡ 0x11 ∷ 0x22 ∷ []) × (shaped Other 3 (0x12 ∷ 0x34 ∷ []) ≡ 0x12 ∷ 0x34 ∷ 0x00 ∷ [])
+other-shapes : (shaped Other 2 (0x11 ∷ 0x22 ∷ 0x33 ∷ 0x44 ∷ []) ≡ 0x11 ∷ 0x22 ∷ [])
+    × (shaped Other 3 (0x12 ∷ 0x34 ∷ []) ≡ 0x12 ∷ 0x34 ∷ 0x00 ∷ [])
 unfolding shaped zeros
 other-shapes = (refl, refl)
 
 -- which is which
 formats :
-    (formatOf 0x9F02 ≡ Numeric) × (formatOf 0x9F03 ≡ Numeric) × (formatOf 0x9F1A ≡ Numeric) × (formatOf 0x5F2A ≡ Numeric) × (formatOf 0x9A ≡ Numeric)
-    × (formatOf 0x9C ≡ Numeric) × (formatOf 0x5F24 ≡ Numeric) × (formatOf 0x5F25 ≡ Numeric) × (formatOf 0x5A ≡ CardNumber) × (formatOf 0x9F37 ≡ Other)
-    × (formatOf 0x95 ≡ Other) × (formatOf 0x8A ≡ Other) × (formatOf 0x9F0D ≡ Other) × (formatOf 0x8C ≡ Unknown) × (formatOf 0x9F27 ≡ Unknown)
+    (formatOf 0x9F02 ≡ Numeric) × (formatOf 0x9F03 ≡ Numeric) × (formatOf 0x9F1A ≡ Numeric) × (formatOf 0x5F2A ≡ Numeric)
+    × (formatOf 0x9A ≡ Numeric)
+    × (formatOf 0x9C ≡ Numeric) × (formatOf 0x5F24 ≡ Numeric) × (formatOf 0x5F25 ≡ Numeric) × (formatOf 0x5A ≡ CardNumber)
+    × (formatOf 0x9F37 ≡ Other)
+    × (formatOf 0x95 ≡ Other) × (formatOf 0x8A ≡ Other) × (formatOf 0x9F0D ≡ Other) × (formatOf 0x8C ≡ Unknown)
+    × (formatOf 0x9F27 ≡ Unknown)
 unfolding formatOf beside pick
 formats = (refl, refl, refl, refl, refl, refl, refl, refl, refl, refl, refl, refl, refl, refl, refl)

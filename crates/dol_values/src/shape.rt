@@ -24,7 +24,8 @@ fn at_right_end(part: &mut [u8], v: &[u8])
 
 // Cut on the right, or filled there with a byte.
 fn at_left_end(part: &mut [u8], v: &[u8], filler: u8)
-    ensures { λ _. ⌜ now (part .exit) ≡ take (length (now (part .entry))) (now (v .entry)) ++ replicate (length (now (part .entry)) - length (now (v .entry))) filler ⌝ }
+    ensures { λ _. ⌜ now (part .exit)
+        ≡ take (length (now (part .entry))) (now (v .entry)) ++ replicate (length (now (part .entry)) - length (now (v .entry))) filler ⌝ }
 {
     blank(part, filler);
     if part.len() < v.len() {

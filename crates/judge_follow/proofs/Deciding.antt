@@ -28,7 +28,8 @@ module _ {A : Type 0} (kind due : ℕ) (test : Bool) (yes no : A) where
   test-holds e t = sym (pick-yes _ _ _ (eq-eqb kind due e) ∙ pick-yes _ _ _ t)
 
 -- a step of the dialogue, put together as a judgement
-pub as-moving : (m : Step) (before zeros : ℕ) (stage : Stage) (out : List ℕ) (to : Moved) → zeros ≡ summed before (m .zeros) → stage ≡ stageOf (m .reply)
+pub as-moving : (m : Step) (before zeros : ℕ) (stage : Stage) (out : List ℕ) (to : Moved) → zeros ≡ summed before (m .zeros)
+    → stage ≡ stageOf (m .reply)
     → played m out ≡ to → _≡_ {A = Judgement} (record { stage = stage; state = m .state; command = out; zeros = zeros }) (moving before to)
 unfolding played moving
 as-moving m before zeros stage out to z e p =

@@ -76,12 +76,20 @@ unfolding Tracking Expects begun
 tracks-begun = record { room = zeros-length longest; counted = refl; tracking = (refl, (refl, fresh-stands)) }
 
 -- a step of the session is expected to go on as the phase says
-stands-next : (σ : Machine) (e : Entry) (p : Phase) (buf : List ℕ) (m : Moved) → length buf ≡ longest → Follows σ e p buf m → (z : ℕ) → Expects (moving z m) (at p)
+stands-next : (σ : Machine) (e : Entry) (p : Phase) (buf : List ℕ) (m : Moved) → length buf ≡ longest → Follows σ e p buf m → (z : ℕ)
+    → Expects (moving z m) (at p)
 unfolding Expects moving stageOf replyIn
 stands-next σ e (asks w) buf m l f z =
     let most = command-most (m .state) w (f .stands) in
-    let fits : length (commandOf w) ≤ length buf = omega arith in
-    (length (commandOf w), (ap stageOf (f .reply ∙ command-reply w buf fits), ap (take (length (commandOf w))) (f .buffer) ∙ command-there w buf fits, f .stands))
+    let fits : length (commandOf w) ≤ length buf = omega arith in (
+      length (commandOf w),
+      (
+        ap stageOf (f .reply ∙ command-reply w buf fits),
+        ap (take (length (commandOf w))) (f .buffer)
+            ∙ command-there w buf fits,
+        f .stands,
+      ),
+    )
 stands-next σ e (hears h) buf m l f z = (ap stageOf (f .reply), f .stands)
 stands-next σ e (decides outcome reason s) buf m l f z = (ap stageOf (f .reply), f .stands)
 
@@ -98,7 +106,8 @@ sum-on : (z n before more : ℕ) → before ≡ z % 2 ^ 64 → more ≡ n → (b
 sum-on z n before more e f = ap₂ (λ (x y : ℕ). (x + y) % 2 ^ 64) e f ∙ mod-on z n
 
 different : (a b : List ℕ) → alike a b ≡ false → a ≡ b → ⊥
-different a b n e = let z : true ≡ false = sym (same-alike b) ∙ (ap (λ (x : List ℕ). alike x b) (sym e) ∙ n) in let k : _≡_ {A = ℕ} 0 1 = cc in omega arith
+different a b n e =
+    let z : true ≡ false = sym (same-alike b) ∙ (ap (λ (x : List ℕ). alike x b) (sym e) ∙ n) in let k : _≡_ {A = ℕ} 0 1 = cc in omega arith
 
 module _ (k total : ℕ) (j : Judgement) (kind : ℕ) (p : List ℕ) (ok : isPayload p ≡ true) (room : length (j .command) ≡ longest)
     (counted : j .zeros ≡ total % 2 ^ 64) where
@@ -130,12 +139,15 @@ module _ (k total : ℕ) (j : Judgement) (kind : ℕ) (p : List ℕ) (ok : isPay
   unfolding Tracking Expects staged newBy newIn
   ending = record { room = room; counted = as-before; tracking = (refl, refl) }
 
-  decision-due : (outcome reason : ℕ) (z : Situation) → StandsAt (j .state) (decides outcome reason z) → decisionIn (j .state) ≡ decisionOf outcome reason z
+  decision-due : (outcome reason : ℕ) (z : Situation) → StandsAt (j .state) (decides outcome reason z)
+      → decisionIn (j .state) ≡ decisionOf outcome reason z
   unfolding decisionIn outcomeOf reasonOf keptAs
   decision-due outcome reason z s =
-      ap (λ (x : Waiting). outcomeOf x ∷ reasonOf x ∷ (j .state .tvr ++ j .state .tsi)) (s .waits) ∙ sym (stands-decision (j .state) outcome reason z s)
+      ap (λ (x : Waiting). outcomeOf x ∷ reasonOf x ∷ (j .state .tvr ++ j .state .tsi)) (s .waits)
+      ∙ sym (stands-decision (j .state) outcome reason z s)
 
-  moves : (σ : Machine) (e : Entry) (q : Phase) (m : Moved) → Follows σ e q (j .command) m → Goes (moving (j .zeros) m) (reached (at q) (k + 1))
+  moves : (σ : Machine) (e : Entry) (q : Phase) (m : Moved) → Follows σ e q (j .command) m
+      → Goes (moving (j .zeros) m) (reached (at q) (k + 1))
   unfolding Tracking moving summed newBy newIn
   moves σ e q m f =
       record {
@@ -182,7 +194,8 @@ module _ (k total : ℕ) (j : Judgement) (kind : ℕ) (p : List ℕ) (ok : isPay
       breaks))
       (λ n.
       let h = eqb-false kind silence n in
-      carried (k + 1) total (other-kind kind silence (eqb (length p) 0) (staged Closed j) (staged (Broken k) j) h) (answer-missing k w p kind a h) breaks)
+      carried (k + 1) total (other-kind kind silence (eqb (length p) 0) (staged Closed j) (staged (Broken k) j) h)
+      (answer-missing k w p kind a h) breaks)
 
   answer-tracks : (w : Asked) → StandsAt (j .state) (asks w) → Goes (atAnswer j k kind p) (reads (reached (owes w) k) (entry kind p))
   unfolding atAnswer advanced
@@ -218,9 +231,11 @@ module _ (k total : ℕ) (j : Judgement) (kind : ℕ) (p : List ℕ) (ok : isPay
         (λ v.
         let fits = sym may-say ∙ v in
         carried (k + 1) total (test-holds kind due test on (staged (Broken k) j) e v) (named ∙ reads-heard k h p fits ok)
-        (moves (at (hears h)) (entry (dueKind h) p) (after h p) (step (j .state) p (j .command)) (word-step (j .state) h p (j .command) s fits ok)))
+        (moves (at (hears h)) (entry (dueKind h) p) (after h p) (step (j .state) p (j .command))
+        (word-step (j .state) h p (j .command) s fits ok)))
         (λ v.
-        carried (k + 1) total (test-fails kind due test on (staged (Broken k) j) e v) (named ∙ heard-invalid k h p (sym may-say ∙ v)) breaks))
+        carried (k + 1) total (test-fails kind due test on (staged (Broken k) j) e v) (named
+        ∙ heard-invalid k h p (sym may-say ∙ v)) breaks))
         (λ n.
         let other = eqb-false kind due n in
         carried (k + 1) total (other-kind kind due test on (staged (Broken k) j) other)
@@ -243,7 +258,8 @@ module _ (k total : ℕ) (j : Judgement) (kind : ℕ) (p : List ℕ) (ok : isPay
       either test
       (λ v.
       carried (k + 1) total (test-holds kind decision test (staged Done j) (staged (Broken k) j) e v)
-      (as-kind decision e (reached (at (decides outcome reason z)) k) ∙ reads-decision k outcome reason z p (alike-same p (decisionIn (j .state)) v ∙ due))
+      (as-kind decision e (reached (at (decides outcome reason z)) k)
+      ∙ reads-decision k outcome reason z p (alike-same p (decisionIn (j .state)) v ∙ due))
       ending)
       (λ v.
       carried (k + 1) total (test-fails kind decision test (staged Done j) (staged (Broken k) j) e v)
@@ -251,7 +267,8 @@ module _ (k total : ℕ) (j : Judgement) (kind : ℕ) (p : List ℕ) (ok : isPay
       breaks))
       (λ n.
       let h = eqb-false kind decision n in
-      carried (k + 1) total (other-kind kind decision test (staged Done j) (staged (Broken k) j) h) (decision-missing k outcome reason z p kind h) breaks)
+      carried (k + 1) total (other-kind kind decision test (staged Done j) (staged (Broken k) j) h)
+      (decision-missing k outcome reason z p kind h) breaks)
 
 -- every entry
 pub fed-tracks : (k total : ℕ) (j : Judgement) (m : Progress) (kind : ℕ) (p : List ℕ) → isPayload p ≡ true → Tracks k total j m
@@ -259,25 +276,31 @@ pub fed-tracks : (k total : ℕ) (j : Judgement) (m : Progress) (kind : ℕ) (p 
 unfolding fed fedAt Tracking Expects newBy
 fed-tracks k total j (reached (at (asks w)) n) kind p ok t =
     let c = t .tracking .1 in
-    carried (k + 1) total (sym (ap (λ (x : Stage). fedAt x j k kind p) (c .1 .0))) (ap (λ (q : ℕ). reads (reached (at (asks w)) q) (entry kind p)) (t .tracking .0))
+    carried (k + 1) total (sym (ap (λ (x : Stage). fedAt x j k kind p) (c .1 .0)))
+    (ap (λ (q : ℕ). reads (reached (at (asks w)) q) (entry kind p)) (t .tracking .0))
     (command-tracks k total j kind p ok (t .room) (t .counted) w (c .0) (c .1 .1) (c .1 .2))
 fed-tracks k total j (reached (at (hears h)) n) kind p ok t =
     let c = t .tracking .1 in
-    carried (k + 1) total (sym (ap (λ (x : Stage). fedAt x j k kind p) (c .0))) (ap (λ (q : ℕ). reads (reached (at (hears h)) q) (entry kind p)) (t .tracking .0))
+    carried (k + 1) total (sym (ap (λ (x : Stage). fedAt x j k kind p) (c .0)))
+    (ap (λ (q : ℕ). reads (reached (at (hears h)) q) (entry kind p)) (t .tracking .0))
     (word-tracks k total j kind p ok (t .room) (t .counted) h (c .1))
 fed-tracks k total j (reached (at (decides outcome reason z)) n) kind p ok t =
     let c = t .tracking .1 in
-    carried (k + 1) total (sym (ap (λ (x : Stage). fedAt x j k kind p) (c .0))) (ap (λ (q : ℕ). reads (reached (at (decides outcome reason z)) q) (entry kind p)) (t .tracking .0))
+    carried (k + 1) total (sym (ap (λ (x : Stage). fedAt x j k kind p) (c .0)))
+    (ap (λ (q : ℕ). reads (reached (at (decides outcome reason z)) q) (entry kind p)) (t .tracking .0))
     (decision-tracks k total j kind p ok (t .room) (t .counted) outcome reason z (c .1))
 fed-tracks k total j (reached (owes w) n) kind p ok t =
     let c = t .tracking .1 in
-    carried (k + 1) total (sym (ap (λ (x : Stage). fedAt x j k kind p) (c .0))) (ap (λ (q : ℕ). reads (reached (owes w) q) (entry kind p)) (t .tracking .0))
+    carried (k + 1) total (sym (ap (λ (x : Stage). fedAt x j k kind p) (c .0)))
+    (ap (λ (q : ℕ). reads (reached (owes w) q) (entry kind p)) (t .tracking .0))
     (answer-tracks k total j kind p ok (t .room) (t .counted) w (c .1))
 fed-tracks k total j (reached done n) kind p ok t =
-    carried (k + 1) total (sym (ap (λ (x : Stage). fedAt x j k kind p) (t .tracking .1))) (reads-after-end n (entry kind p) ∙ ap broken (t .tracking .0))
+    carried (k + 1) total (sym (ap (λ (x : Stage). fedAt x j k kind p) (t .tracking .1))) (reads-after-end n (entry kind p)
+    ∙ ap broken (t .tracking .0))
     (breaks k total j kind p ok (t .room) (t .counted))
 fed-tracks k total j (closed n) kind p ok t =
-    carried (k + 1) total (sym (ap (λ (x : Stage). fedAt x j k kind p) (t .tracking .1))) (reads-after-silence n (entry kind p) ∙ ap broken (t .tracking .0))
+    carried (k + 1) total (sym (ap (λ (x : Stage). fedAt x j k kind p) (t .tracking .1))) (reads-after-silence n (entry kind p)
+    ∙ ap broken (t .tracking .0))
     (breaks k total j kind p ok (t .room) (t .counted))
 fed-tracks k total j (broken place) kind p ok t =
     carried (k + 1) total (sym (ap (λ (x : Stage). fedAt x j k kind p) (t .tracking))) (reads-after-break place (entry kind p))
@@ -286,10 +309,14 @@ fed-tracks k total j (broken place) kind p ok t =
 -- what is said at the end
 pub said : (k total : ℕ) (j : Judgement) (m : Progress) → Tracks k total j m → saidAt (j .stage) k ≡ concluded m
 unfolding saidAt concluded Tracking Expects
-said k total j (reached (at (asks w)) n) t = ap (λ (x : Stage). saidAt x k) (t .tracking .1 .1 .0) ∙ ap (λ (q : ℕ). says Inconclusive q 0) (sym (t .tracking .0))
-said k total j (reached (at (hears h)) n) t = ap (λ (x : Stage). saidAt x k) (t .tracking .1 .0) ∙ ap (λ (q : ℕ). says Inconclusive q 0) (sym (t .tracking .0))
-said k total j (reached (at (decides outcome reason z)) n) t = ap (λ (x : Stage). saidAt x k) (t .tracking .1 .0) ∙ ap (λ (q : ℕ). says Inconclusive q 0) (sym (t .tracking .0))
-said k total j (reached (owes w) n) t = ap (λ (x : Stage). saidAt x k) (t .tracking .1 .0) ∙ ap (λ (q : ℕ). says Inconclusive q 0) (sym (t .tracking .0))
+said k total j (reached (at (asks w)) n) t =
+    ap (λ (x : Stage). saidAt x k) (t .tracking .1 .1 .0) ∙ ap (λ (q : ℕ). says Inconclusive q 0) (sym (t .tracking .0))
+said k total j (reached (at (hears h)) n) t =
+    ap (λ (x : Stage). saidAt x k) (t .tracking .1 .0) ∙ ap (λ (q : ℕ). says Inconclusive q 0) (sym (t .tracking .0))
+said k total j (reached (at (decides outcome reason z)) n) t =
+    ap (λ (x : Stage). saidAt x k) (t .tracking .1 .0) ∙ ap (λ (q : ℕ). says Inconclusive q 0) (sym (t .tracking .0))
+said k total j (reached (owes w) n) t =
+    ap (λ (x : Stage). saidAt x k) (t .tracking .1 .0) ∙ ap (λ (q : ℕ). says Inconclusive q 0) (sym (t .tracking .0))
 said k total j (reached done n) t = ap (λ (x : Stage). saidAt x k) (t .tracking .1) ∙ ap (λ (q : ℕ). says Pass q 0) (sym (t .tracking .0))
 said k total j (closed n) t = ap (λ (x : Stage). saidAt x k) (t .tracking .1) ∙ ap (λ (q : ℕ). says Inconclusive q 0) (sym (t .tracking .0))
 said k total j (broken place) t = ap (λ (x : Stage). saidAt x k) (t .tracking)

@@ -29,14 +29,17 @@ module _ (s : Session) (e : Entry) (buf : List ℕ) {why : ℕ} (told : why ≡ 
   unfolding unless call
   took out h t = t ∙ sym (pick-yes _ _ _ (eq-eqb _ 0 (sym told ∙ h)))
 
-  pub closes : why ≡ 0 → e .kind ≡ silence → (r .session .state ≡ closedState (s .state)) × (r .session .zeros ≡ s .zeros) × (r .reply ≡ ClosedReply)
+  pub closes : why ≡ 0 → e .kind ≡ silence
+      → (r .session .state ≡ closedState (s .state)) × (r .session .zeros ≡ s .zeros) × (r .reply ≡ ClosedReply)
       → called r buf ≡ call s e buf
   unfolding called taken closedAfter
   closes h k t =
       took buf h
-      ((λ i. record { session = record { state = t .0 i; zeros = t .1 i }; reply = t .2 i; buffer = buf }) ∙ sym (pick-yes _ _ _ (eq-eqb _ silence k)))
+      ((λ i. record { session = record { state = t .0 i; zeros = t .1 i }; reply = t .2 i; buffer = buf })
+      ∙ sym (pick-yes _ _ _ (eq-eqb _ silence k)))
 
-  pub steps : (m : Move) (out : List ℕ) → why ≡ 0 → (e .kind ≡ silence → ⊥) → (r .session .state ≡ m .state) × (r .session .zeros ≡ summed (s .zeros) (m .zeros)) × (r .reply ≡ m .reply)
+  pub steps : (m : Move) (out : List ℕ) → why ≡ 0 → (e .kind ≡ silence → ⊥)
+      → (r .session .state ≡ m .state) × (r .session .zeros ≡ summed (s .zeros) (m .zeros)) × (r .reply ≡ m .reply)
       → played m out ≡ step (s .state) (e .payload) buf → called r out ≡ call s e buf
   unfolding called taken accepted played
   steps m out h k t p =

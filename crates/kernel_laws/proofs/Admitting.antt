@@ -33,7 +33,8 @@ unfolding isOver
 goes-on x h = ne-eqb (awaited x) 0 h
 
 module _ (s : Session) (buf : List ℕ) (room : longest ≤ length buf) where
-  free : (e : Entry) → (awaited (s .state .waiting) ≡ 0 → ⊥) → startBad e ≡ false → isDue (s .state .waiting) e ≡ true → answerBad e ≡ false → replyBad e ≡ false
+  free : (e : Entry) → (awaited (s .state .waiting) ≡ 0 → ⊥) → startBad e ≡ false → isDue (s .state .waiting) e ≡ true → answerBad e ≡ false
+      → replyBad e ≡ false
       → callRefusal (s .state .waiting) e buf ≡ 0
   unfolding callRefusal refusalLines
   free e over start due long reply =

@@ -29,10 +29,12 @@ use Rattle.kernel_laws.proofs.Lawful.{any-calls}
 use Rattle.kernel_laws.proofs.Playing.{pending, own-entry, event-entry, word-event, read-played, session-played}
 
 -- ---- what a session hands in are bytes
-own-bytes : (buf : List ℕ) (e : Entry) (es : List Entry) → given e ≡ true → allBytes (callsIn buf es) ≡ true → allBytes (callsIn buf (e ∷ es)) ≡ true
+own-bytes : (buf : List ℕ) (e : Entry) (es : List Entry) → given e ≡ true → allBytes (callsIn buf es) ≡ true
+    → allBytes (callsIn buf (e ∷ es)) ≡ true
 own-bytes buf e es g h = ap allBytes (own-entry buf e es g) ∙ h
 
-event-bytes : (buf : List ℕ) (e : Entry) (es : List Entry) → given e ≡ false → areBytes (e .payload) ≡ true → allBytes (callsIn buf es) ≡ true
+event-bytes : (buf : List ℕ) (e : Entry) (es : List Entry) → given e ≡ false → areBytes (e .payload) ≡ true
+    → allBytes (callsIn buf es) ≡ true
     → allBytes (callsIn buf (e ∷ es)) ≡ true
 unfolding allBytes
 event-bytes buf e es g b h = ap allBytes (event-entry buf e es g) ∙ and-both (areBytes (e .payload)) (allBytes (callsIn buf es)) b h

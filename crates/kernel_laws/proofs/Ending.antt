@@ -35,7 +35,8 @@ module _ (s : Session) (over : isOver (s .state .waiting) ≡ true) (e : Entry) 
 
   not-taken : callRefusal (s .state .waiting) e buf ≡ 0 → ⊥
   not-taken z =
-      let never : atEnd buf ≡ 0 → ⊥ = picked (λ (n : ℕ). n ≡ 0 → ⊥) (ltb (length buf) longest) 1 2 (λ y e. omega arith) (λ n e. omega arith) in
+      let never : atEnd buf ≡ 0 → ⊥ =
+      picked (λ (n : ℕ). n ≡ 0 → ⊥) (ltb (length buf) longest) 1 2 (λ y e. omega arith) (λ n e. omega arith) in
       never (sym over-refusal ∙ z)
 
 -- every call, with everything that it leaves behind
@@ -98,7 +99,8 @@ closed-log s es (shut c) same = silenced-log s es c
 
 module _ (cs : List Call) (bytes : allBytes cs ≡ true) (k : isClosed (plays cs .session .state .waiting) ≡ true) where
   pub closed-by-silence : ClosedLog (plays cs .log)
-  closed-by-silence = closed-log (plays cs .session) (plays cs .log) (stands-plays cs bytes) (is-closed (plays cs .session .state .waiting) k)
+  closed-by-silence =
+      closed-log (plays cs .session) (plays cs .log) (stands-plays cs bytes) (is-closed (plays cs .session .state .waiting) k)
 
   pub silence-is-open : Open (plays cs .log)
   unfolding Open

@@ -36,7 +36,8 @@ command-rest w buf fits =
     ∙ drop-at (commandOf w) _ (length (commandOf w)) refl
 
 -- DECISION read off a state that stands at a decision
-pub decision-read : (s : State) (outcome reason : ℕ) (z : Situation) → StandsAt s (decides outcome reason z) → decisionIn s ≡ decisionOf outcome reason z
+pub decision-read : (s : State) (outcome reason : ℕ) (z : Situation) → StandsAt s (decides outcome reason z)
+    → decisionIn s ≡ decisionOf outcome reason z
 unfolding decisionIn outcomeOf reasonOf keptAs
 decision-read s outcome reason z h =
     ap (λ (x : Waiting). outcomeOf x ∷ reasonOf x ∷ (s .tvr ++ s .tsi)) (h .waits) ∙ sym (stands-decision s outcome reason z h)

@@ -61,7 +61,8 @@ pub plays-even : (cs : List Call) → allBytes cs ≡ true → Even (plays cs .s
 plays-even cs bytes = stands-even (plays cs .session) (plays cs .log) (stands-plays cs bytes)
 
 keeps-on : (s t u : State) → Keeps s t → Keeps t u → Keeps s u
-keeps-on s t u h k = record { tvr = kept-on (s .tvr) (t .tvr) (u .tvr) (h .tvr) (k .tvr); tsi = kept-on (s .tsi) (t .tsi) (u .tsi) (h .tsi) (k .tsi) }
+keeps-on s t u h k =
+    record { tvr = kept-on (s .tvr) (t .tvr) (u .tvr) (h .tvr) (k .tvr); tsi = kept-on (s .tsi) (t .tsi) (u .tsi) (h .tsi) (k .tsi) }
 
 keeps-from : (cs : List Call) (p : Played) → allBytes cs ≡ true → Stands (p .session) (p .log)
     → Keeps (p .session .state) (playsFrom p cs .session .state)
@@ -74,7 +75,8 @@ keeps-from (c ∷ cs) p bytes st =
     (keeps-from cs (after p c) (and-right (areBytes (c .event .payload)) (allBytes cs) bytes) next)
 
 -- a bit that is set after some calls is set after any further ones
-pub plays-keeps : (cs more : List Call) → allBytes cs ≡ true → allBytes more ≡ true → Keeps (plays cs .session .state) (plays (cs ++ more) .session .state)
+pub plays-keeps : (cs more : List Call) → allBytes cs ≡ true → allBytes more ≡ true
+    → Keeps (plays cs .session .state) (plays (cs ++ more) .session .state)
 plays-keeps cs more bytes also =
     subst (λ (p : Played). Keeps (plays cs .session .state) (p .session .state)) (sym (plays-append cs more))
     (keeps-from more (plays cs) also (stands-plays cs bytes))

@@ -55,7 +55,8 @@ module _ (s : Session) (es : List Entry) (buf : List ℕ) (e : Entry) where
     left-step bytes n =
         let p = passed s e buf h in
         subst Left (sym (call-taken s e buf h ∙ taken-step s e buf n))
-        (going (taken-reached es e buf (s .zeros) (accepted (s .zeros) (step (s .state) (e .payload) buf)) (p .room) (taken-event s es buf there e p bytes n)))
+        (going (taken-reached es e buf (s .zeros) (accepted (s .zeros) (step (s .state) (e .payload) buf)) (p .room)
+        (taken-event s es buf there e p bytes n)))
 
   -- a session that is closed takes nothing
   pub not-closed : s .state .waiting ≡ Closed → callRefusal (s .state .waiting) e buf ≡ 0 → ⊥

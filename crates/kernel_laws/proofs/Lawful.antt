@@ -58,7 +58,8 @@ module _ (s : Session) (es : List Entry) where
 
     going-open : isDecided (s .state .waiting) ≡ false → Open es
     unfolding Lawful
-    going-open n = ⊎-elim (λ play. absurd (false≢true (sym n ∙ going-decided play))) (λ o. o) (state-lawful es (landing (there .phase)) (there .read))
+    going-open n =
+        ⊎-elim (λ play. absurd (false≢true (sym n ∙ going-decided play))) (λ o. o) (state-lawful es (landing (there .phase)) (there .read))
 
   shut-undecided : s .state .waiting ≡ Closed → isDecided (s .state .waiting) ≡ false
   unfolding isDecided

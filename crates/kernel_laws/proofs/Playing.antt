@@ -56,7 +56,8 @@ module _ (buf : List ℕ) where
   unfolding callsIn
   own-entry e es g = pick-yes _ _ _ g
 
-  pub event-entry : (e : Entry) (es : List Entry) → given e ≡ false → callsIn buf (e ∷ es) ≡ record { event = e; buffer = buf } ∷ callsIn buf es
+  pub event-entry : (e : Entry) (es : List Entry) → given e ≡ false
+      → callsIn buf (e ∷ es) ≡ record { event = e; buffer = buf } ∷ callsIn buf es
   unfolding callsIn
   event-entry e es g = pick-no _ _ _ g
 
@@ -80,7 +81,8 @@ module _ (buf : List ℕ) (room : longest ≤ length buf) where
 
   -- ---- an event that is taken
   module _ (s : Session) (e : Entry) (σ : Machine) (p : Phase) (m : Moved) (free : callRefusal (s .state .waiting) e buf ≡ 0)
-      (same : made s (record { event = e; buffer = buf }) ≡ accepted (s .zeros) m) (steps : Steps σ e p buf m) (event : given e ≡ false) where
+      (same : made s (record { event = e; buffer = buf }) ≡ accepted (s .zeros) m) (steps : Steps σ e p buf m)
+      (event : given e ≡ false) where
     abbrev one : Call
     one = record { event = e; buffer = buf }
 
@@ -91,7 +93,8 @@ module _ (buf : List ℕ) (room : longest ≤ length buf) where
     unfolding after accepted
     after-one log =
         ap (λ (r : Called). record { session = r .session; log = log ++ loggedBy r e }) same
-        ∙ ap (λ (l : List Entry). further (log ++ l)) (gives-logged e p buf (accepted (s .zeros) m) (step-gives σ e buf m room (s .zeros) p steps))
+        ∙ ap (λ (l : List Entry). further (log ++ l))
+        (gives-logged e p buf (accepted (s .zeros) m) (step-gives σ e buf m room (s .zeros) p steps))
 
     goes-one : (es : List Entry) (τ : Machine) → Goes (at p) es τ → (log : List Entry)
         → playsFrom (record { session = s; log = log ++ [] }) (callsIn buf (e ∷ es)) .log ≡ (log ++ (e ∷ es)) ++ pending τ
@@ -115,19 +118,23 @@ module _ (buf : List ℕ) (room : longest ≤ length buf) where
   answer-goes w a es τ ok rest s h log =
       let e = entry answer a in
       let free = answer-free s buf room (questionOf w) (h .waits) a (payload-most a ok) in
-      goes-one s e (owes w) (turn w a) (step (s .state) a buf) free (steps-as s e free (λ k. omega arith)) (answer-step (s .state) w a buf h ok) refl
+      goes-one s e (owes w) (turn w a) (step (s .state) a buf) free (steps-as s e free (λ k. omega arith))
+      (answer-step (s .state) w a buf h ok) refl
       es τ rest log
 
-  word-goes : (h : Heard) (p : List ℕ) (es : List Entry) (τ : Machine) → allowed h p ≡ true → isPayload p ≡ true → Goes (at (afterWord h p)) es τ
+  word-goes : (h : Heard) (p : List ℕ) (es : List Entry) (τ : Machine) → allowed h p ≡ true → isPayload p ≡ true
+      → Goes (at (afterWord h p)) es τ
       → Goes (at (hears h)) (entry (dueKind h) p ∷ es) τ
   unfolding pending ruled Agrees keptAs
   word-goes h p es τ fits ok rest s stands log =
       let e = entry (dueKind h) p in
       let may = sym (allowed-by (speakerOf h) (s .state) p) ∙ word-spoken h (s .state) p stands fits in
       let free : callRefusal (s .state .waiting) e buf ≡ 0 =
-      ap (λ (k : ℕ). callRefusal (s .state .waiting) (entry k p) buf) (sym (kind-due h)) ∙ word-free s buf room (speakerOf h) (stands .waits) p may
+      ap (λ (k : ℕ). callRefusal (s .state .waiting) (entry k p) buf) (sym (kind-due h))
+      ∙ word-free s buf room (speakerOf h) (stands .waits) p may
       in
-      goes-one s e (at (hears h)) (afterWord h p) (step (s .state) p buf) free (steps-as s e free (λ k. no-silence (speakerOf h) (kind-due h ∙ k)))
+      goes-one s e (at (hears h)) (afterWord h p) (step (s .state) p buf) free
+      (steps-as s e free (λ k. no-silence (speakerOf h) (kind-due h ∙ k)))
       (word-step (s .state) h p buf stands fits ok) (word-event h p) es τ rest log
 
   -- ---- an entry of the kernel's own: it was pending
@@ -176,7 +183,8 @@ module _ (buf : List ℕ) (room : longest ≤ length buf) where
     by-state e (at (decides outcome reason z)) ρ h r =
         let c = chosen (due decision (alike (e .payload) (decisionOf outcome reason z)) e) (some done) ρ h in
         let same = alike-same (e .payload) (decisionOf outcome reason z) (due-test decision _ e (c .0)) in
-        subst (λ (x : Entry). Goes (at (decides outcome reason z)) (x ∷ es) τ) (sym (due-entry decision _ e (c .0) ∙ ap (entry decision) same))
+        subst (λ (x : Entry). Goes (at (decides outcome reason z)) (x ∷ es) τ)
+        (sym (due-entry decision _ e (c .0) ∙ ap (entry decision) same))
         (decision-goes outcome reason z es τ (settled ρ done _ (c .1) refl r))
     by-state e (owes w) ρ h r =
         let c = chosen (due answer (isPayload (e .payload)) e) (some (at (turn w (e .payload)))) ρ h in

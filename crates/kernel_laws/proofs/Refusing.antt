@@ -57,13 +57,15 @@ module _ (s : Session) (e : Entry) (buf : List ℕ) where
       step-reply (s .state .waiting) (passed s e buf z .goes) n (sym steps ∙ h))
 
   -- a number is always the refusals' own
-  pub number-of : (n : ℕ) → call s e buf .reply ≡ Refused n → (callRefusal (s .state .waiting) e buf ≡ n) × (callRefusal (s .state .waiting) e buf ≡ 0 → ⊥)
+  pub number-of : (n : ℕ) → call s e buf .reply ≡ Refused n
+      → (callRefusal (s .state .waiting) e buf ≡ n) × (callRefusal (s .state .waiting) e buf ≡ 0 → ⊥)
   unfolding refused
   number-of n h =
       zero-or (callRefusal (s .state .waiting) e buf)
       (λ z. absurd (taken-reply z n h))
       (λ k.
-      let same : Refused (callRefusal (s .state .waiting) e buf) ≡ Refused n = sym (ap (λ (r : Called). r .reply) (call-refused s e buf k)) ∙ h in
+      let same : Refused (callRefusal (s .state .waiting) e buf) ≡ Refused n =
+      sym (ap (λ (r : Called). r .reply) (call-refused s e buf k)) ∙ h in
       (cc same, k))
 
 -- ---- turned away

@@ -64,7 +64,8 @@ module _ (x : Waiting) (e : Entry) (d : isDue x e ≡ true) (k : e .kind ≡ sil
 
   silent-entry : e ≡ entry silence []
   silent-entry =
-      as-entry e silence k ∙ ap (entry silence) (none-left (e .payload) (eqb-true (length (e .payload)) 0 (and-right (eqb (awaited x) answer) _ silent-due)))
+      as-entry e silence k
+      ∙ ap (entry silence) (none-left (e .payload) (eqb-true (length (e .payload)) 0 (and-right (eqb (awaited x) answer) _ silent-due)))
 
 waits-card : (x : Waiting) → awaited x ≡ answer → (question : Question) × (x ≡ ForCard question)
 unfolding awaited
@@ -164,7 +165,8 @@ module _ (s : Session) (es : List Entry) (buf : List ℕ) (there : Reached (s .s
         }
 
 -- ---- what follows of a call that is taken
-module _ (es : List Entry) (e : Entry) (buf : List ℕ) (before : ℕ) (r : Called) (room : longest ≤ length buf) (t : Taken es e buf before r) where
+module _ (es : List Entry) (e : Entry) (buf : List ℕ) (before : ℕ) (r : Called) (room : longest ≤ length buf)
+    (t : Taken es e buf before r) where
   pub taken-gives : Gives (t .to) buf r
   taken-gives = subst (Gives (t .to) buf) (sym (t .same)) (step-gives (t .from) e buf (t .moved) room before (t .to) (t .steps))
 

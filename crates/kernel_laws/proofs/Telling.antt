@@ -56,7 +56,8 @@ module _ (p : Played) (c : Call) (bytes : areBytes (c .event .payload) ≡ true)
 
   by-refusal : (callRefusal (s .state .waiting) e buf ≡ 0 → ⊥) → Replies p c
   unfolding made refused
-  by-refusal h = refuses (callRefusal (s .state .waiting) e buf) (ap (λ (r : Called). r .reply) (call-refused s e buf h)) (turned-away s c h)
+  by-refusal h =
+      refuses (callRefusal (s .state .waiting) e buf) (ap (λ (r : Called). r .reply) (call-refused s e buf h)) (turned-away s c h)
 
   module _ (there : Reached (s .state) (p .log)) (h : callRefusal (s .state .waiting) e buf ≡ 0) where
     followed : (e .kind ≡ silence → ⊥) → Replies p c
@@ -65,7 +66,8 @@ module _ (p : Played) (c : Call) (bytes : areBytes (c .event .payload) ≡ true)
         let q = passed s e buf h in
         follows
         (subst (Follows (p .log) e buf) (sym (call-taken s e buf h ∙ taken-step s e buf n))
-        (taken-follows (p .log) e buf (s .zeros) (accepted (s .zeros) (step (s .state) (e .payload) buf)) (q .room) (taken-event s (p .log) buf there e q bytes n)))
+        (taken-follows (p .log) e buf (s .zeros) (accepted (s .zeros) (step (s .state) (e .payload) buf)) (q .room)
+        (taken-event s (p .log) buf there e q bytes n)))
 
     closed : e .kind ≡ silence → Replies p c
     unfolding made closedAfter
@@ -73,7 +75,8 @@ module _ (p : Played) (c : Call) (bytes : areBytes (c .event .payload) ≡ true)
         let q = passed s e buf h in
         let same : call s e buf ≡ closedAfter s buf = call-taken s e buf h ∙ taken-silence s e buf k in
         closes (silence-alone s (p .log) buf there e q k) (ap (λ (r : Called). r .reply) same) (ap (λ (r : Called). r .buffer) same)
-        (subst (λ (r : Called). Silenced (r .session) (p .log ++ (entry silence [] ∷ []))) (sym same) (silence-taken s (p .log) buf there e q k))
+        (subst (λ (r : Called). Silenced (r .session) (p .log ++ (entry silence [] ∷ []))) (sym same)
+        (silence-taken s (p .log) buf there e q k))
 
   by-standing : Stands s (p .log) → callRefusal (s .state .waiting) e buf ≡ 0 → Replies p c
   by-standing (going there) h =

@@ -38,11 +38,13 @@ pub record Kernel : Type 0 where
   pub complete : (buf : List ℕ) → longest ≤ length buf → (es : List Entry) → WholeSession es → Reproduces buf es
   pub rightly : (buf : List ℕ) → longest ≤ length buf → RightKernel (givenAfter buf)
   pub zeros : (cs : List Call) → allBytes cs ≡ true → Zeros (plays cs .log) (plays cs .session .zeros)
-  pub keeps : (cs more : List Call) → allBytes cs ≡ true → allBytes more ≡ true → Keeps (plays cs .session .state) (plays (cs ++ more) .session .state)
+  pub keeps : (cs more : List Call) → allBytes cs ≡ true → allBytes more ≡ true
+      → Keeps (plays cs .session .state) (plays (cs ++ more) .session .state)
   pub decided : (cs : List Call) → isDecided (plays cs .session .state .waiting) ≡ true → Ended cs
   pub closed : (cs : List Call) → isClosed (plays cs .session .state .waiting) ≡ true → Ended cs
   pub silent : (cs : List Call) → allBytes cs ≡ true → isClosed (plays cs .session .state .waiting) ≡ true → Open (plays cs .log)
-  pub no-session : (cs : List Call) → allBytes cs ≡ true → isClosed (plays cs .session .state .waiting) ≡ true → WholeSession (plays cs .log) → ⊥
+  pub no-session : (cs : List Call) → allBytes cs ≡ true → isClosed (plays cs .session .state .waiting) ≡ true
+      → WholeSession (plays cs .log) → ⊥
   pub unchanged : (s : Session) (c : Call) (n : ℕ) → made s c .reply ≡ Refused n → Unchanged s c
   pub number : (s : Session) (c : Call) (line : ℕ) → made s c .reply ≡ Refused (1 + line) → FirstLine (tableOf s c) line
   pub line : (s : Session) (c : Call) (line : ℕ) → FirstLine (tableOf s c) line → made s c .reply ≡ Refused (1 + line)

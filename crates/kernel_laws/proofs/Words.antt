@@ -14,7 +14,8 @@ use Rattle.kernel_refusals.specs.Refusals.{startBad, answerBad, replyBad}
 
 module _ (p : List ℕ) where
   pub word-passes : (speaker : Speaker) → allowedBy speaker p ≡ true
-      → (startBad (entry (kindOf speaker) p) ≡ false) × (answerBad (entry (kindOf speaker) p) ≡ false) × (replyBad (entry (kindOf speaker) p) ≡ false)
+      → (startBad (entry (kindOf speaker) p) ≡ false) × (answerBad (entry (kindOf speaker) p) ≡ false)
+      × (replyBad (entry (kindOf speaker) p) ≡ false)
   unfolding kindOf allowedBy startBad answerBad replyBad
   word-passes Terminal fits = (ap not fits, refl, refl)
   word-passes Issuer fits = (refl, refl, ap not fits)

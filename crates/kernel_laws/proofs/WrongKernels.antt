@@ -57,7 +57,8 @@ pub not-all-terminated : ((es : List Entry) → kernel es .kind ≡ decision →
 not-all-terminated = not-terminating kernel (right (zeros longest) room)
 
 -- it does not always ask AAC
-pub not-all-aac : ((es : List Entry) → kernel es .kind ≡ command → getD (kernel es .payload) 1 0 ≡ 0xAE → getD (kernel es .payload) 2 0 ≡ aac) → ⊥
+pub not-all-aac : ((es : List Entry) → kernel es .kind ≡ command → getD (kernel es .payload) 1 0 ≡ 0xAE
+    → getD (kernel es .payload) 2 0 ≡ aac) → ⊥
 not-all-aac = not-always-aac kernel (right (zeros longest) room)
 
 -- its commands do not all stand in one buffer that nobody writes
@@ -66,7 +67,8 @@ not-unwritten = not-idle kernel (right (zeros longest) room)
 
 -- it does not settle all at START: wherever two sessions of the rulebook part, it parts too. There are such places at each command
 -- after SELECT: `options-depend`, `records-depend`, `first-depends` and `second-depends` of the rulebook
-pub not-settled-at-start : (s : Entry) → Parts s → (f : Entry → ℕ → Entry) → ((t : Entry) (es : List Entry) → kernel (t ∷ es) ≡ f t (length es)) → ⊥
+pub not-settled-at-start : (s : Entry) → Parts s → (f : Entry → ℕ → Entry)
+    → ((t : Entry) (es : List Entry) → kernel (t ∷ es) ≡ f t (length es)) → ⊥
 not-settled-at-start s p = not-settled s p kernel (right (zeros longest) room)
 
 -- ---- by the calls themselves
@@ -81,7 +83,8 @@ approved =
     let last = decision-last approvedCalls (it .bytes) (it .decides) in
     let bytes : List ℕ = 1 ∷ 0 ∷ 0x80 ∷ 0 ∷ 0 ∷ 0 ∷ 0 ∷ 0x20 ∷ 0 ∷ [] in
     let same =
-    snoc-same (last .0) (opening 2 ++ exchange (firstAsked tc) (cryptogram tc)) (entry decision (decisionIn (plays approvedCalls .session .state)))
+    snoc-same (last .0) (opening 2 ++ exchange (firstAsked tc) (cryptogram tc))
+    (entry decision (decisionIn (plays approvedCalls .session .state)))
     (entry decision bytes) (sym (last .1) ∙ it .log)
     in
     ap (λ (e : Entry). getD (e .payload) 0 0) (same .1)

@@ -67,7 +67,8 @@ pub record Named (s : Session) (log : List Entry) : Type 0 where
   pub waits : s .state .waiting ≡ keptAs phase
   pub tvr : s .state .tvr ≡ tvrOf phase
   pub tsi : s .state .tsi ≡ tsiOf phase
-  pub decision : (outcome reason : ℕ) (z : Situation) → phase ≡ decides outcome reason z → decisionIn (s .state) ≡ decisionOf outcome reason z
+  pub decision : (outcome reason : ℕ) (z : Situation) → phase ≡ decides outcome reason z
+      → decisionIn (s .state) ≡ decisionOf outcome reason z
 
 -- every session from fresh is one of these
 pub data Says (s : Session) (log : List Entry) : Type 0 where

@@ -31,7 +31,8 @@ pub fn record(
     session: Session,
     tape: &mut [u8],
 ) -> Appended
-    ensures { λ r. ⌜ kept r (now (tape .exit)) ≡ keptAll writer (recorded (entry kind (now (payload .entry))) reply (now (command .entry)) session) (now (tape .entry)) ⌝ }
+    ensures { λ r. ⌜ kept r (now (tape .exit))
+        ≡ keptAll writer (recorded (entry kind (now (payload .entry))) reply (now (command .entry)) session) (now (tape .entry)) ⌝ }
 {
     match reply {
         Reply::Command(n) => both(writer, kind, payload, COMMAND, part(command, 0, n), tape),
@@ -69,7 +70,8 @@ fn both(
     next_payload: &[u8],
     tape: &mut [u8],
 ) -> Appended
-    ensures { λ r. ⌜ kept r (now (tape .exit)) ≡ keptAll writer (entry kind (now (payload .entry)) ∷ entry «next_kind» (now («next_payload» .entry)) ∷ []) (now (tape .entry)) ⌝ }
+    ensures { λ r. ⌜ kept r (now (tape .exit))
+        ≡ keptAll writer (entry kind (now (payload .entry)) ∷ entry «next_kind» (now («next_payload» .entry)) ∷ []) (now (tape .entry)) ⌝ }
 {
     let refusal = why_refused(writer, kind, payload, next_kind, next_payload, tape);
     if refusal != 0 {
@@ -89,7 +91,9 @@ fn why_refused(
     next_payload: &[u8],
     tape: &[u8],
 ) -> u8
-    ensures { λ r. ⌜ r ≡ tapeRefusal (writer .used) (entry kind (now (payload .entry)) ∷ entry «next_kind» (now («next_payload» .entry)) ∷ []) (now (tape .entry)) ⌝ }
+    ensures { λ r. ⌜ r
+        ≡ tapeRefusal (writer .used) (entry kind (now (payload .entry)) ∷ entry «next_kind» (now («next_payload» .entry)) ∷ [])
+        (now (tape .entry)) ⌝ }
 {
     if is_wrong(kind, payload) {
         return 7;

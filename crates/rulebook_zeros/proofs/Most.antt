@@ -87,7 +87,8 @@ second-few s request code short = few (s .terminal) (knownIn s (some code)) (lis
 -- ---- what was told stays short
 
 module _ (s : Situation) (short : Short s) where
-  else-short : (o other : Option (List ℕ)) → length (Option·getD o []) ≤ 252 → length (Option·getD other []) ≤ 252 → length (Option·getD (orElse o other) []) ≤ 252
+  else-short : (o other : Option (List ℕ)) → length (Option·getD o []) ≤ 252 → length (Option·getD other []) ≤ 252
+      → length (Option·getD (orElse o other) []) ≤ 252
   unfolding orElse
   else-short none other h k = k
   else-short (some v) other h k = h
@@ -207,7 +208,8 @@ unfolding next newIn leftAt leftIn
 next-within (at (asks w)) ρ e short h = moved-to (at (asks w)) (owes w) ρ (chosen _ _ ρ h .1) (short, omega arith)
 next-within (at (hears x)) ρ e short h =
     moved-to (at (hears x)) (at (after x (e .payload))) ρ (chosen _ _ ρ h .1) (after-within x (e .payload) short)
-next-within (at (decides outcome reason s)) ρ e short h = moved-to (at (decides outcome reason s)) done ρ (chosen _ _ ρ h .1) (tt, omega arith)
+next-within (at (decides outcome reason s)) ρ e short h =
+    moved-to (at (decides outcome reason s)) done ρ (chosen _ _ ρ h .1) (tt, omega arith)
 next-within (owes w) ρ e short h = moved-to (owes w) (at (turn w (e .payload))) ρ (chosen _ _ ρ h .1) (turn-within w (e .payload) short)
 next-within done ρ e short h = no-state ρ h
 

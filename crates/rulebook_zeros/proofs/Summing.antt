@@ -39,19 +39,22 @@ unfolding zerosFrom addedBy sum newIn
 play-sum play [] rest h = refl
 play-sum (exchanged {w} {c} {a} {es = fs} f ok play) (e ∷ []) rest h =
     let first : entry command c ≡ e = head-same _ e _ rest h in
-    sym (counted (at (asks w)) (owes w) (entry command c) e [] first (ap (λ (x : List ℕ). next (at (asks w)) (entry command x)) f ∙ takes-command w))
+    sym (counted (at (asks w)) (owes w) (entry command c) e [] first (ap (λ (x : List ℕ). next (at (asks w)) (entry command x)) f
+    ∙ takes-command w))
 play-sum (exchanged {w} {c} {a} {es = fs} f ok play) (e ∷ d ∷ es) rest h =
     let first : entry command c ≡ e = head-same _ e _ (d ∷ (es ++ rest)) h in
     let left : entry answer a ∷ fs ≡ d ∷ (es ++ rest) = tail-same _ e _ (d ∷ (es ++ rest)) h in
     let second : entry answer a ≡ d = head-same _ d _ (es ++ rest) left in
     let on = play-sum play es rest (tail-same _ d _ (es ++ rest) left) in
-    let went = counted (at (asks w)) (owes w) (entry command c) e (d ∷ es) first (ap (λ (x : List ℕ). next (at (asks w)) (entry command x)) f ∙ takes-command w) in
+    let went = counted (at (asks w)) (owes w) (entry command c) e (d ∷ es) first
+    (ap (λ (x : List ℕ). next (at (asks w)) (entry command x)) f ∙ takes-command w) in
     let came = counted (owes w) (at (turn w a)) (entry answer a) d es second (takes-answer w a ok) in
     ap (λ (n : ℕ). 0 + (unsuppliedIn (turn w a) + n)) on ∙ (ap (λ (n : ℕ). 0 + n) (sym came) ∙ sym went)
 play-sum (heard {h = x} {k} {p} {es = fs} f fits ok play) (e ∷ es) rest h =
     let first : entry k p ≡ e = head-same _ e _ (es ++ rest) h in
     let on = play-sum play es rest (tail-same _ e _ (es ++ rest) h) in
-    let came = counted (at (hears x)) (at (after x p)) (entry k p) e es first (ap (λ (n : ℕ). next (at (hears x)) (entry n p)) f ∙ takes-heard x p fits ok) in
+    let came = counted (at (hears x)) (at (after x p)) (entry k p) e es first (ap (λ (n : ℕ). next (at (hears x)) (entry n p)) f
+    ∙ takes-heard x p fits ok) in
     ap (λ (n : ℕ). unsuppliedIn (after x p) + n) on ∙ sym came
 play-sum (decided {outcome} {reason} {s} {d} f) (e ∷ []) rest h =
     let first : entry decision d ≡ e = head-same _ e _ rest h in
@@ -136,7 +139,13 @@ closed-sum es c =
     let before = c .0 in
     let waits = c .1 .0 in
     let same : zerosOf es ≡ zerosOf before = ap zerosOf (c .1 .1) ∙ closed-zeros before [] waits in
-    inr (before, (subst (Summed before) (sym same) (part-summed before (entry answer (waits .0) ∷ waits .1 .0) (waits .1 .1)), (waits, c .1 .1)))
+    inr (
+      before,
+      (
+        subst (Summed before) (sym same) (part-summed before (entry answer (waits .0) ∷ waits .1 .0) (waits .1 .1)),
+        (waits, c .1 .1),
+      ),
+    )
 
 lawful-sum : (es : List Entry) → Lawful es → SumOf es (zerosOf es)
 unfolding Lawful Open

@@ -36,10 +36,12 @@ given-none n h =
 not-listed : (n : ℕ) (x y z : Bool) → 2 < n → beside false n ((0, x) ∷ (1, y) ∷ (2, z) ∷ []) ≡ false
 unfolding beside
 not-listed n x y z h =
-    pick-no _ _ _ (ne-eqb n 0 (λ e. omega arith)) ∙ (pick-no _ _ _ (ne-eqb n 1 (λ e. omega arith)) ∙ pick-no _ _ _ (ne-eqb n 2 (λ e. omega arith)))
+    pick-no _ _ _ (ne-eqb n 0 (λ e. omega arith))
+    ∙ (pick-no _ _ _ (ne-eqb n 1 (λ e. omega arith)) ∙ pick-no _ _ _ (ne-eqb n 2 (λ e. omega arith)))
 
 module _ (f : Given → Bool) (r : f Reserved ≡ false) where
-  allowed-at : (type : ℕ) → beside false type ((0, f (givenBy 0x00)) ∷ (1, f (givenBy 0x40)) ∷ (2, f (givenBy 0x80)) ∷ []) ≡ f (givenBy (64 * type))
+  allowed-at : (type : ℕ)
+      → beside false type ((0, f (givenBy 0x00)) ∷ (1, f (givenBy 0x40)) ∷ (2, f (givenBy 0x80)) ∷ []) ≡ f (givenBy (64 * type))
   unfolding beside pick givenBy
   allowed-at zero = refl
   allowed-at (suc zero) = refl
@@ -48,6 +50,7 @@ module _ (f : Given → Bool) (r : f Reserved ≡ false) where
       not-listed (suc (suc (suc n))) (f (givenBy 0x00)) (f (givenBy 0x40)) (f (givenBy 0x80)) (omega arith)
       ∙ sym (ap f (given-none (suc (suc (suc n))) (omega arith)) ∙ r)
 
-  pub allows-all : allows (record { aac = f (givenBy 0x00); tc = f (givenBy 0x40); arqc = f (givenBy 0x80) }) ≡ (λ type. f (givenBy (64 * type)))
+  pub allows-all : allows (record { aac = f (givenBy 0x00); tc = f (givenBy 0x40); arqc = f (givenBy 0x80) })
+      ≡ (λ type. f (givenBy (64 * type)))
   unfolding allows
   allows-all = λ i type. allowed-at type i

@@ -34,7 +34,8 @@ ghost use Rattle.session_moves.specs.Moves.{played, moved};
 ghost use Rattle.session_answers.specs.Keeping.{keeping, answeredState};
 
 pub fn on_select(s: State, a: &[u8], buf: &mut [u8]) -> Step
-    ensures { λ r. ⌜ played r (now (buf .exit)) ≡ moved (turn (selecting (early s)) (now (a .entry))) (keeping (selecting (early s)) (now (a .entry)) s) (now (buf .entry)) ⌝ }
+    ensures { λ r. ⌜ played r (now (buf .exit))
+        ≡ moved (turn (selecting (early s)) (now (a .entry))) (keeping (selecting (early s)) (now (a .entry)) s) (now (buf .entry)) ⌝ }
 {
     let start = s.start;
     let terminal: &[u8] = &start;
@@ -50,7 +51,9 @@ pub fn on_select(s: State, a: &[u8], buf: &mut [u8]) -> Step
 }
 
 pub fn on_options(s: State, a: &[u8], buf: &mut [u8]) -> Step
-    ensures { λ r. ⌜ played r (now (buf .exit)) ≡ moved (turn (optioning (early s) []) (now (a .entry))) (keeping (optioning (early s) []) (now (a .entry)) s) (now (buf .entry)) ⌝ }
+    ensures { λ r. ⌜ played r (now (buf .exit))
+        ≡ moved (turn (optioning (early s) []) (now (a .entry))) (keeping (optioning (early s) []) (now (a .entry)) s)
+        (now (buf .entry)) ⌝ }
 {
     let why = options_reason(a);
     if why != 0 {
@@ -60,7 +63,9 @@ pub fn on_options(s: State, a: &[u8], buf: &mut [u8]) -> Step
 }
 
 pub fn on_record(s: State, a: &[u8], buf: &mut [u8]) -> Step
-    ensures { λ r. ⌜ played r (now (buf .exit)) ≡ moved (turn (readingRecord (late s) 0 0 (recordsLeft s)) (now (a .entry))) (keeping (readingRecord (late s) 0 0 (recordsLeft s)) (now (a .entry)) s) (now (buf .entry)) ⌝ }
+    ensures { λ r. ⌜ played r (now (buf .exit))
+        ≡ moved (turn (readingRecord (late s) 0 0 (recordsLeft s)) (now (a .entry)))
+        (keeping (readingRecord (late s) 0 0 (recordsLeft s)) (now (a .entry)) s) (now (buf .entry)) ⌝ }
 {
     let store = s.told;
     let told = bytes_of(store);

@@ -27,7 +27,8 @@ ghost use Rattle.session_events.specs.Events.{answerStep, wordStep, step
 
 // START. What was known before does not matter.
 fn on_start(terminal: &[u8], buf: &mut [u8]) -> Step
-    ensures { λ r. ⌜ played r (now (buf .exit)) ≡ moved (opened (readingOf (now (terminal .entry)))) (begunState (now (terminal .entry))) (now (buf .entry)) ⌝ }
+    ensures { λ r. ⌜ played r (now (buf .exit))
+        ≡ moved (opened (readingOf (now (terminal .entry)))) (begunState (now (terminal .entry))) (now (buf .entry)) ⌝ }
 {
     let n = write::select(terminal, buf);
     Step {
@@ -48,7 +49,8 @@ fn reply_made(h: &[u8]) -> HostReply
 }
 
 fn on_reply(s: State, h: &[u8], buf: &mut [u8]) -> Step
-    ensures { λ r. ⌜ played r (now (buf .exit)) ≡ moved (heard (late s) (replyMade (replyOf (now (h .entry)))) (now (h .entry))) s (now (buf .entry)) ⌝ }
+    ensures { λ r. ⌜ played r (now (buf .exit))
+        ≡ moved (heard (late s) (replyMade (replyOf (now (h .entry)))) (now (h .entry))) s (now (buf .entry)) ⌝ }
 {
     request_second(s, reply_made(h), code_in(h), buf)
 }

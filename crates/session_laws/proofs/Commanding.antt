@@ -37,7 +37,8 @@ command-fits (selecting z) h = select-most (z .terminal .aid) h
 command-fits (optioning z list) h = options-most _ (filling-most (z .terminal) (knownIn z none) list)
 command-fits (reading z number file rest) h = record-most number file
 command-fits (first z request) h = cryptogram-most (p1Of request) _ (filling-most (z .terminal) (knownIn z none) (listIn z 0x8C))
-command-fits (second z request code) h = cryptogram-most (p1Of request) _ (filling-most (z .terminal) (knownIn z (some code)) (listIn z 0x8D))
+command-fits (second z request code) h =
+    cryptogram-most (p1Of request) _ (filling-most (z .terminal) (knownIn z (some code)) (listIn z 0x8D))
 
 pub command-most : (s : State) (w : Asked) → StandsAt s (asks w) → length (commandOf w) ≤ longest
 command-most s w h = command-fits w (subst (λ (t : Terminal). length (t .aid) ≤ 16) (sym (asked-terminal s w h)) (aid-most (s .start)))

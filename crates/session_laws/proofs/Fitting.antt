@@ -52,7 +52,8 @@ unfolding Fits standing changed
 fits-stands p s h = record { waits = refl; tvr = refl; tsi = refl; knows = h }
 
 -- two choices by one test
-both : {A B : Type 0} (P : A → B → Type 0) (t : Bool) (a a′ : A) (b b′ : B) → (t ≡ true → P a b) → (t ≡ false → P a′ b′) → P (pick t a a′) (pick t b b′)
+both : {A B : Type 0} (P : A → B → Type 0) (t : Bool) (a a′ : A) (b b′ : B) → (t ≡ true → P a b) → (t ≡ false → P a′ b′)
+    → P (pick t a a′) (pick t b b′)
 unfolding pick
 both P true a a′ b b′ yes′ no′ = yes′ refl
 both P false a a′ b b′ yes′ no′ = no′ refl

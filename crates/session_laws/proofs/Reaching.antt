@@ -28,7 +28,8 @@ unfolding run landing
 reached-fresh = record { phase = opens; read = refl; stands = fresh-stands }
 
 -- one event on
-pub reached-on : (es : List Entry) (σ : Machine) (e : Entry) (p : Phase) (buf : List ℕ) (m : Moved) → run es (at opens) ≡ some σ → Follows σ e p buf m
+pub reached-on : (es : List Entry) (σ : Machine) (e : Entry) (p : Phase) (buf : List ℕ) (m : Moved) → run es (at opens) ≡ some σ
+    → Follows σ e p buf m
     → Reached (m .state) (es ++ (e ∷ logged p))
 reached-on es σ e p buf m h f = record { phase = p; read = run-on es σ e p h (f .taken); stands = f .stands }
 
@@ -41,7 +42,8 @@ module _ (s : State) (es : List Entry) (reached : Reached s es) where
   stood : (p : Phase) → reached .phase ≡ p → StandsAt s p
   stood p e = subst (StandsAt s) e (reached .stands)
 
-  pub reached-asked : (question : Question) → s .waiting ≡ ForCard question → (w : Asked) × ((run es (at opens) ≡ some (owes w)) × StandsAt s (asks w))
+  pub reached-asked : (question : Question) → s .waiting ≡ ForCard question
+      → (w : Asked) × ((run es (at opens) ≡ some (owes w)) × StandsAt s (asks w))
   unfolding landing
   reached-asked question e =
       let there = asked-at s (reached .phase) question (reached .stands) e in

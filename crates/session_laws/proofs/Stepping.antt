@@ -49,7 +49,8 @@ run-on es σ e p h n =
     ∙ (ap (andOn (run (e ∷ logged p))) h ∙ (ap (andOn (run (logged p))) n ∙ run-logged p))
 
 -- a step of the definition
-follows-as : (σ : Machine) (e : Entry) (p : Phase) (s : State) (buf : List ℕ) (m : Moved) → m ≡ moved p s buf → next σ e ≡ some (at p) → Fits p s
+follows-as : (σ : Machine) (e : Entry) (p : Phase) (s : State) (buf : List ℕ) (m : Moved) → m ≡ moved p s buf → next σ e ≡ some (at p)
+    → Fits p s
     → Follows σ e p buf m
 unfolding moved
 follows-as σ e p s buf m same n f =
@@ -79,7 +80,8 @@ module _ (s : State) (w : Asked) (a buf : List ℕ) (stands : StandsAt s (asks w
       (subst (λ (v : Asked). Fits (turn v a) (keeping v a s)) question-known (turn-fits (questionOf w) s a)))
 
   pub answer-step : isPayload a ≡ true → Follows (owes w) (entry answer a) (turn w a) buf (step s a buf)
-  answer-step ok = follows-as (owes w) (entry answer a) (turn w a) (keeping w a s) buf (step s a buf) answered-moved (takes-answer w a ok) answer-fits
+  answer-step ok =
+      follows-as (owes w) (entry answer a) (turn w a) (keeping w a s) buf (step s a buf) answered-moved (takes-answer w a ok) answer-fits
 
 -- ---- somebody else's word
 module _ (s : State) (h : Heard) (p buf : List ℕ) (stands : StandsAt s (hears h)) where
@@ -95,6 +97,7 @@ module _ (s : State) (h : Heard) (p buf : List ℕ) (stands : StandsAt s (hears 
 
   pub word-step : allowed h p ≡ true → isPayload p ≡ true → Follows (at (hears h)) (entry (dueKind h) p) (after h p) buf (step s p buf)
   word-step fits ok =
-      follows-as (at (hears h)) (entry (dueKind h) p) (after h p) (keepingWord (speakerOf h) p s) buf (step s p buf) heard-moved (takes-heard h p fits ok)
+      follows-as (at (hears h)) (entry (dueKind h) p) (after h p) (keepingWord (speakerOf h) p s) buf (step s p buf) heard-moved
+      (takes-heard h p fits ok)
       (subst (λ (x : Heard). Fits (after x p) (keepingWord (speakerOf h) p s)) speaker-known
       (word-fits (speakerOf h) s p (ap (λ (x : Heard). allowed x p) speaker-known ∙ fits)))

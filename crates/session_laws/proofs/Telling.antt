@@ -29,7 +29,8 @@ module _ (s : State) where
   asked-at (decides outcome reason z) question h e =
       absurd (let same : Decided outcome reason ≡ ForCard question = sym (h .waits) ∙ e in let z : _≡_ {A = ℕ} 0 1 = cc same in omega arith)
 
-  pub heard-at : (p : Phase) (speaker : Speaker) → StandsAt s p → s .waiting ≡ ForWord speaker → (h : Heard) × ((p ≡ hears h) × (speakerOf h ≡ speaker))
+  pub heard-at : (p : Phase) (speaker : Speaker) → StandsAt s p → s .waiting ≡ ForWord speaker
+      → (h : Heard) × ((p ≡ hears h) × (speakerOf h ≡ speaker))
   unfolding keptAs
   heard-at (asks w) speaker h e =
       absurd (let same : ForCard (questionOf w) ≡ ForWord speaker = sym (h .waits) ∙ e in let z : _≡_ {A = ℕ} 0 1 = cc same in omega arith)
@@ -37,7 +38,8 @@ module _ (s : State) where
   heard-at (decides outcome reason z) speaker h e =
       absurd (let same : Decided outcome reason ≡ ForWord speaker = sym (h .waits) ∙ e in let z : _≡_ {A = ℕ} 0 1 = cc same in omega arith)
 
-  pub decided-at : (p : Phase) (outcome reason : ℕ) → StandsAt s p → s .waiting ≡ Decided outcome reason → (z : Situation) × (p ≡ decides outcome reason z)
+  pub decided-at : (p : Phase) (outcome reason : ℕ) → StandsAt s p → s .waiting ≡ Decided outcome reason
+      → (z : Situation) × (p ≡ decides outcome reason z)
   unfolding keptAs
   decided-at (asks w) o r h e =
       absurd (let same : ForCard (questionOf w) ≡ Decided o r = sym (h .waits) ∙ e in let z : _≡_ {A = ℕ} 0 1 = cc same in omega arith)
@@ -52,7 +54,9 @@ module _ (s : State) where
   -- a session closed by silence is no phase of the rulebook
   pub closed-never : (p : Phase) → StandsAt s p → s .waiting ≡ Closed → ⊥
   unfolding keptAs
-  closed-never (asks w) h e = let same : ForCard (questionOf w) ≡ Closed = sym (h .waits) ∙ e in let z : _≡_ {A = ℕ} 0 1 = cc same in omega arith
-  closed-never (hears x) h e = let same : ForWord (speakerOf x) ≡ Closed = sym (h .waits) ∙ e in let z : _≡_ {A = ℕ} 0 1 = cc same in omega arith
+  closed-never (asks w) h e =
+      let same : ForCard (questionOf w) ≡ Closed = sym (h .waits) ∙ e in let z : _≡_ {A = ℕ} 0 1 = cc same in omega arith
+  closed-never (hears x) h e =
+      let same : ForWord (speakerOf x) ≡ Closed = sym (h .waits) ∙ e in let z : _≡_ {A = ℕ} 0 1 = cc same in omega arith
   closed-never (decides outcome reason z) h e =
       let same : Decided outcome reason ≡ Closed = sym (h .waits) ∙ e in let z : _≡_ {A = ℕ} 0 1 = cc same in omega arith

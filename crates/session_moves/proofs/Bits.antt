@@ -32,5 +32,11 @@ pub bits-moved : (p : Phase) (waiting : Waiting) (tvr tsi : List ℕ) (s : State
     → moved p (changed waiting tvr tsi (s .cursor) s) buf ≡ moved p s buf
 unfolding moved standing changed
 bits-moved p waiting tvr tsi s buf =
-    ap (λ (c : Cursor). record { state = changed (keptAs p) (tvrOf p) (tsiOf p) c s; reply = replyIn (length buf) p; buffer = bufferIn p buf; zeros = unsuppliedIn p })
+    ap (λ (c : Cursor). record {
+      state = changed (keptAs p) (tvrOf p) (tsiOf p) c s;
+      reply = replyIn
+          (length buf) p;
+      buffer = bufferIn p buf;
+      zeros = unsuppliedIn p;
+    })
     (same-cursor p (changed waiting tvr tsi (s .cursor) s) s refl refl)

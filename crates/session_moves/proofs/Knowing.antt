@@ -26,7 +26,8 @@ use Rattle.session_moves.specs.Known.{onlyTold, knownEarly, knownLate, k
 
 pub only-length : (d : List ℕ) → length d ≡ end → length (onlyTold d) ≡ end
 unfolding onlyTold
-only-length d all = length-append (zeros toldFrom) (drop toldFrom d) ∙ (let z = zeros-length toldFrom in let r = length-drop toldFrom d in omega arith)
+only-length d all =
+    length-append (zeros toldFrom) (drop toldFrom d) ∙ (let z = zeros-length toldFrom in let r = length-drop toldFrom d in omega arith)
 
 blank-front : take toldFrom (zeros end) ≡ zeros toldFrom
 unfolding zeros
@@ -69,12 +70,14 @@ module _ (d : List ℕ) (all : length d ≡ end) where
       ∙ (ap (λ l. read (take (recordSlot tag .size) l)) (behind (recordSlot tag .at) (told-begins tag))
       ∙ ap (λ s. read (cellIn d s)) (sym same))
 
-  pub only-own : (toldIn (onlyTold d) 0x95 ≡ none) × (toldIn (onlyTold d) 0x9B ≡ none) × (toldIn (onlyTold d) 0x8A ≡ none) × (toldIn (onlyTold d) 0x82 ≡ none)
+  pub only-own : (toldIn (onlyTold d) 0x95 ≡ none) × (toldIn (onlyTold d) 0x9B ≡ none) × (toldIn (onlyTold d) 0x8A ≡ none)
+      × (toldIn (onlyTold d) 0x82 ≡ none)
   unfolding toldIn cellIn slotFor placed beside pick onlyTold zeros read
   only-own = (refl, refl, refl, refl)
 
 -- what a row of four says of a tag that is none of theirs
-own-other : (a b c e : Option (List ℕ)) (other : Option (List ℕ)) (tag : ℕ) → eqb tag 0x95 ≡ false → eqb tag 0x9B ≡ false → eqb tag 0x8A ≡ false → eqb tag 0x82 ≡ false
+own-other : (a b c e : Option (List ℕ)) (other : Option (List ℕ)) (tag : ℕ) → eqb tag 0x95 ≡ false → eqb tag 0x9B ≡ false
+    → eqb tag 0x8A ≡ false → eqb tag 0x82 ≡ false
     → beside other tag ((0x95, a) ∷ (0x9B, b) ∷ (0x8A, c) ∷ (0x82, e) ∷ []) ≡ other
 unfolding beside
 own-other a b c e other tag n₁ n₂ n₃ n₄ = pick-no _ _ _ n₁ ∙ (pick-no _ _ _ n₂ ∙ (pick-no _ _ _ n₃ ∙ pick-no _ _ _ n₄))
@@ -86,7 +89,8 @@ pub record Says (x : List ℕ) (facts : Facts) (tvr tsi response profile : Optio
   pub at-tsi : toldIn x 0x9B ≡ tsi
   pub at-response : toldIn x 0x8A ≡ response
   pub at-profile : toldIn x 0x82 ≡ profile
-  pub at-other : (tag : ℕ) → eqb tag 0x95 ≡ false → eqb tag 0x9B ≡ false → eqb tag 0x8A ≡ false → eqb tag 0x82 ≡ false → toldIn x tag ≡ facts tag
+  pub at-other : (tag : ℕ) → eqb tag 0x95 ≡ false → eqb tag 0x9B ≡ false → eqb tag 0x8A ≡ false → eqb tag 0x82 ≡ false
+      → toldIn x tag ≡ facts tag
 
 module _ (x : List ℕ) (facts : Facts) (tvr tsi response profile : Option (List ℕ)) (h : Says x facts tvr tsi response profile) where
   abbrev Row : ℕ → Option (List ℕ)
@@ -108,7 +112,8 @@ module _ (x : List ℕ) (facts : Facts) (tvr tsi response profile : Option (List
   says-all = fun-ext says-at
 
 -- one value more
-module _ (x : List ℕ) (facts : Facts) (tvr tsi response profile : Option (List ℕ)) (h : Says x facts tvr tsi response profile) (v : List ℕ) where
+module _ (x : List ℕ) (facts : Facts) (tvr tsi response profile : Option (List ℕ)) (h : Says x facts tvr tsi response profile)
+    (v : List ℕ) where
   other-than : (own tag : ℕ) → eqb tag own ≡ false → toldIn (keptIn own v x) tag ≡ toldIn x tag
   other-than own tag n = keep-other x (h .whole) own tag v (λ e. eqb-false tag own n (sym e))
 
@@ -192,10 +197,12 @@ module _ (s : State) (five : length (s .tvr) ≡ 5) (two : length (s .tsi) ≡ 2
     unfolding knownIn late situationWith
     late-known =
         says-all _ _ _ _ _ _ says-late
-        ∙ ap (λ o tag. beside (told (s .told) tag) tag ((0x95, some (s .tvr)) ∷ (0x9B, some (s .tsi)) ∷ (0x8A, none) ∷ (0x82, o) ∷ [])) (there (s .profile) pair)
+        ∙ ap (λ o tag. beside (told (s .told) tag) tag ((0x95, some (s .tvr)) ∷ (0x9B, some (s .tsi)) ∷ (0x8A, none) ∷ (0x82, o) ∷ []))
+        (there (s .profile) pair)
 
     pub second-known : (response : List ℕ) → length response ≡ 2 → toldIn (knownSecond response s) ≡ knownIn (late s) (some response)
     unfolding knownSecond knownIn late situationWith slotFor placed beside pick
     second-known response e =
         says-all _ _ _ _ _ _ (keep-response _ _ _ _ _ _ says-late response (omega arith))
-        ∙ ap (λ o tag. beside (told (s .told) tag) tag ((0x95, some (s .tvr)) ∷ (0x9B, some (s .tsi)) ∷ (0x8A, some response) ∷ (0x82, o) ∷ [])) (there (s .profile) pair)
+        ∙ ap (λ o tag. beside (told (s .told) tag) tag
+        ((0x95, some (s .tvr)) ∷ (0x9B, some (s .tsi)) ∷ (0x8A, some response) ∷ (0x82, o) ∷ [])) (there (s .profile) pair)

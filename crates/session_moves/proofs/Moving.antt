@@ -66,16 +66,25 @@ module _ (s : State) (buf : List ℕ) where
     early-decided = ap (λ (x : Step). played x buf) e
 
   -- to somebody else's word
-  pub hearing : (h : Heard) {r : Step} → r ≡ waitingFor (ForWord (speakerOf h)) (Due (dueKind h)) s → s .tvr ≡ tvrOf (hears h) → s .tsi ≡ tsiOf (hears h)
+  pub hearing : (h : Heard) {r : Step} → r ≡ waitingFor (ForWord (speakerOf h)) (Due (dueKind h)) s → s .tvr ≡ tvrOf (hears h)
+      → s .tsi ≡ tsiOf (hears h)
       → played r buf ≡ moved (hears h) s buf
   unfolding played waitingFor moved standing keptAs cursorAfter replyIn bufferIn unsuppliedIn
   hearing h e t u =
       ap (λ (x : Step). played x buf) e
-      ∙ (λ i. record { state = changed (ForWord (speakerOf h)) (t i) (u i) (s .cursor) s; reply = Due (dueKind h); buffer = buf; zeros = 0 })
+      ∙ (λ i. record {
+        state = changed (ForWord (speakerOf h)) (t i) (u i) (s .cursor) s;
+        reply = Due
+            (dueKind h);
+        buffer = buf;
+        zeros = 0;
+      })
 
   -- to a command
-  module _ (w : Asked) {n : ℕ} {out command : List ℕ} (same : command ≡ commandOf w) (size : n ≡ sizeIn (length buf) command) (laidOut : out ≡ laid command 0 buf) where
-    pub asking : {r : Step} → r .reply ≡ Command n → r .zeros ≡ unsuppliedAsking w → (tvr tsi : List ℕ) (cursor : Cursor) → r .state ≡ changed (ForCard (questionOf w)) tvr tsi cursor s
+  module _ (w : Asked) {n : ℕ} {out command : List ℕ} (same : command ≡ commandOf w) (size : n ≡ sizeIn (length buf) command)
+      (laidOut : out ≡ laid command 0 buf) where
+    pub asking : {r : Step} → r .reply ≡ Command n → r .zeros ≡ unsuppliedAsking w → (tvr tsi : List ℕ) (cursor : Cursor)
+        → r .state ≡ changed (ForCard (questionOf w)) tvr tsi cursor s
         → tvr ≡ situationOf w .tvr → tsi ≡ situationOf w .tsi → cursor ≡ cursorAsking w s → played r out ≡ moved (asks w) s buf
     unfolding played moved standing keptAs cursorAfter replyIn bufferIn unsuppliedIn tvrOf tsiOf
     asking d z tvr tsi cursor e t u c =
@@ -90,7 +99,8 @@ module _ (s : State) (buf : List ℕ) where
         → s .tsi ≡ situationOf w .tsi → s .cursor ≡ cursorAsking w s → played r out ≡ moved (asks w) s buf
     unfolding askedFor
     asking-on e z t u c =
-        asking (ap (λ (x : Step). x .reply) e) (ap (λ (x : Step). x .zeros) e ∙ z) (s .tvr) (s .tsi) (s .cursor) (ap (λ (x : Step). x .state) e) t u c
+        asking (ap (λ (x : Step). x .reply) e) (ap (λ (x : Step). x .zeros) e
+        ∙ z) (s .tvr) (s .tsi) (s .cursor) (ap (λ (x : Step). x .state) e) t u c
 
   -- a session that is over
   pub stays : {r : Step} → (r .state ≡ s) × (r .reply ≡ Refused 4) × (r .zeros ≡ 0) → played r buf ≡ unmoved s buf
@@ -98,7 +108,8 @@ module _ (s : State) (buf : List ℕ) where
   stays e = λ i. record { state = e .0 i; reply = e .1 i; buffer = buf; zeros = e .2 i }
 
 -- a bad answer ends the session for its reason, of which a state keeps a byte
-module _ (s : State) (buf : List ℕ) (why reason : ℕ) (p : Phase) (e : why ≡ reason) (small : reason < 256) (bad : why ≡ 0 → ⊥) {r : Step} (w : r ≡ waitingFor (Decided 3 (why % 256)) DecidedReply s) where
+module _ (s : State) (buf : List ℕ) (why reason : ℕ) (p : Phase) (e : why ≡ reason) (small : reason < 256) (bad : why ≡ 0
+    → ⊥) {r : Step} (w : r ≡ waitingFor (Decided 3 (why % 256)) DecidedReply s) where
   whole : r ≡ waitingFor (Decided 3 why) DecidedReply s
   whole = w ∙ ap (λ (n : ℕ). waitingFor (Decided 3 n) DecidedReply s) (mod-eq-of-lt (omega (arith, e, small)))
 

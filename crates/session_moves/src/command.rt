@@ -20,8 +20,12 @@ ghost use Rattle.session_records.specs.Slots.{toldIn};
 
 // GENERATE AC, filled from an object list and the slots of what is known.
 pub fn generate(s: State, request: Cryptogram, list: &[u8], known: &[u8], buf: &mut [u8]) -> usize
-    ensures size { λ r. ⌜ r ≡ sizeIn (length (now (buf .entry))) (cryptogramCommand (p1Of request) (filling (readingOf (s .start)) (toldIn (now (known .entry))) (now (list .entry)))) ⌝ }
-    ensures buffer { λ _. ⌜ now (buf .exit) ≡ laid (cryptogramCommand (p1Of request) (filling (readingOf (s .start)) (toldIn (now (known .entry))) (now (list .entry)))) 0 (now (buf .entry)) ⌝ }
+    ensures size { λ r. ⌜ r
+        ≡ sizeIn (length (now (buf .entry)))
+        (cryptogramCommand (p1Of request) (filling (readingOf (s .start)) (toldIn (now (known .entry))) (now (list .entry)))) ⌝ }
+    ensures buffer { λ _. ⌜ now (buf .exit)
+        ≡ laid (cryptogramCommand (p1Of request) (filling (readingOf (s .start)) (toldIn (now (known .entry))) (now (list .entry)))) 0
+        (now (buf .entry)) ⌝ }
 {
     let start = s.start;
     write::cryptogram(p1(request), list, &start, known, buf)
@@ -37,8 +41,12 @@ pub fn missing(s: State, list: &[u8], known: &[u8]) -> usize
 
 // READ RECORD of the record at the cursor.
 pub fn read(s: State, buf: &mut [u8]) -> usize
-    ensures size { λ r. ⌜ r ≡ sizeIn (length (now (buf .entry))) (recordCommand (recordAt (inRun (s .locator)) (s .cursor) .0) (recordAt (inRun (s .locator)) (s .cursor) .1)) ⌝ }
-    ensures buffer { λ _. ⌜ now (buf .exit) ≡ laid (recordCommand (recordAt (inRun (s .locator)) (s .cursor) .0) (recordAt (inRun (s .locator)) (s .cursor) .1)) 0 (now (buf .entry)) ⌝ }
+    ensures size { λ r. ⌜ r
+        ≡ sizeIn (length (now (buf .entry)))
+        (recordCommand (recordAt (inRun (s .locator)) (s .cursor) .0) (recordAt (inRun (s .locator)) (s .cursor) .1)) ⌝ }
+    ensures buffer { λ _. ⌜ now (buf .exit)
+        ≡ laid (recordCommand (recordAt (inRun (s .locator)) (s .cursor) .0) (recordAt (inRun (s .locator)) (s .cursor) .1)) 0
+        (now (buf .entry)) ⌝ }
 {
     let run = s.locator;
     let place = s.cursor;

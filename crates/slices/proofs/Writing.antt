@@ -35,7 +35,8 @@ unfolding put
 put-there s p d h = ap (take (length s)) (drop-at (take p d) _ p (length-take-le p d h)) ∙ take-append-seam s _
 
 -- a write after the seam of two lists
-seam : (a x y r : List ℕ) (n : ℕ) → length (a ++ x) ≡ n → take n (a ++ (x ++ r)) ++ (y ++ drop (length y) (drop n (a ++ (x ++ r)))) ≡ a ++ ((x ++ y) ++ drop (length y) r)
+seam : (a x y r : List ℕ) (n : ℕ) → length (a ++ x) ≡ n
+    → take n (a ++ (x ++ r)) ++ (y ++ drop (length y) (drop n (a ++ (x ++ r)))) ≡ a ++ ((x ++ y) ++ drop (length y) r)
 seam a x y r n e =
     ap (λ (l : List ℕ). take n l ++ (y ++ drop (length y) (drop n l))) (sym (append-assoc a x r))
     ∙ (rw (take-at (a ++ x) r n e, drop-at (a ++ x) r n e) (simp append-assoc))

@@ -53,6 +53,7 @@ sample-read : readingOf sample ≡ record {
 unfolding readingOf
 sample-read = refl
 
-sample-numbers : amountOf (readingOf sample) ∷ otherAmountOf (readingOf sample) ∷ floorLimitOf (readingOf sample) ∷ thresholdOf (readingOf sample) ∷ [] ≡ 123456789012 ∷ 7500 ∷ 6000 ∷ 5000 ∷ []
+sample-numbers : amountOf (readingOf sample) ∷ otherAmountOf (readingOf sample) ∷ floorLimitOf (readingOf sample) ∷ thresholdOf
+    (readingOf sample) ∷ [] ≡ 123456789012 ∷ 7500 ∷ 6000 ∷ 5000 ∷ []
 unfolding readingOf decimal decimalFrom
 sample-numbers = refl

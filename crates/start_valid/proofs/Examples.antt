@@ -40,10 +40,12 @@ rows =
     ∷ ((32, 0) ∷ [], true) ∷ ((32, 70) ∷ [], true) ∷ ((32, 71) ∷ [], false) ∷ ((32, 100) ∷ (39, 100) ∷ [], false)
     ∷ ((39, 9) ∷ [], false) ∷ ((39, 99) ∷ [], true) ∷ ((39, 100) ∷ [], false)
     -- threshold zero, or below the floor limit
-    ∷ ((37, 0x59) ∷ [], true) ∷ ((37, 0x60) ∷ [], false) ∷ ((36, 1) ∷ [], false) ∷ ((37, 0) ∷ [], true) ∷ ((37, 0) ∷ (29, 0) ∷ [], true) ∷ ((29, 0) ∷ [], false)
+    ∷ ((37, 0x59) ∷ [], true) ∷ ((37, 0x60) ∷ [], false) ∷ ((36, 1) ∷ [], false) ∷ ((37, 0) ∷ [], true) ∷ ((37, 0) ∷ (29, 0) ∷ [], true)
+    ∷ ((29, 0) ∷ [], false)
     -- AID
     ∷ ((57, 4) ∷ [], false) ∷ ((57, 5) ∷ [], true) ∷ ((57, 16) ∷ [], true) ∷ ((57, 17) ∷ [], false)
-    ∷ ((64, 1) ∷ [], true) ∷ ((65, 1) ∷ [], false) ∷ ((73, 1) ∷ [], false) ∷ ((73, 1) ∷ (57, 16) ∷ [], true) ∷ ((73, 1) ∷ (57, 15) ∷ [], false)
+    ∷ ((64, 1) ∷ [], true) ∷ ((65, 1) ∷ [], false) ∷ ((73, 1) ∷ [], false) ∷ ((73, 1) ∷ (57, 16) ∷ [], true)
+    ∷ ((73, 1) ∷ (57, 15) ∷ [], false)
     ∷ []
 
 rows-judged : map (λ row. validStart (changed (row .0))) rows ≡ map (λ row. row .1) rows

@@ -86,7 +86,8 @@ module _ (s : List ℕ) (valid : validStart s ≡ true) where
       (leb-true (readingOf s .target) (readingOf s .maximum) (held 0), leb-true (readingOf s .maximum) 99 (held 1))
 
   -- the numbers of twelve digits
-  amounts : (amountOf (readingOf s) ≤ 999999999999) × (otherAmountOf (readingOf s) ≤ 999999999999) × (floorLimitOf (readingOf s) ≤ 999999999999)
+  amounts : (amountOf (readingOf s) ≤ 999999999999) × (otherAmountOf (readingOf s) ≤ 999999999999)
+      × (floorLimitOf (readingOf s) ≤ 999999999999)
   unfolding validDigits readingOf
   amounts =
       let held = each-held _ (test 2) in

@@ -10,7 +10,8 @@ use Rattle.tape_crc.specs.Tables.{every}
 
 from : (test : ℕ → ℕ → Bool) (xs : List ℕ) (i : ℕ) → every test i xs ≡ true → (k : ℕ) → k < length xs → test (i + k) (getD xs k 0) ≡ true
 from test [] i e k h = absurd (not-suc-le-zero h)
-from test (x ∷ xs) i e zero h = subst (λ (m : ℕ). test m x ≡ true) (sym (add-zero i)) (and-eq-true-iff (test i x) (every test (suc i) xs) .0 e .0)
+from test (x ∷ xs) i e zero h =
+    subst (λ (m : ℕ). test m x ≡ true) (sym (add-zero i)) (and-eq-true-iff (test i x) (every test (suc i) xs) .0 e .0)
 from test (x ∷ xs) i e (suc k) h =
     subst (λ (m : ℕ). test m (getD xs k 0) ≡ true) (suc-add i k ∙ sym (add-suc i k))
     (from test xs (suc i) (and-eq-true-iff (test i x) (every test (suc i) xs) .0 e .1) k (le-of-suc-le-suc h))

@@ -61,7 +61,8 @@ module _ (n s : ℕ) (e : Entry) (h : storable e ≡ true) where
   unfolding body
   body-bytes =
       bytes-append (head n s e) _ head-bytes
-      (bytes-append (e .payload) (zeros (payloadMost - length (e .payload))) (storable-bytes e h) (zeros-bytes (payloadMost - length (e .payload))))
+      (bytes-append (e .payload) (zeros (payloadMost - length (e .payload))) (storable-bytes e h)
+      (zeros-bytes (payloadMost - length (e .payload))))
 
   -- it passes every test
   pub good-block : n < 2 ^ 32 → s < 2 ^ 32 → Good n s (block n s e)

@@ -30,7 +30,8 @@ module _ (b : List ℕ) where
 
         pub content-good : paddingBad b ≡ false → firstOf (contentTests b) ≡ 0
         unfolding contentTests
-        content-good padding = first-skip _ _ _ kind ∙ (first-skip _ _ _ spare ∙ (first-skip _ _ _ length ∙ (first-skip _ _ _ padding ∙ first-end)))
+        content-good padding =
+            first-skip _ _ _ kind ∙ (first-skip _ _ _ spare ∙ (first-skip _ _ _ length ∙ (first-skip _ _ _ padding ∙ first-end)))
 
 module _ (n s : ℕ) (b : List ℕ) where
   pub code-check : checkBad b ≡ true → codeOf n s b ≡ 3

@@ -82,7 +82,8 @@ some-is n s t e es bytes r rest = go (decLt (length t) blockSize)
         (rest (f .reads ∙ ap entries others) more)
 
 -- bytes in whole blocks that read as entries are those entries written
-pub read-is : (n s : ℕ) (es : List Entry) (t : List ℕ) → areBytes t ≡ true → length t % blockSize ≡ 0 → readFrom n s t ≡ entries es → t ≡ written n s es
+pub read-is : (n s : ℕ) (es : List Entry) (t : List ℕ) → areBytes t ≡ true → length t % blockSize ≡ 0 → readFrom n s t ≡ entries es
+    → t ≡ written n s es
 unfolding written
 read-is n s [] t bytes whole r = none-is n s t whole r
 read-is n s (e ∷ es) t bytes whole r =

@@ -71,14 +71,17 @@ module _ (n s : ℕ) (e : Entry) (fits : length (e .payload) ≤ payloadMost) wh
       pick-no _ _ _ length-allowed
       ∙ (ap (λ (k : ℕ). take k (drop payloadAt (block n s e))) length-in
       ∙ (ap (λ (b : List ℕ). take (length (e .payload)) (drop payloadAt b)) parts
-      ∙ (ap (take (length (e .payload))) (drop-at (head n s e) _ payloadAt (head-length n s e)) ∙ take-at (e .payload) _ (length (e .payload)) refl)))
+      ∙ (ap (take (length (e .payload))) (drop-at (head n s e) _ payloadAt (head-length n s e))
+      ∙ take-at (e .payload) _ (length (e .payload)) refl)))
 
   pub padding-in : paddingIn (block n s e) ≡ zeros (payloadMost - length (e .payload))
   unfolding paddingIn
   padding-in =
       ap (λ (k : ℕ). window (payloadMost - k) (payloadAt + k) (block n s e)) length-in
-      ∙ (ap (window (payloadMost - length (e .payload)) (payloadAt + length (e .payload))) (parts ∙ sym (append-assoc (head n s e) (e .payload) _))
-      ∙ window-middle (head n s e ++ e .payload) (zeros (payloadMost - length (e .payload))) check _ _ (simp (length-append, head-length)) (zeros-length _))
+      ∙ (ap (window (payloadMost - length (e .payload)) (payloadAt + length (e .payload))) (parts
+      ∙ sym (append-assoc (head n s e) (e .payload) _))
+      ∙ window-middle (head n s e ++ e .payload) (zeros (payloadMost - length (e .payload))) check _ _ (simp (length-append, head-length))
+      (zeros-length _))
 
   -- the check covers the body alone
   pub check-of : blockCheckOf (block n s e) ≡ blockCheckOf (body n s e)
@@ -89,5 +92,7 @@ module _ (n s : ℕ) (e : Entry) (fits : length (e .payload) ≤ payloadMost) wh
   unfolding field block
   check-in h =
       ap (λ (b : List ℕ). numberOf (window 4 covered b)) (ap (_++_ (body n s e)) (sym (append-nil _)))
-      ∙ (ap numberOf (window-middle (body n s e) (bytesOf 4 (blockCheckOf (body n s e))) [] covered 4 body-length (bytes-length 4 (blockCheckOf (body n s e))))
+      ∙ (ap numberOf
+      (window-middle (body n s e) (bytesOf 4 (blockCheckOf (body n s e))) [] covered 4 body-length
+      (bytes-length 4 (blockCheckOf (body n s e))))
       ∙ (number-back 4 (blockCheckOf (body n s e)) h ∙ sym check-of))

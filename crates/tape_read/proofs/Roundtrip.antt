@@ -30,7 +30,8 @@ module _ (e : Entry) (es : List Entry) (h : allStorable (e ∷ es) ≡ true) whe
 pub written-length : (n s : ℕ) (es : List Entry) → allStorable es ≡ true → length (written n s es) ≡ length es * blockSize
 unfolding written
 written-length n s [] h = refl
-written-length n s (e ∷ es) h = length-append (block n s e) _ ∙ omega (arith, first-length e es h n s, written-length (n + 1) s es (rest-storable e es h))
+written-length n s (e ∷ es) h =
+    length-append (block n s e) _ ∙ omega (arith, first-length e es h n s, written-length (n + 1) s es (rest-storable e es h))
 
 -- block by block, from any block number on
 pub written-reads : (n s : ℕ) (es : List Entry) → allStorable es ≡ true → n + length es ≤ 2 ^ 32 → s < 2 ^ 32
@@ -41,11 +42,13 @@ written-reads n s (e ∷ es) h hn hs =
     let size = first-length e es h n s in
     let rest = written (n + 1) s es in
     let front = take-at (block n s e) rest blockSize size in
-    let good : codeOf n s (take blockSize (block n s e ++ rest)) ≡ 0 = ap (codeOf n s) front ∙ block-code n s e (first-storable e es h) (omega arith) hs in
+    let good : codeOf n s (take blockSize (block n s e ++ rest)) ≡ 0 =
+    ap (codeOf n s) front ∙ block-code n s e (first-storable e es h) (omega arith) hs in
     read-good n s (block n s e ++ rest) (simp length-append (omega arith)) good
     ∙ ap₂ preceded
     (ap entryIn front ∙ entry-back n s e (first-storable e es h))
-    (ap (readFrom (n + 1) s) (drop-at (block n s e) rest blockSize size) ∙ written-reads (n + 1) s es (rest-storable e es h) (omega arith) hs)
+    (ap (readFrom (n + 1) s) (drop-at (block n s e) rest blockSize size)
+    ∙ written-reads (n + 1) s es (rest-storable e es h) (omega arith) hs)
 
 -- the session number is that of the first block, whatever it is where there is none
 session-written : (s : ℕ) (es : List Entry) → allStorable es ≡ true → s < 2 ^ 32
@@ -57,7 +60,8 @@ session-written s (e ∷ es) h hs =
     (ap sessionIn (take-at (block 0 s e) (written 1 s es) blockSize (first-length e es h 0 s)) ∙ session-in 0 s e hs)
 
 -- what was written in order reads back as exactly those entries
-pub tape-back : (s : ℕ) (es : List Entry) → allStorable es ≡ true → length es ≤ blocksMost → s < 2 ^ 32 → readTape (written 0 s es) ≡ entries es
+pub tape-back : (s : ℕ) (es : List Entry) → allStorable es ≡ true → length es ≤ blocksMost → s < 2 ^ 32
+    → readTape (written 0 s es) ≡ entries es
 tape-back s es h hn hs =
     let size = written-length 0 s es h in
     tape-blocks (written 0 s es) (omega arith) (omega arith)
@@ -67,7 +71,8 @@ take-storable : (k : ℕ) (es : List Entry) → allStorable es ≡ true → allS
 unfolding allStorable
 take-storable zero es h = refl
 take-storable (suc k) [] h = refl
-take-storable (suc k) (e ∷ es) h = and-eq-true-iff (storable e) (allStorable (take k es)) .1 (first-storable e es h, take-storable k es (rest-storable e es h))
+take-storable (suc k) (e ∷ es) h =
+    and-eq-true-iff (storable e) (allStorable (take k es)) .1 (first-storable e es h, take-storable k es (rest-storable e es h))
 
 -- the writing cut after k blocks
 cut-written : (k n s : ℕ) (es : List Entry) → allStorable es ≡ true → take (k * blockSize) (written n s es) ≡ written n s (take k es)
@@ -77,7 +82,8 @@ cut-written (suc k) n s [] h = take-nil (suc k * blockSize)
 cut-written (suc k) n s (e ∷ es) h =
     let one : suc k * blockSize ≡ length (block n s e) + k * blockSize = omega (arith, first-length e es h n s) in
     ap (λ (m : ℕ). take m (block n s e ++ written (n + 1) s es)) one
-    ∙ (take-append-add (block n s e) (written (n + 1) s es) (k * blockSize) ∙ ap (_++_ (block n s e)) (cut-written k (n + 1) s es (rest-storable e es h)))
+    ∙ (take-append-add (block n s e) (written (n + 1) s es) (k * blockSize)
+    ∙ ap (_++_ (block n s e)) (cut-written k (n + 1) s es (rest-storable e es h)))
 
 -- and where the writing was cut after any block, as exactly the entries so far
 pub cut-back : (k s : ℕ) (es : List Entry) → allStorable es ≡ true → length es ≤ blocksMost → s < 2 ^ 32

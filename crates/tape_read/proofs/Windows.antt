@@ -35,7 +35,8 @@ pub window-zero : (w at : ℕ) (b : List ℕ) → allZero (take w (drop at b)) �
 unfolding allZero window
 window-zero zero at b = refl
 window-zero (suc w) at b =
-    let next : allZero (take w (drop (suc at) b)) ≡ allZero (window w (at + 1) b) = ap (λ (k : ℕ). allZero (take w (drop k b))) (sym (add-one at)) ∙ window-zero w (at + 1) b in
+    let next : allZero (take w (drop (suc at) b)) ≡ allZero (window w (at + 1) b) =
+    ap (λ (k : ℕ). allZero (take w (drop k b))) (sym (add-one at)) ∙ window-zero w (at + 1) b in
     either (ltb at (length b))
     (λ y.
     ap (λ (s : List ℕ). allZero (take (suc w) s)) (drop-cons b at 0 (ltb-true at (length b) y))

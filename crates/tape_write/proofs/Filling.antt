@@ -24,7 +24,8 @@ laid-next x y at d here fits =
 
 module _ (n s : ℕ) (e : Entry) (d : List ℕ) (fits : length (e .payload) ≤ payloadMost) (size : length d ≡ blockSize) where
   -- head, payload and zeros, one after the other
-  pub laid-body : laid (zeros (payloadMost - length (e .payload))) (payloadAt + length (e .payload)) (laid (e .payload) payloadAt (laid (head n s e) 0 d))
+  pub laid-body : laid (zeros (payloadMost - length (e .payload))) (payloadAt + length (e .payload))
+      (laid (e .payload) payloadAt (laid (head n s e) 0 d))
       ≡ put (body n s e) 0 d
   unfolding body
   laid-body =
@@ -32,7 +33,8 @@ module _ (n s : ℕ) (e : Entry) (d : List ℕ) (fits : length (e .payload) ≤ 
       let top = head-length n s e in
       let none = zeros-length (payloadMost - k) in
       let both : length (head n s e ++ e .payload) ≡ payloadAt + k = simp (length-append, head-length) in
-      ap (λ (x : List ℕ). laid (zeros (payloadMost - k)) (payloadAt + k) (laid (e .payload) payloadAt x)) (laid-fits (head n s e) 0 d (omega arith))
+      ap (λ (x : List ℕ). laid (zeros (payloadMost - k)) (payloadAt + k) (laid (e .payload) payloadAt x))
+      (laid-fits (head n s e) 0 d (omega arith))
       ∙ (ap (laid (zeros (payloadMost - k)) (payloadAt + k)) (laid-next (head n s e) (e .payload) payloadAt d top (omega arith))
       ∙ (laid-next (head n s e ++ e .payload) (zeros (payloadMost - k)) (payloadAt + k) d both (omega arith)
       ∙ ap (λ (x : List ℕ). put x 0 d) (append-assoc (head n s e) (e .payload) (zeros (payloadMost - k)))))
@@ -52,7 +54,8 @@ module _ (n s : ℕ) (e : Entry) (d : List ℕ) (fits : length (e .payload) ≤ 
       let four = bytes-length 4 (blockCheckOf (body n s e)) in
       laid-next (body n s e) check covered d (body-length n s e fits) (omega arith)
       ∙ (put-start (block n s e) d
-      ∙ (ap (_++_ (block n s e)) (drop-of-length-le d {i = length (block n s e)} (omega (arith, block-length n s e fits))) ∙ append-nil (block n s e)))
+      ∙ (ap (_++_ (block n s e)) (drop-of-length-le d {i = length (block n s e)} (omega (arith, block-length n s e fits)))
+      ∙ append-nil (block n s e)))
 
   -- the three steps of a filling: the body, the check of what stands there, the check's bytes
   pub filled : (b c : List ℕ) (k : ℕ) → b ≡ put (body n s e) 0 d → k ≡ blockCheckOf b → c ≡ bytesOf 4 k → laid c covered b ≡ block n s e
@@ -67,4 +70,5 @@ zeros-part k n h =
     let all : k + (n - k) ≡ n = omega arith in
     let split : zeros n ≡ zeros k ++ zeros (n - k) = sym (replicate-append-replicate k (n - k) 0 ∙ ap zeros all) in
     ap (λ (l : List ℕ). take (n - k) (drop k l)) split
-    ∙ (ap (take (n - k)) (drop-at (zeros k) (zeros (n - k)) k (zeros-length k)) ∙ take-all (n - k) (zeros (n - k)) (omega (arith, zeros-length (n - k))))
+    ∙ (ap (take (n - k)) (drop-at (zeros k) (zeros (n - k)) k (zeros-length k))
+    ∙ take-all (n - k) (zeros (n - k)) (omega (arith, zeros-length (n - k))))

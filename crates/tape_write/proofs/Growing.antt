@@ -64,7 +64,8 @@ written-more n s (f ∷ es) e =
     ∙ sym (append-assoc (block n s f) (written (n + 1) s es) (block (n + length (f ∷ es)) s e))
 
 -- the blocks used hold the entries taken so far; after one more, those and this one
-pub append-written : (w : Writer) (es : List Entry) (e : Entry) (t : List ℕ) → length es ≡ w .used → take (w .used * blockSize) t ≡ written 0 (w .session) es
+pub append-written : (w : Writer) (es : List Entry) (e : Entry) (t : List ℕ) → length es ≡ w .used
+    → take (w .used * blockSize) t ≡ written 0 (w .session) es
     → refusalOf (w .used) e t ≡ 0 → take ((w .used + 1) * blockSize) (tapeAfter w e t) ≡ written 0 (w .session) (es ++ (e ∷ []))
 append-written w es e t count so-far h =
     let here : w .used ≡ 0 + length es = omega arith in
@@ -72,7 +73,8 @@ append-written w es e t count so-far h =
     ∙ (ap₂ _++_ so-far (ap (λ (k : ℕ). block k (w .session) e) here) ∙ sym (written-more 0 (w .session) es e))
 
 -- and what the blocks used hold reads back
-pub append-reads : (w : Writer) (es : List Entry) (t : List ℕ) → allStorable es ≡ true → length es ≡ w .used → w .used ≤ blocksMost → w .session < 2 ^ 32
+pub append-reads : (w : Writer) (es : List Entry) (t : List ℕ) → allStorable es ≡ true → length es ≡ w .used → w .used ≤ blocksMost
+    → w .session < 2 ^ 32
     → take (w .used * blockSize) t ≡ written 0 (w .session) es → readTape (take (w .used * blockSize) t) ≡ entries es
 append-reads w es t h count most hs so-far = ap readTape so-far ∙ tape-back (w .session) es h (omega arith) hs
 
@@ -85,7 +87,8 @@ tape-length w e t h =
     ap length (taken-tape w e t h) ∙ put-length b (w .used * blockSize) t (omega arith)
 
 -- entries that fit are all taken, and then stand after those that stood there
-appends-written : (es done : List Entry) (w : Writer) (t : List ℕ) → allStorable es ≡ true → length done ≡ w .used → w .used + length es ≤ blocksMost
+appends-written : (es done : List Entry) (w : Writer) (t : List ℕ) → allStorable es ≡ true → length done ≡ w .used
+    → w .used + length es ≤ blocksMost
     → (w .used + length es) * blockSize ≤ length t → take (w .used * blockSize) t ≡ written 0 (w .session) done
     → take ((w .used + length es) * blockSize) (appendAll w es t .tape) ≡ written 0 (w .session) (done ++ es)
 unfolding appendAll
@@ -94,19 +97,23 @@ appends-written [] done w t h count most room so-far =
     ap (λ (k : ℕ). take (k * blockSize) t) none ∙ (so-far ∙ ap (written 0 (w .session)) (sym (append-nil done)))
 appends-written (e ∷ es) done w t h count most room so-far =
     let good = first-storable e es h in
-    let ok : refusalOf (w .used) e t ≡ 0 = not-refused (w .used) e t (storable-kind e good) (storable-fits e good) (omega arith) (omega arith) in
+    let ok : refusalOf (w .used) e t ≡ 0 =
+    not-refused (w .used) e t (storable-kind e good) (storable-fits e good) (omega arith) (omega arith) in
     let w′ : Writer = record { used = w .used + 1; session = w .session } in
     let t′ = tapeAfter w e t in
     let size = tape-length w e t ok in
-    let next : appendedOf w (refusalOf (w .used) e t) .writer ≡ w′ = ap (λ (r : Appended). r .writer) (taken-answer w (refusalOf (w .used) e t) ok) in
+    let next : appendedOf w (refusalOf (w .used) e t) .writer ≡ w′ =
+    ap (λ (r : Appended). r .writer) (taken-answer w (refusalOf (w .used) e t) ok) in
     let place : w .used + length (e ∷ es) ≡ w′ .used + length es = omega arith in
     ap₂ (λ (k : ℕ) (v : Writer). take (k * blockSize) (appendAll v es t′ .tape)) place next
-    ∙ (appends-written es (done ++ (e ∷ [])) w′ t′ (rest-storable e es h) (length-append done (e ∷ []) ∙ omega arith) (omega arith) (omega arith)
+    ∙ (appends-written es (done ++ (e ∷ [])) w′ t′ (rest-storable e es h) (length-append done (e ∷ [])
+    ∙ omega arith) (omega arith) (omega arith)
     (append-written w done e t count so-far ok)
     ∙ ap (written 0 (w .session)) (append-assoc done (e ∷ []) es))
 
 -- what was appended in order on an empty tape reads back as exactly that
-pub appends-read : (s : ℕ) (es : List Entry) (t : List ℕ) → allStorable es ≡ true → length es ≤ blocksMost → length es * blockSize ≤ length t → s < 2 ^ 32
+pub appends-read : (s : ℕ) (es : List Entry) (t : List ℕ) → allStorable es ≡ true → length es ≤ blocksMost
+    → length es * blockSize ≤ length t → s < 2 ^ 32
     → readTape (take (length es * blockSize) (appendAll (fresh s) es t .tape)) ≡ entries es
 unfolding written
 appends-read s es t h most room hs =

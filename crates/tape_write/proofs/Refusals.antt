@@ -57,4 +57,5 @@ module _ (used : ℕ) (e : Entry) (t : List ℕ) where
         unfolding refusalOf
         not-refused room =
             first-skip _ _ _ (ap not kind)
-            ∙ (first-skip _ _ _ (le-ltb _ _ fits) ∙ (first-skip _ _ _ (lt-leb _ _ blocks) ∙ (first-skip _ _ _ (le-ltb _ _ room) ∙ first-end)))
+            ∙ (first-skip _ _ _ (le-ltb _ _ fits)
+            ∙ (first-skip _ _ _ (lt-leb _ _ blocks) ∙ (first-skip _ _ _ (le-ltb _ _ room) ∙ first-end)))

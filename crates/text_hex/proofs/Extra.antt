@@ -32,7 +32,8 @@ one-copied u d n h k =
     ∙ (paste-suc d 0 u n 0 (rw zero-add h) k ∙ ap (paste d 0 u) (sym (add-one n)))
 
 -- a copy that has come as far as there are elements and room
-pub copied : (u d : List ℕ) (n : ℕ) → n ≡ min (length d) (length u) → (n ≡ length (take (length d) u)) × (paste d 0 u n ≡ put (take (length d) u) 0 d)
+pub copied : (u d : List ℕ) (n : ℕ) → n ≡ min (length d) (length u)
+    → (n ≡ length (take (length d) u)) × (paste d 0 u n ≡ put (take (length d) u) 0 d)
 copied u d n e =
     let size : n ≡ length (take (length d) u) = e ∙ sym (length-take (length d) u) in (
       size,

@@ -35,7 +35,8 @@ module _ (s : List ℕ) (i : ℕ) (h : i < length s) where
   one-more = ap (λ (k : ℕ). hexed (take k s)) (add-one i) ∙ (ap hexed (take-suc s i 0 h) ∙ hexed-append (take i s) (getD s i 0 ∷ []))
 
   pub printed : (d : List ℕ) → 2 * i + 2 ≤ length d
-      → set (set (put (hexed (take i s)) 0 d) (2 * i) (digitFor (getD s i 0 / 16))) (2 * i + 1) (digitFor (getD s i 0 % 16)) ≡ put (hexed (take (i + 1) s)) 0 d
+      → set (set (put (hexed (take i s)) 0 d) (2 * i) (digitFor (getD s i 0 / 16))) (2 * i + 1) (digitFor (getD s i 0 % 16))
+      ≡ put (hexed (take (i + 1) s)) 0 d
   unfolding hexed
   printed d k =
       let x = hexed (take i s) in

@@ -17,11 +17,13 @@ use Rattle.text_hex.proofs.Extra.{and-no}
 
 module _ (base most n : ℕ) (s : List ℕ) (i d : ℕ) (told : d ≡ digit (getD s i 0)) where
   step : i < length s
-      → continued base most n (drop i s) ≡ pick (ltb d base && leb (base * n + d) most) (continued base most (base * n + d) (drop (i + 1) s)) n
+      → continued base most n (drop i s)
+      ≡ pick (ltb d base && leb (base * n + d) most) (continued base most (base * n + d) (drop (i + 1) s)) n
   unfolding continued
   step h = ap (continued base most n) (drop-cons s i 0 h) ∙ (rw (add-one, told))
 
-  pub goes-on : i < length s → d < base → base * n + d ≤ most → continued base most n (drop i s) ≡ continued base most (base * n + d) (drop (i + 1) s)
+  pub goes-on : i < length s → d < base → base * n + d ≤ most
+      → continued base most n (drop i s) ≡ continued base most (base * n + d) (drop (i + 1) s)
   goes-on h k l = step h ∙ pick-yes _ _ _ (and-both _ _ (lt-ltb _ _ k) (le-leb _ _ l))
 
   pub ends-here : i < length s → (d < base → base * n + d ≤ most → ⊥) → continued base most n (drop i s) ≡ n

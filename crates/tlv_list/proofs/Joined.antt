@@ -80,7 +80,9 @@ module _ (a b : List ℕ) (w : whole a ≡ true) where
   same-length : lengthOf (a ++ b) ≡ lengthOf a
   unfolding lengthOf lengthSize
   same-length =
-      ap (λ (f : ℕ). pick (ltb f 0x80) f (pick (eqb f 0x81) (getD (a ++ b) (tagSize (a ++ b) + 1) 0) (256 * getD (a ++ b) (tagSize (a ++ b) + 1) 0 + getD (a ++ b) (tagSize (a ++ b) + 2) 0))) same-byte
+      ap (λ (f : ℕ). pick (ltb f 0x80) f
+      (pick (eqb f 0x81) (getD (a ++ b) (tagSize (a ++ b) + 1) 0)
+      (256 * getD (a ++ b) (tagSize (a ++ b) + 1) 0 + getD (a ++ b) (tagSize (a ++ b) + 2) 0))) same-byte
       ∙ pick-cong (ltb (lengthByte a) 0x80) _ _ _ _ (λ e. refl) (λ small.
       pick-cong (eqb (lengthByte a) 0x81) _ _ _ _
       (λ e. let n = form-one (lengthByte a) small e in same-later 1 (omega arith))
@@ -101,8 +103,10 @@ module _ (a b : List ℕ) (w : whole a ≡ true) where
   still-whole =
       let i = inside in
       let long = length-append a b in
-      let fits : leb (valueEnd (a ++ b)) (length (a ++ b)) ≡ true = le-leb (valueEnd (a ++ b)) (length (a ++ b)) (let e = same-end in omega arith) in
-      rw (same-right, same-size, fits) (and-all (tagRight a) (not (eqb (lengthSize a) 0)) (and-left _ _ w) (and-left _ _ (and-right (tagRight a) _ w)))
+      let fits : leb (valueEnd (a ++ b)) (length (a ++ b)) ≡ true =
+      le-leb (valueEnd (a ++ b)) (length (a ++ b)) (let e = same-end in omega arith) in
+      rw (same-right, same-size, fits)
+      (and-all (tagRight a) (not (eqb (lengthSize a) 0)) (and-left _ _ w) (and-left _ _ (and-right (tagRight a) _ w)))
     where
       and-all : (x y : Bool) → x ≡ true → y ≡ true → (x && (y && true)) ≡ true
       and-all x y e f = rw (e, f)

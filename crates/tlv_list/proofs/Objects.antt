@@ -36,7 +36,8 @@ module _ (f g : List ℕ → Option (List Object)) (s : List ℕ) (same : (t : L
   same-inside w =
       let within = whole-within s w in
       let small = between-length s (valueStart s) (valueEnd s) in
-      ap (λ (o : Option (List Object)). pick (constructed (tagOf s)) (isSome o) true) (same (between s (valueStart s) (valueEnd s)) (omega arith))
+      ap (λ (o : Option (List Object)). pick (constructed (tagOf s)) (isSome o) true)
+      (same (between s (valueStart s) (valueEnd s)) (omega arith))
 
   same-rest : whole s ≡ true → f (drop (valueEnd s) s) ≡ g (drop (valueEnd s) s)
   same-rest w =
@@ -74,7 +75,9 @@ module _ (s : List ℕ) (due : eqb (getD s 0 0) 0 ≡ false) (some-bytes : 0 < l
 
   pub objects-member : whole s ≡ true
       → objects s ≡ pick (rightInside objects (firstObject s)) (before (firstObject s) (objects (drop (valueEnd s) s))) none
-  objects-member w = due-step ∙ ap (λ (t : Bool). pick (t && rightInside objects (firstObject s)) (before (firstObject s) (objects (drop (valueEnd s) s))) none) w
+  objects-member w =
+      due-step ∙ ap
+      (λ (t : Bool). pick (t && rightInside objects (firstObject s)) (before (firstObject s) (objects (drop (valueEnd s) s))) none) w
 
   pub objects-broken : whole s ≡ false → objects s ≡ none
   objects-broken w = due-step ∙ pick-no _ _ _ (rw w)

@@ -62,9 +62,11 @@ module _ (s : List ℕ) (p : ℕ) (h : p < length s) (due : eqb (getD (drop p s)
   some-bytes : 0 < length (drop p s)
   some-bytes = rw length-drop (omega arith)
 
-  first-moved : firstObject (drop p s) ≡ record { tag = tagOf (drop p s); value = between s (p + valueStart (drop p s)) (p + valueEnd (drop p s)) }
+  first-moved : firstObject (drop p s)
+      ≡ record { tag = tagOf (drop p s); value = between s (p + valueStart (drop p s)) (p + valueEnd (drop p s)) }
   unfolding firstObject
-  first-moved = ap (λ (v : List ℕ). record { tag = tagOf (drop p s); value = v }) (between-drop s p (valueStart (drop p s)) (valueEnd (drop p s)))
+  first-moved =
+      ap (λ (v : List ℕ). record { tag = tagOf (drop p s); value = v }) (between-drop s p (valueStart (drop p s)) (valueEnd (drop p s)))
 
   at-head : objects (drop p s) ≡ following s (memberAt s p)
   unfolding memberAt following

@@ -23,7 +23,8 @@ use Rattle.tlv_list.proofs.Reading.{following, objects-next, next-end, 
 
 follow-cong : (f g : ℕ → List Place) (n : Next) → ((tag start end : ℕ) → n ≡ Member tag start end → f end ≡ g end) → follow f n ≡ follow g n
 unfolding follow
-follow-cong f g (Member tag start end) h = ap (λ (ps : List Place). record { tag = tag; start = start; end = end } ∷ ps) (h tag start end refl)
+follow-cong f g (Member tag start end) h =
+    ap (λ (ps : List Place). record { tag = tag; start = start; end = end } ∷ ps) (h tag start end refl)
 follow-cong f g End h = refl
 follow-cong f g Broken h = refl
 
@@ -67,7 +68,8 @@ module _ (s : List ℕ) (n : ℕ) (ms : List Object) where
   members-step at End e h f again = cc
   members-step at Broken e h f again = absurd (let z : _≡_ {A = ℕ} 0 1 = cc in omega arith)
 
-members-walk : (s : List ℕ) (n at : ℕ) (ms : List Object) → length s ≤ at + n → objects (drop at s) ≡ some ms → map (objectAt s) (walk n s at) ≡ ms
+members-walk : (s : List ℕ) (n at : ℕ) (ms : List Object) → length s ≤ at + n → objects (drop at s) ≡ some ms
+    → map (objectAt s) (walk n s at) ≡ ms
 unfolding walk
 members-walk s zero at ms h e =
     let none-left : objects (drop at s) ≡ some [] = ap objects (drop-of-length-le s {i = at} (omega arith)) ∙ objects-empty in
@@ -88,7 +90,8 @@ met-twice v w twice = refl
 
 module _ (s : List ℕ) (tag : ℕ) where
   -- after one with the tag, a look-up of the others says whether it stands alone
-  others : (a e : ℕ) (ps : List Place) → met (between s a e) (lookup tag (map (objectAt s) ps)) ≡ foundValue s (unless a e (firstAmong tag ps))
+  others : (a e : ℕ) (ps : List Place)
+      → met (between s a e) (lookup tag (map (objectAt s) ps)) ≡ foundValue s (unless a e (firstAmong tag ps))
   unfolding lookup firstAmong objectAt met foundValue unless
   others a e [] = refl
   others a e (p ∷ ps) =
@@ -123,7 +126,8 @@ module _ (s : List ℕ) (tag : ℕ) where
   lookup-step n at End e h rest = refl
   lookup-step n at Broken e h rest = refl
 
-  lookup-walk : (n at : ℕ) → length s ≤ at + n → lookup tag (map (objectAt s) (walk n s at)) ≡ foundValue s (alone again (firstAmong tag (walk n s at)))
+  lookup-walk : (n at : ℕ) → length s ≤ at + n
+      → lookup tag (map (objectAt s) (walk n s at)) ≡ foundValue s (alone again (firstAmong tag (walk n s at)))
   unfolding walk lookup firstAmong alone foundValue
   lookup-walk zero at h = refl
   lookup-walk (suc n) at h = lookup-step n at (nextAt s at) refl h (λ end k. lookup-walk n end k)

@@ -108,7 +108,8 @@ module _ (p v : List ℕ) (n : ℕ) (below : n < 65536) (after : tagSize (p ++ (
   two-more : 256 ≤ n → LengthBack n s
   unfolding lengthBytes lengthSize lengthOf lengthForm
   two-more h =
-      let bytes : lengthBytes n ≡ 0x82 ∷ n / 256 ∷ n % 256 ∷ [] = pick-no _ _ _ (le-ltb n 0x80 (omega arith)) ∙ pick-no _ _ _ (le-ltb n 256 h) in
+      let bytes : lengthBytes n ≡ 0x82 ∷ n / 256 ∷ n % 256 ∷ [] =
+      pick-no _ _ _ (le-ltb n 0x80 (omega arith)) ∙ pick-no _ _ _ (le-ltb n 256 h) in
       let b : lengthByte s ≡ 0x82 = first (0x82 ∷ n / 256 ∷ n % 256 ∷ []) bytes in
       let large : ltb (lengthByte s) 0x80 ≡ false = ap (λ (x : ℕ). ltb x 0x80) b in
       let other : eqb (lengthByte s) 0x81 ≡ false = ap (λ (x : ℕ). eqb x 0x81) b in
@@ -175,7 +176,8 @@ module _ (m : Object) (ok : Writable m) where
       let k = some-length in
       let n : lengthSize bytes ≡ length l = number .size in
       let some-form : lengthSize bytes ≡ 0 → ⊥ = λ (e : lengthSize bytes ≡ 0). omega arith in
-      and-both _ _ (head .right) (and-both _ _ (ap not (ne-eqb _ _ some-form)) (le-leb (valueEnd bytes) (length bytes) (let e = end-back in omega arith)))
+      and-both _ _ (head .right)
+      (and-both _ _ (ap not (ne-eqb _ _ some-form)) (le-leb (valueEnd bytes) (length bytes) (let e = end-back in omega arith)))
 
   value-back : between bytes (valueStart bytes) (valueEnd bytes) ≡ m .value
   unfolding between bytes written t l
@@ -221,7 +223,8 @@ all-back (and-then {m} {ms} ok rest) =
 
 -- also inside a constructed object: it is written, read back, and its value read back in turn
 pub nested-back : (tag : ℕ) {ms : List Object} → isTag tag ≡ true → AllWritable ms → length (writtenAll ms) < 65536
-    → (objects (written tag (writtenAll ms)) ≡ some (record { tag = tag; value = writtenAll ms } ∷ [])) × (objects (writtenAll ms) ≡ some ms)
+    → (objects (written tag (writtenAll ms)) ≡ some (record { tag = tag; value = writtenAll ms } ∷ []))
+    × (objects (writtenAll ms) ≡ some ms)
 unfolding fitsTag isList isSome
 nested-back tag {ms} a-tag ok short =
     let inner = all-back ok in

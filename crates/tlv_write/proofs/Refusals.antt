@@ -18,7 +18,8 @@ use Rattle.tlv_write.specs.Written.{isTag, tagBytes, lengthBytes, writte
 use Rattle.tlv_write.specs.declared.Wrote.{Wrote}
 use Rattle.tlv_write.specs.declared.Wrote.the-variants.{Bytes, BadObject, NoRoom}
 
-pub written-length : (tag : ℕ) (value : List ℕ) → length (written tag value) ≡ length (tagBytes tag) + length (lengthBytes (length value)) + length value
+pub written-length : (tag : ℕ) (value : List ℕ)
+    → length (written tag value) ≡ length (tagBytes tag) + length (lengthBytes (length value)) + length value
 unfolding written
 written-length tag value =
     length-append (tagBytes tag) (lengthBytes (length value) ++ value)
@@ -36,7 +37,8 @@ module _ (tag : ℕ) (value : List ℕ) (room : ℕ) where
   pub too-long : 4096 < length (written tag value) → writeRefusal tag value room ≡ 10
   unfolding writeRefusal firstOf
   too-long h =
-      ap (pick (not (isTag tag)) 10) (ap (pick (not (fitsTag tag value)) 10) (pick-yes _ _ _ (lt-ltb _ _ h)) ∙ pick-same _ _) ∙ pick-same _ _
+      ap (pick (not (isTag tag)) 10) (ap (pick (not (fitsTag tag value)) 10) (pick-yes _ _ _ (lt-ltb _ _ h)) ∙ pick-same _ _)
+      ∙ pick-same _ _
 
   pub record Sound : Type 0 where
     pub a-tag : isTag tag ≡ true
@@ -54,7 +56,8 @@ module _ (tag : ℕ) (value : List ℕ) (room : ℕ) where
   accepted o h = on-sound o ∙ pick-no _ _ _ (le-ltb _ _ h)
 
   -- each number comes from its own line
-  pub numbers : (P : ℕ → Type 0) → P 10 → (Sound → P 11) → (Sound → length (written tag value) ≤ room → P 0) → P (writeRefusal tag value room)
+  pub numbers : (P : ℕ → Type 0) → P 10 → (Sound → P 11) → (Sound → length (written tag value) ≤ room → P 0)
+      → P (writeRefusal tag value room)
   unfolding writeRefusal firstOf
   numbers P ten eleven zero′ =
       picked P (not (isTag tag)) 10 _ (λ e. ten) (λ t.
@@ -70,7 +73,8 @@ module _ (tag : ℕ) (value : List ℕ) (room : ℕ) where
 
   pub not-refused : (writeRefusal tag value room ≡ 10 → ⊥) → (writeRefusal tag value room ≡ 11 → ⊥) → Accepted
   not-refused =
-      numbers (λ n. writeRefusal tag value room ≡ n → (writeRefusal tag value room ≡ 10 → ⊥) → (writeRefusal tag value room ≡ 11 → ⊥) → Accepted)
+      numbers (λ n. writeRefusal tag value room ≡ n → (writeRefusal tag value room ≡ 10 → ⊥) → (writeRefusal tag value room ≡ 11 → ⊥)
+      → Accepted)
       (λ e f g. absurd (f e)) (λ o e f g. absurd (g e)) (λ o h e f g. record { none-told = e; sound = o; room-for = h }) refl
 
 module _ (tag : ℕ) (value buf : List ℕ) where

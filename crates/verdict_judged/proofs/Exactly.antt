@@ -68,5 +68,6 @@ readable-exactly t es a r (readable fs q j) =
 readable-exactly t es a r (damaged place code q e) = absurd (let z : _≡_ {A = ℕ} 0 1 = cc in omega arith)
 
 -- and for every other: its place and code
-pub unreadable-exactly : (t : List ℕ) (place code : ℕ) (a : Answer) → readTape t ≡ unreadable place code → Judged t a → a ≡ says Unreadable place code
+pub unreadable-exactly : (t : List ℕ) (place code : ℕ) (a : Answer) → readTape t ≡ unreadable place code → Judged t a
+    → a ≡ says Unreadable place code
 unreadable-exactly t place code a r j = judged-once j (damaged place code r refl)

@@ -52,7 +52,8 @@ module _ (k session : ℕ) (t : List ℕ) where
     unfolding blockAt
     rest-bad bad = read-bad k session (drop (k * blockSize) t) more bad
 
-    pub rest-good : codeOf k session (blockAt k t) ≡ 0 → restFrom k session t ≡ preceded (entryIn (blockAt k t)) (restFrom (k + 1) session t)
+    pub rest-good : codeOf k session (blockAt k t) ≡ 0
+        → restFrom k session t ≡ preceded (entryIn (blockAt k t)) (restFrom (k + 1) session t)
     unfolding blockAt
     rest-good good =
         read-good k session (drop (k * blockSize) t) more good
@@ -90,7 +91,8 @@ module _ (m : Progress) (k session : ℕ) (t : List ℕ) where
     unfolding verdictFrom
     loop-bad bad = ap (finally m) (rest-bad k session t there bad) ∙ finally-damaged m _ _
 
-    pub loop-good : codeOf k session (blockAt k t) ≡ 0 → verdictFrom m k session t ≡ verdictFrom (reads m (entryIn (blockAt k t))) (k + 1) session t
+    pub loop-good : codeOf k session (blockAt k t) ≡ 0
+        → verdictFrom m k session t ≡ verdictFrom (reads m (entryIn (blockAt k t))) (k + 1) session t
     unfolding verdictFrom
     loop-good good = ap (finally m) (rest-good k session t there good) ∙ finally-next m (entryIn (blockAt k t)) (restFrom (k + 1) session t)
 

@@ -106,7 +106,8 @@ progress-more es e = reads-append begun es (e ∷ [])
 means-all : (fs es : List Entry) (m : Progress) → Means m es → Means (readsAll m fs) (es ++ fs)
 unfolding readsAll
 means-all [] es m h = subst (Means m) (sym (append-nil es)) h
-means-all (f ∷ fs) es m h = subst (Means (readsAll (reads m f) fs)) (append-assoc es (f ∷ []) fs) (means-all fs (es ++ (f ∷ [])) (reads m f) (means-next es f m h))
+means-all (f ∷ fs) es m h =
+    subst (Means (readsAll (reads m f) fs)) (append-assoc es (f ∷ []) fs) (means-all fs (es ++ (f ∷ [])) (reads m f) (means-next es f m h))
 
 pub progress-means : (es : List Entry) → Means (progressOf es) es
 unfolding Means run
@@ -117,9 +118,11 @@ progress-means es = means-all es [] begun (refl, refl)
 pub concluded-judges : (es : List Entry) (m : Progress) → Means m es → Judges es (concluded m)
 unfolding Means concluded Open
 concluded-judges es (reached (at p) n) h =
-    undecided (inl (run-beginning finishes es (at p) (h .0) (λ e. let z : _≡_ {A = ℕ} 0 1 = cc in omega arith))) (ap (λ (k : ℕ). says Inconclusive k 0) (h .1))
+    undecided (inl (run-beginning finishes es (at p) (h .0) (λ e. let z : _≡_ {A = ℕ} 0 1 = cc in omega arith)))
+    (ap (λ (k : ℕ). says Inconclusive k 0) (h .1))
 concluded-judges es (reached (owes w) n) h =
-    undecided (inl (run-beginning finishes es (owes w) (h .0) (λ e. let z : _≡_ {A = ℕ} 0 1 = cc in omega arith))) (ap (λ (k : ℕ). says Inconclusive k 0) (h .1))
+    undecided (inl (run-beginning finishes es (owes w) (h .0) (λ e. let z : _≡_ {A = ℕ} 0 1 = cc in omega arith)))
+    (ap (λ (k : ℕ). says Inconclusive k 0) (h .1))
 concluded-judges es (reached done n) h = passes (run-session es (h .0)) (ap (λ (k : ℕ). says Pass k 0) (h .1))
 concluded-judges es (closed n) h = undecided (inr (h .0)) (ap (λ (k : ℕ). says Inconclusive k 0) (h .1))
 concluded-judges es (broken k) h = fails k h refl

@@ -29,7 +29,8 @@ use Rattle.verdict_judged.proofs.Stored.{written-judged, session-judged
 -- no input: INCONCLUSIVE 0 0
 pub nothing-judged : Judged [] (says Inconclusive 0 0)
 unfolding Open
-nothing-judged = readable [] (tape-blocks [] (omega arith) refl ∙ read-end 0 (sessionOf []) [] (omega arith)) (undecided (inl begins-empty) refl)
+nothing-judged =
+    readable [] (tape-blocks [] (omega arith) refl ∙ read-end 0 (sessionOf []) [] (omega arith)) (undecided (inl begins-empty) refl)
 
 -- one byte, whichever: UNREADABLE 0 2
 pub byte-judged : (b : ℕ) → Judged (b ∷ []) (says Unreadable 0 2)

@@ -29,7 +29,8 @@ use Rattle.verdict_judged.proofs.Endings.{one-too-many}
 -- one closing silence, where the card's answer is awaited; it is counted
 pub closing-silence : (es : List Entry) → AwaitsCard es → Judges (es ++ (entry silence [] ∷ [])) (says Inconclusive (length es + 1) 0)
 unfolding Open Closed
-closing-silence es a = undecided (inr (es, (a, refl))) (ap (λ (n : ℕ). says Inconclusive n 0) (sym (length-append es (entry silence [] ∷ []))))
+closing-silence es a =
+    undecided (inr (es, (a, refl))) (ap (λ (n : ℕ). says Inconclusive n 0) (sym (length-append es (entry silence [] ∷ []))))
 
 -- ---- any other silence
 
@@ -79,7 +80,8 @@ start-not-awaited b a =
     let z : _≡_ {A = ℕ} 0 1 = cc in
     omega arith
 
-pub silence-after-start : (b p : List ℕ) (more : List Entry) → Beginning (entry start b ∷ []) → Judges (entry start b ∷ entry silence p ∷ more) (says Fail 1 0)
+pub silence-after-start : (b p : List ℕ) (more : List Entry) → Beginning (entry start b ∷ [])
+    → Judges (entry start b ∷ entry silence p ∷ more) (says Fail 1 0)
 unfolding Lawful Open
 silence-after-start b p more begins = silence-fails (entry start b ∷ []) p more (inr (inl begins)) (λ e a. start-not-awaited b a)
 
@@ -92,12 +94,14 @@ host-not-awaited : (es : List Entry) (h : List ℕ) (rest : List Entry) → Sess
 unfolding run
 host-not-awaited es h rest s a =
     let w = awaits-run es a in
-    let t = taken (run (entry host h ∷ rest)) (run es (at opens)) done (sym (run-append es (entry host h ∷ rest) (at opens)) ∙ session-run _ s) in
+    let t = taken (run (entry host h ∷ rest)) (run es (at opens)) done (sym (run-append es (entry host h ∷ rest) (at opens))
+    ∙ session-run _ s) in
     let n = taken (run rest) (next (t .0) (entry host h)) done (t .1 .1) in
     let here : t .0 ≡ owes (w .0) = cc (t .1 .0, w .1) in
     no-state (n .0) (sym (host-refused (w .0) h) ∙ (ap (λ (σ : Machine). next σ (entry host h)) (sym here) ∙ n .1 .0))
 
-pub silence-for-host : (es : List Entry) (h : List ℕ) (rest : List Entry) (p : List ℕ) (more : List Entry) → Session (es ++ (entry host h ∷ rest))
+pub silence-for-host : (es : List Entry) (h : List ℕ) (rest : List Entry) (p : List ℕ) (more : List Entry)
+    → Session (es ++ (entry host h ∷ rest))
     → Judges (es ++ (entry silence p ∷ more)) (says Fail (length es) 0)
 unfolding Lawful Open Beginning
 silence-for-host es h rest p more s = silence-fails es p more (inr (inl (entry host h, (rest, s)))) (λ e a. host-not-awaited es h rest s a)

@@ -31,7 +31,8 @@ session-fits es s = omega (arith, session-bound es s)
 -- an unfinished beginning of a session: as many entries as are there
 pub part-judges : (es : List Entry) (k : ℕ) → Session es → k < length es → Judges (take k es) (says Inconclusive k 0)
 unfolding Open
-part-judges es k s h = undecided (inl (session-part es k h s)) (ap (λ (n : ℕ). says Inconclusive n 0) (sym (length-take-le k es (omega arith))))
+part-judges es k s h =
+    undecided (inl (session-part es k h s)) (ap (λ (n : ℕ). says Inconclusive n 0) (sym (length-take-le k es (omega arith))))
 
 pub storable-append : (es fs : List Entry) → allStorable es ≡ true → allStorable fs ≡ true → allStorable (es ++ fs) ≡ true
 unfolding allStorable
@@ -52,7 +53,8 @@ module _ (s : ℕ) (number : s < 2 ^ 32) (es : List Entry) (fit : allStorable es
     written-judged = readable es (tape-back s es fit few number) j
 
     -- and so has what a writer appended on an empty tape
-    pub appended-judged : (t : List ℕ) → length es * blockSize ≤ length t → Judged (take (length es * blockSize) (appendAll (fresh s) es t .tape)) a
+    pub appended-judged : (t : List ℕ) → length es * blockSize ≤ length t
+        → Judged (take (length es * blockSize) (appendAll (fresh s) es t .tape)) a
     appended-judged t room = readable es (appends-read s es t fit few room number) j
 
   module _ (session : Session es) where
@@ -68,5 +70,6 @@ module _ (s : ℕ) (number : s < 2 ^ 32) (es : List Entry) (fit : allStorable es
   pub closed-judged : AwaitsCard es → Judged (written 0 s (es ++ (entry silence [] ∷ []))) (says Inconclusive (length es + 1) 0)
   unfolding allStorable storable isKind
   closed-judged a =
-      readable _ (tape-back s (es ++ (entry silence [] ∷ [])) (storable-append es (entry silence [] ∷ []) fit refl) (waiting-fits es a) number)
+      readable _ (tape-back s (es ++ (entry silence [] ∷ [])) (storable-append es (entry silence [] ∷ []) fit refl)
+      (waiting-fits es a) number)
       (closing-silence es a)

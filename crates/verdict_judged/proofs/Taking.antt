@@ -50,7 +50,8 @@ not-passed k j test p h = either (eqb j k) (λ y. ap₂ _&&_ y h) (λ n. ap (λ 
 module _ (n : ℕ) where
   -- what somebody other than the card says
   module _ (h : Heard) (p : List ℕ) where
-    pub reads-heard : allowed h p ≡ true → isPayload p ≡ true → reads (reached (at (hears h)) n) (entry (dueKind h) p) ≡ reached (at (after h p)) (n + 1)
+    pub reads-heard : allowed h p ≡ true → isPayload p ≡ true
+        → reads (reached (at (hears h)) n) (entry (dueKind h) p) ≡ reached (at (after h p)) (n + 1)
     reads-heard fits ok = reads-taken (at (hears h)) n (entry (dueKind h) p) (at (after h p)) (takes-heard h p fits ok)
 
     pub heard-invalid : allowed h p ≡ false → reads (reached (at (hears h)) n) (entry (dueKind h) p) ≡ broken n
@@ -74,7 +75,8 @@ module _ (n : ℕ) where
     unfolding next closes
     command-wrong k h =
         reads-refused (at (asks w)) n (entry k p)
-        (pick-no _ _ _ (not-passed command k _ p (either (alike p (commandOf w)) (λ y. absurd (h (alike-same p (commandOf w) y))) (λ f. f)))) refl
+        (pick-no _ _ _
+        (not-passed command k _ p (either (alike p (commandOf w)) (λ y. absurd (h (alike-same p (commandOf w) y))) (λ f. f)))) refl
 
     pub command-missing : (k : ℕ) → (k ≡ command → ⊥) → reads (reached (at (asks w)) n) (entry k p) ≡ broken n
     unfolding next closes
@@ -108,13 +110,15 @@ module _ (n : ℕ) where
 
   -- DECISION
   module _ (outcome reason : ℕ) (s : Situation) (p : List ℕ) where
-    pub reads-decision : p ≡ decisionOf outcome reason s → reads (reached (at (decides outcome reason s)) n) (entry decision p) ≡ reached done (n + 1)
+    pub reads-decision : p ≡ decisionOf outcome reason s
+        → reads (reached (at (decides outcome reason s)) n) (entry decision p) ≡ reached done (n + 1)
     reads-decision h =
         let d = decides outcome reason s in
         ap (λ (x : List ℕ). reads (reached (at d) n) (entry decision x)) h
         ∙ reads-taken (at d) n (entry decision (decisionOf outcome reason s)) done (takes-decision outcome reason s)
 
-    pub decision-wrong : (k : ℕ) → (p ≡ decisionOf outcome reason s → ⊥) → reads (reached (at (decides outcome reason s)) n) (entry k p) ≡ broken n
+    pub decision-wrong : (k : ℕ) → (p ≡ decisionOf outcome reason s → ⊥)
+        → reads (reached (at (decides outcome reason s)) n) (entry k p) ≡ broken n
     unfolding next closes
     decision-wrong k h =
         let d = decisionOf outcome reason s in

@@ -114,4 +114,5 @@ decimal-within (suc k) n h =
     (λ no-digit.
     let tenth : n / 10 < 10 ^ suc k = omega arith in
     pick-no _ _ _ no-digit
-    ∙ (ap (λ (l : List ℕ). l ++ ((0x30 + n % 10) ∷ [])) (decimal-within k (n / 10) tenth) ∙ sym (decimal-large n (ltb-false n 10 no-digit))))
+    ∙ (ap (λ (l : List ℕ). l ++ ((0x30 + n % 10) ∷ [])) (decimal-within k (n / 10) tenth)
+    ∙ sym (decimal-large n (ltb-false n 10 no-digit))))

@@ -46,7 +46,8 @@ module _ (d : List ℕ) (at n : ℕ) (room : at + length (decimal n) ≤ length 
       )
 
 -- a space, and the number after it
-pub field-laid : (d : List ℕ) (at n : ℕ) (out : List ℕ) → at + length (fieldOf n) ≤ length d → out ≡ put (decimal n) (at + 1) (set d at 0x20)
+pub field-laid : (d : List ℕ) (at n : ℕ) (out : List ℕ) → at + length (fieldOf n) ≤ length d
+    → out ≡ put (decimal n) (at + 1) (set d at 0x20)
     → out ≡ put (fieldOf n) at d
 unfolding fieldOf
 field-laid d at n out room o =
@@ -73,7 +74,8 @@ then-put x y d out p e h o =
 
 pub line-length : (a : Finding)
     → length (lineOf a)
-    ≡ length (wordOf (a .answer .verdict)) + (length (fieldOf (a .answer .place)) + (length (fieldOf (a .answer .code)) + (length (fieldOf (a .zeros)) + 1)))
+    ≡ length (wordOf (a .answer .verdict)) +
+    (length (fieldOf (a .answer .place)) + (length (fieldOf (a .answer .code)) + (length (fieldOf (a .zeros)) + 1)))
 unfolding lineOf
 line-length a = simp length-append
 
@@ -98,7 +100,8 @@ module _ (a : Finding) (blank : List ℕ) where
       let one : t ≡ put word 0 blank = ot ∙ laid-fits word 0 blank (omega arith) in
       let two : u ≡ put (word ++ first) 0 blank = ou ∙ then-put word first blank t w hw (omega arith) one in
       let m = length-append word first in
-      let three : v ≡ put ((word ++ first) ++ second) 0 blank = ov ∙ then-put (word ++ first) second blank u f (omega arith) (omega arith) two in
+      let three : v ≡ put ((word ++ first) ++ second) 0 blank =
+      ov ∙ then-put (word ++ first) second blank u f (omega arith) (omega arith) two in
       let k = length-append (word ++ first) second in
       let four : x ≡ put (((word ++ first) ++ second) ++ third) 0 blank
       = ox ∙ then-put ((word ++ first) ++ second) third blank v g (omega arith) (omega arith) three in
@@ -109,7 +112,8 @@ module _ (a : Finding) (blank : List ℕ) where
       ∙ ap (λ (l : List ℕ). put l 0 blank) (simp append-assoc))
 
 -- what stands at the start of the text is the line
-pub line-taken : (a : Finding) (blank text : List ℕ) (n : ℕ) → n ≡ length (lineOf a) → text ≡ put (lineOf a) 0 blank → take n text ≡ lineOf a
+pub line-taken : (a : Finding) (blank text : List ℕ) (n : ℕ) → n ≡ length (lineOf a) → text ≡ put (lineOf a) 0 blank
+    → take n text ≡ lineOf a
 line-taken a blank text n e o =
     ap (λ (k : ℕ). take k text) e ∙ (ap (take (length (lineOf a))) (o ∙ put-start (lineOf a) blank) ∙ take-append-seam (lineOf a) _)
 

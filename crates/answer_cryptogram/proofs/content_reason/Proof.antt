@@ -23,20 +23,28 @@ twice-told : (c : tie.After-any-times-in-checked)
     → c .any-times-in-checked .result ≡ anyTimes 2 cryptogramNames (direct 0x77 (c .before .before .before .before .args .answer .now))
 twice-told c = c .any-times-in-checked .ensures ∙ ap (anyTimes 2 cryptogramNames) (template-found _ (c .before .before .inside .ensures))
 
-at-1 : (c : tie.Else1) → From 1 (c .before .before .before .before .before .args .allowed) (c .before .before .before .before .before .args .answer .now)
+at-1 : (c : tie.Else1)
+    → From 1 (c .before .before .before .before .before .args .allowed) (c .before .before .before .before .before .args .answer .now)
 unfolding cryptogramLines
 at-1 c = line-no (twice-told (c .before)) 4 _ (c .if1 .left)
 
-at-2 : (c : tie.Else2) → From 2 (c .before .before .before .before .before .before .before .args .allowed) (c .before .before .before .before .before .before .before .args .answer .now)
+at-2 : (c : tie.Else2)
+    → From 2 (c .before .before .before .before .before .before .before .args .allowed)
+    (c .before .before .before .before .before .before .before .args .answer .now)
 unfolding cryptogramLines
 at-2 c = at-1 (c .before .before) ∙ line-no (c .before .is-wrong .ensures) 5 _ (c .if2 .left)
 
-at-3 : (c : tie.Else3) → From 3 (c .before .before .before .before .before .before .before .before .before .before .args .allowed) (c .before .before .before .before .before .before .before .before .before .before .args .answer .now)
+at-3 : (c : tie.Else3)
+    → From 3 (c .before .before .before .before .before .before .before .before .before .before .args .allowed)
+    (c .before .before .before .before .before .before .before .before .before .before .args .answer .now)
 unfolding cryptogramLines
 at-3 c = at-2 (c .before .before .before) ∙ line-no (c .before .lacks .ensures) 8 _ (c .if3 .left)
 
 allowed-told : (c : tie.After-allows)
-    → not (c .allows .result) ≡ not (allows (c .before .before .before .before .before .before .before .before .before .before .before .before .args .allowed) (cryptogramOf (c .before .before .before .before .before .before .before .before .before .before .before .before .args .answer .now)))
+    → not (c .allows .result)
+    ≡ not (allows (c .before .before .before .before .before .before .before .before .before .before .before .before .args .allowed)
+    (cryptogramOf
+    (c .before .before .before .before .before .before .before .before .before .before .before .before .args .answer .now)))
 allowed-told c = ap not (c .allows .ensures ∙ ap (allows _) (c .before .cryptogram .ensures))
 
 returns : tie.Need-returns

@@ -33,7 +33,8 @@ at-2 c = at-1 (c .before .before) ∙ line-no (c .before .is-wrong .ensures) 5 _
 
 -- the AFL's tests
 entries-told : (c : tie.After-are-right)
-    → not (c .are-right .result) ≡ not (entriesRight (locatorOf (c .before .before .before .before .before .before .before .before .before .args .answer .now)))
+    → not (c .are-right .result)
+    ≡ not (entriesRight (locatorOf (c .before .before .before .before .before .before .before .before .before .args .answer .now)))
 entries-told c = ap not (c .are-right .ensures ∙ ap entriesRight (c .before .locator .ensures))
 
 at-3 : (c : tie.Else3) → From 3 (c .before .before .before .before .before .before .before .before .before .before .args .answer .now)
@@ -41,10 +42,12 @@ unfolding optionsLines
 at-3 c = at-2 (c .before .before .before) ∙ line-no (entries-told (c .before)) 6 _ (c .if3 .left)
 
 many-told : (c : tie.After-are-too-many)
-    → c .are-too-many .result ≡ tooMany (locatorOf (c .before .before .before .before .before .before .before .before .before .before .before .args .answer .now))
+    → c .are-too-many .result
+    ≡ tooMany (locatorOf (c .before .before .before .before .before .before .before .before .before .before .before .args .answer .now))
 many-told c = c .are-too-many .ensures ∙ ap tooMany (c .before .before .before .locator .ensures)
 
-at-4 : (c : tie.Else4) → From 4 (c .before .before .before .before .before .before .before .before .before .before .before .before .args .answer .now)
+at-4 : (c : tie.Else4)
+    → From 4 (c .before .before .before .before .before .before .before .before .before .before .before .before .args .answer .now)
 unfolding optionsLines
 at-4 c = at-3 (c .before .before) ∙ line-no (many-told (c .before)) 7 _ (c .if4 .left)
 

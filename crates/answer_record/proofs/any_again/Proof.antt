@@ -30,13 +30,15 @@ unfolding anyAgain
 returns c =
     let a = c .before .before .before .before .before .before .before .before .args in
     let l = c .before .before .before .before .loop in
-    sym (any-found (both (a .told .now) (a .s .now)) (a .names .now) (l .i) (omega arith) (sym (c .before .is-again .ensures) ∙ c .if1 .taken)) ∙ l .inv
+    sym (any-found (both (a .told .now) (a .s .now)) (a .names .now) (l .i) (omega arith) (sym (c .before .is-again .ensures)
+    ∙ c .if1 .taken)) ∙ l .inv
 
 loop-again : tie.Need-loop-again Inv-loop μ-loop
 loop-again c =
     let a = c .before .before .before .before .before .before .before .before .args in
     let l = c .before .before .before .before .loop in
-    sym (any-one-on (both (a .told .now) (a .s .now)) (a .names .now) (l .i) (omega arith) (sym (c .before .is-again .ensures) ∙ c .if1 .left)) ∙ l .inv
+    sym (any-one-on (both (a .told .now) (a .s .now)) (a .names .now) (l .i) (omega arith) (sym (c .before .is-again .ensures)
+    ∙ c .if1 .left)) ∙ l .inv
 
 returns-2 : tie.Need-returns-2 Inv-loop μ-loop
 unfolding anyAgain

@@ -28,13 +28,15 @@ returns : tie.Need-returns Inv-loop μ-loop
 returns c =
     let a = c .before .before .before .before .before .before .before .args in
     let l = c .before .before .before .before .loop in
-    sym (any-found (untold (a .told .now)) (a .names .now) (l .i) (omega arith) (ap not (sym (c .before .has .ensures)) ∙ c .if1 .taken)) ∙ l .inv
+    sym (any-found (untold (a .told .now)) (a .names .now) (l .i) (omega arith) (ap not (sym (c .before .has .ensures)) ∙ c .if1 .taken))
+    ∙ l .inv
 
 loop-again : tie.Need-loop-again Inv-loop μ-loop
 loop-again c =
     let a = c .before .before .before .before .before .before .before .args in
     let l = c .before .before .before .before .loop in
-    sym (any-one-on (untold (a .told .now)) (a .names .now) (l .i) (omega arith) (ap not (sym (c .before .has .ensures)) ∙ c .if1 .left)) ∙ l .inv
+    sym (any-one-on (untold (a .told .now)) (a .names .now) (l .i) (omega arith) (ap not (sym (c .before .has .ensures)) ∙ c .if1 .left))
+    ∙ l .inv
 
 returns-2 : tie.Need-returns-2 Inv-loop μ-loop
 returns-2 c =

@@ -17,13 +17,17 @@ returns-2 : tie.Need-returns-2
 unfolding afterRecords completeReason incomplete
 returns-2 c =
     let b = c .before .before .before in
-    sym (line-no (b .before .any-untold .ensures) 8 _ (b .if1 .left) ∙ last-no (ap not (c .before .is-fillable .ensures ∙ ap fillable (c .before .before .value .ensures))) 9 (ap not (c .if2 .taken)))
+    sym (line-no (b .before .any-untold .ensures) 8 _ (b .if1 .left)
+    ∙ last-no (ap not (c .before .is-fillable .ensures ∙ ap fillable (c .before .before .value .ensures))) 9 (ap not (c .if2 .taken)))
 
 returns-3 : tie.Need-returns-3
 unfolding afterRecords completeReason incomplete
 returns-3 c =
     let b = c .before .before .before in
-    sym (line-no (b .before .any-untold .ensures) 8 _ (b .if1 .left) ∙ line-yes (ap not (c .before .is-fillable .ensures ∙ ap fillable (c .before .before .value .ensures))) 9 _ (ap not (c .if2 .left)))
+    sym (line-no (b .before .any-untold .ensures) 8 _ (b .if1 .left)
+    ∙ line-yes (ap not (c .before .is-fillable .ensures ∙ ap fillable (c .before .before .value .ensures))) 9 _ (ap not (c .if2 .left)))
 
 pub complete-reason-spec : {M : Type 1} → statement M
-complete-reason-spec = tie.close (tie.spec (λ c. search needs) (λ c κs. search needs) returns (λ c κs. search needs) (λ c κs. search needs) returns-2 returns-3)
+complete-reason-spec =
+    tie.close (tie.spec (λ c. search needs) (λ c κs. search needs) returns (λ c κs. search needs)
+    (λ c κs. search needs) returns-2 returns-3)

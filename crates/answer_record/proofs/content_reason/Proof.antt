@@ -10,7 +10,9 @@ use Rattle.answer_record.proofs.Standing.{record-found}
 use Rattle.answer_record.proofs.content_reason.Statement.{statement}
 use Rattle.answer_record.proofs.content_reason.Tie as tie
 
-found : (c : tie.After-any-wrong-in-checked) → c .any-wrong-in-checked .result ≡ anyWrong recordNames (direct 0x70 (c .before .before .before .before .before .before .before .args .answer .now))
+found : (c : tie.After-any-wrong-in-checked)
+    → c .any-wrong-in-checked .result
+    ≡ anyWrong recordNames (direct 0x70 (c .before .before .before .before .before .before .before .args .answer .now))
 found c = c .any-wrong-in-checked .ensures ∙ ap (anyWrong recordNames) (record-found _ (c .before .before .inside .ensures))
 
 returns : tie.Need-returns

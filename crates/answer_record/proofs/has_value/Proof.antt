@@ -22,7 +22,8 @@ returns : tie.Need-returns
 unfolding valueIn
 returns c =
     let name = c .before .before .before .args .name in
-    ap (λ (n : ℕ). eqb n 1) (c .times-in-checked .ensures ∙ ap (λ (look : ℕ → Lookup). times (look name)) (record-found _ (c .before .inside .ensures)))
+    ap (λ (n : ℕ). eqb n 1) (c .times-in-checked .ensures
+    ∙ ap (λ (look : ℕ → Lookup). times (look name)) (record-found _ (c .before .inside .ensures)))
     ∙ once-told _
 
 pub has-value-spec : {M : Type 1} → statement M

@@ -12,7 +12,8 @@ use Rattle.answer_record.proofs.Standing.{record-found}
 use Rattle.answer_record.proofs.is_twice.Statement.{statement}
 use Rattle.answer_record.proofs.is_twice.Tie as tie
 
-found : (c : tie.After-any-times-in-checked) → c .any-times-in-checked .result ≡ anyTimes 2 recordNames (direct 0x70 (c .before .before .before .before .before .args .answer .now))
+found : (c : tie.After-any-times-in-checked)
+    → c .any-times-in-checked .result ≡ anyTimes 2 recordNames (direct 0x70 (c .before .before .before .before .before .args .answer .now))
 found c = c .any-times-in-checked .ensures ∙ ap (anyTimes 2 recordNames) (record-found _ (c .before .before .inside .ensures))
 
 returns : tie.Need-returns
@@ -25,7 +26,8 @@ returns-2 c =
     let b = c .before .before in
     let d = b .before .before .before in
     c .any-again .ensures
-    ∙ (ap (anyAgain (λ name. isSome (toldIn (d .before .before .before .args .told .now) name)) recordNames) (record-found _ (d .inside .ensures))
+    ∙ (ap (anyAgain (λ name. isSome (toldIn (d .before .before .before .args .told .now) name)) recordNames)
+    (record-found _ (d .inside .ensures))
     ∙ sym (or-no (found (b .before)) _ (b .if1 .left)))
 
 pub is-twice-spec : {M : Type 1} → statement M

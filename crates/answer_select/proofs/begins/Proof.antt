@@ -21,7 +21,8 @@ too-short (a ∷ x) [] h = refl
 too-short (a ∷ x) (b ∷ y) h = ap (λ (t : Bool). eqb a b && t) (too-short x y (omega arith)) ∙ mathlib.Core.Bool.and-false (eqb a b)
 
 module _ (x y : List ℕ) (i : ℕ) where
-  both : i < length x → i < length y → begins (drop i x) (drop i y) ≡ (eqb (getD x i 0) (getD y i 0) && begins (drop (i + 1) x) (drop (i + 1) y))
+  both : i < length x → i < length y
+      → begins (drop i x) (drop i y) ≡ (eqb (getD x i 0) (getD y i 0) && begins (drop (i + 1) x) (drop (i + 1) y))
   unfolding begins
   both h k = rw (add-one, drop-cons x i 0, drop-cons y i 0)
 

@@ -23,18 +23,27 @@ at-1 : (c : tie.Else1) → From 1 (c .before .before .before .before .args .aid 
 unfolding selectLines
 at-1 c = line-no (c .before .is-twice .ensures) 4 _ (c .if1 .left)
 
-at-2 : (c : tie.Else2) → From 2 (c .before .before .before .before .before .before .args .aid .now) (c .before .before .before .before .before .before .args .answer .now)
+at-2 : (c : tie.Else2)
+    → From 2 (c .before .before .before .before .before .before .args .aid .now)
+    (c .before .before .before .before .before .before .args .answer .now)
 unfolding selectLines
 at-2 c = at-1 (c .before .before) ∙ line-no (c .before .is-wrong .ensures) 5 _ (c .if2 .left)
 
-missing : (c : tie.After-any-times-in-checked) → c .any-times-in-checked .result ≡ anyTimes 0 selectNames (direct 0x6F (c .before .before .before .before .before .before .before .before .before .args .answer .now))
+missing : (c : tie.After-any-times-in-checked)
+    → c .any-times-in-checked .result
+    ≡ anyTimes 0 selectNames (direct 0x6F (c .before .before .before .before .before .before .before .before .before .args .answer .now))
 missing c = c .any-times-in-checked .ensures ∙ ap (anyTimes 0 selectNames) (select-found _ (c .before .before .inside .ensures))
 
-at-3 : (c : tie.Else3) → From 3 (c .before .before .before .before .before .before .before .before .before .before .args .aid .now) (c .before .before .before .before .before .before .before .before .before .before .args .answer .now)
+at-3 : (c : tie.Else3)
+    → From 3 (c .before .before .before .before .before .before .before .before .before .before .args .aid .now)
+    (c .before .before .before .before .before .before .before .before .before .before .args .answer .now)
 unfolding selectLines
 at-3 c = at-2 (c .before .before .before .before) ∙ line-no (missing (c .before)) 8 _ (c .if3 .left)
 
-list-told : (c : tie.After-is-fillable) → not (c .is-fillable .result) ≡ not (fillable (pdolOf (c .before .before .before .before .before .before .before .before .before .before .before .before .args .answer .now)))
+list-told : (c : tie.After-is-fillable)
+    → not (c .is-fillable .result)
+    ≡ not (fillable
+    (pdolOf (c .before .before .before .before .before .before .before .before .before .before .before .before .args .answer .now)))
 list-told c = ap not (c .is-fillable .ensures ∙ ap fillable (c .before .pdol .ensures))
 
 returns : tie.Need-returns

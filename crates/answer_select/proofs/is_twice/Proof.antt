@@ -9,7 +9,8 @@ use Rattle.answer_select.proofs.Inside.{select-found, inner-found}
 use Rattle.answer_select.proofs.is_twice.Statement.{statement}
 use Rattle.answer_select.proofs.is_twice.Tie as tie
 
-found : (c : tie.After-any-times-in-checked) → c .any-times-in-checked .result ≡ anyTimes 2 selectNames (direct 0x6F (c .before .before .before .before .args .answer .now))
+found : (c : tie.After-any-times-in-checked)
+    → c .any-times-in-checked .result ≡ anyTimes 2 selectNames (direct 0x6F (c .before .before .before .before .args .answer .now))
 found c = c .any-times-in-checked .ensures ∙ ap (anyTimes 2 selectNames) (select-found _ (c .before .before .inside .ensures))
 
 returns : tie.Need-returns
@@ -21,7 +22,8 @@ unfolding selectTwice
 returns-2 c =
     let b = c .before .before .before in
     c .any-times-in-checked2 .ensures
-    ∙ (ap (anyTimes 2 innerNames) (inner-found _ (c .before .before .proprietary .ensures)) ∙ sym (or-no (found (b .before)) _ (b .if1 .left)))
+    ∙ (ap (anyTimes 2 innerNames) (inner-found _ (c .before .before .proprietary .ensures))
+    ∙ sym (or-no (found (b .before)) _ (b .if1 .left)))
 
 pub is-twice-spec : {M : Type 1} → statement M
 is-twice-spec =

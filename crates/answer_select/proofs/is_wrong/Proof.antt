@@ -9,10 +9,13 @@ use Rattle.answer_select.proofs.Inside.{select-found, inner-found}
 use Rattle.answer_select.proofs.is_wrong.Statement.{statement}
 use Rattle.answer_select.proofs.is_wrong.Tie as tie
 
-found : (c : tie.After-any-wrong-in-checked) → c .any-wrong-in-checked .result ≡ anyWrong selectNames (direct 0x6F (c .before .before .before .before .before .args .answer .now))
+found : (c : tie.After-any-wrong-in-checked)
+    → c .any-wrong-in-checked .result ≡ anyWrong selectNames (direct 0x6F (c .before .before .before .before .before .args .answer .now))
 found c = c .any-wrong-in-checked .ensures ∙ ap (anyWrong selectNames) (select-found _ (c .before .before .inside .ensures))
 
-in-a5 : (c : tie.After-any-wrong-in-checked2) → c .any-wrong-in-checked2 .result ≡ anyWrong innerNames (inner (c .before .before .before .before .before .before .before .before .before .args .answer .now))
+in-a5 : (c : tie.After-any-wrong-in-checked2)
+    → c .any-wrong-in-checked2 .result
+    ≡ anyWrong innerNames (inner (c .before .before .before .before .before .before .before .before .before .args .answer .now))
 in-a5 c = c .any-wrong-in-checked2 .ensures ∙ ap (anyWrong innerNames) (inner-found _ (c .before .before .proprietary .ensures))
 
 returns : tie.Need-returns

@@ -12,7 +12,8 @@ use Rattle.answer_select.proofs.pdol.Tie as tie
 
 returns : tie.Need-returns
 unfolding pdolOf
-returns c = c .value-in-checked .ensures ∙ ap (λ (look : ℕ → Lookup). valueOf (look 0x9F38)) (inner-found _ (c .before .proprietary .ensures))
+returns c = c .value-in-checked .ensures
+    ∙ ap (λ (look : ℕ → Lookup). valueOf (look 0x9F38)) (inner-found _ (c .before .proprietary .ensures))
 
 pub pdol-spec : {M : Type 1} → statement M
 pdol-spec = tie.close (tie.spec (λ c κs. search needs) (λ c κs. search needs) returns)

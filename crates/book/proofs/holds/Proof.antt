@@ -29,11 +29,13 @@ stored-all : (c : tie.After-least Inv-loop μ-loop)
     → entered (c .before .before .args .tape) (entriesIn (c .least .result) (c .before .before .args .bytes .now))
     ≡ entered (c .before .before .args .tape) (stored (c .before .before .args .used) (c .before .before .args .bytes .now))
 unfolding stored
-stored-all c = ap (λ (m : ℕ). entered (c .before .before .args .tape) (entriesIn m (c .before .before .args .bytes .now))) (c .least .ensures)
+stored-all c =
+    ap (λ (m : ℕ). entered (c .before .before .args .tape) (entriesIn m (c .before .before .args .bytes .now))) (c .least .ensures)
 
 -- the tape number of the block at the place
 told : (c : tie.After-tape-in Inv-loop μ-loop)
-    → c .tape-in .result ≡ tapeIn (blockAt (c .before .before .before .loop .k) (c .before .before .before .before .before .before .args .bytes .now))
+    → c .tape-in .result
+    ≡ tapeIn (blockAt (c .before .before .before .loop .k) (c .before .before .before .before .before .before .args .bytes .now))
 told c = c .tape-in .ensures ∙ ap tapeIn (c .before .block-at .ensures)
 
 returns : tie.Need-returns Inv-loop μ-loop
@@ -51,7 +53,8 @@ loop-again c =
     let loop = there .before in
     let a = loop .before .before .before .args in (
       omega arith,
-      sym (search-on (a .tape) (loop .loop .k) (loop .before .least .result) (a .bytes .now) (omega arith) (λ e. c .if1 .left (told (c .before) ∙ e)))
+      sym (search-on (a .tape) (loop .loop .k) (loop .before .least .result) (a .bytes .now) (omega arith)
+          (λ e. c .if1 .left (told (c .before) ∙ e)))
           ∙ loop .loop .inv .1,
     )
 

@@ -21,7 +21,8 @@ abbrev μ-loop : tie.MeasureT-loop
 
 -- the digit looked at is the one at place i
 told : (c : tie.After-digit-of Inv-loop μ-loop)
-    → c .digit-of .result ≡ digit (getD (c .before .before .before .before .before .before .args .s .now) (c .before .before .before .loop .i) 0)
+    → c .digit-of .result
+    ≡ digit (getD (c .before .before .before .before .before .before .args .s .now) (c .before .before .before .loop .i) 0)
 told c = c .digit-of .ensures .0 ∙ ap digit (c .before .byte .ensures .0)
 
 returns : tie.Need-returns Inv-loop μ-loop

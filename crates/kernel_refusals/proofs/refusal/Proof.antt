@@ -31,7 +31,9 @@ returns-4 : tie.Need-returns-4
 unfolding callRefusal refusalLines isOver
 returns-4 c =
     sym (line-no {r = false} (sym (le-ltb _ _ (c .before .before .before .before .before .before .if1 .left))) 1 _ refl
-    ∙ (line-no {r = false} (sym (ne-eqb _ _ (λ e. c .before .before .before .before .if2 .left (c .before .before .before .before .before .awaits .ensures ∙ e)))) 2 _ refl
+    ∙ (line-no {r = false}
+    (sym (ne-eqb _ _
+    (λ e. c .before .before .before .before .if2 .left (c .before .before .before .before .before .awaits .ensures ∙ e)))) 2 _ refl
     ∙ (line-no (c .before .before .before .is-start-bad .ensures) 3 _ (c .before .before .if3 .left)
     ∙ (line-yes (ap not (c .before .is-due .ensures)) 4 _ (c .if4 .taken)))))
 
@@ -39,7 +41,10 @@ returns-5 : tie.Need-returns-5
 unfolding callRefusal refusalLines isOver
 returns-5 c =
     sym (line-no {r = false} (sym (le-ltb _ _ (c .before .before .before .before .before .before .before .before .if1 .left))) 1 _ refl
-    ∙ (line-no {r = false} (sym (ne-eqb _ _ (λ e. c .before .before .before .before .before .before .if2 .left (c .before .before .before .before .before .before .before .awaits .ensures ∙ e)))) 2 _ refl
+    ∙ (line-no {r = false}
+    (sym (ne-eqb _ _
+    (λ e. c .before .before .before .before .before .before .if2 .left
+    (c .before .before .before .before .before .before .before .awaits .ensures ∙ e)))) 2 _ refl
     ∙ (line-no (c .before .before .before .before .before .is-start-bad .ensures) 3 _ (c .before .before .before .before .if3 .left)
     ∙ (line-no (ap not (c .before .before .before .is-due .ensures)) 4 _ (c .before .before .if4 .left)
     ∙ (line-yes (c .before .is-answer-bad .ensures) 5 _ (c .if5 .taken))))))
@@ -47,9 +52,14 @@ returns-5 c =
 returns-6 : tie.Need-returns-6
 unfolding callRefusal refusalLines isOver
 returns-6 c =
-    sym (line-no {r = false} (sym (le-ltb _ _ (c .before .before .before .before .before .before .before .before .before .before .if1 .left))) 1 _ refl
-    ∙ (line-no {r = false} (sym (ne-eqb _ _ (λ e. c .before .before .before .before .before .before .before .before .if2 .left (c .before .before .before .before .before .before .before .before .before .awaits .ensures ∙ e)))) 2 _ refl
-    ∙ (line-no (c .before .before .before .before .before .before .before .is-start-bad .ensures) 3 _ (c .before .before .before .before .before .before .if3 .left)
+    sym (line-no {r = false}
+    (sym (le-ltb _ _ (c .before .before .before .before .before .before .before .before .before .before .if1 .left))) 1 _ refl
+    ∙ (line-no {r = false}
+    (sym (ne-eqb _ _
+    (λ e. c .before .before .before .before .before .before .before .before .if2 .left
+    (c .before .before .before .before .before .before .before .before .before .awaits .ensures ∙ e)))) 2 _ refl
+    ∙ (line-no (c .before .before .before .before .before .before .before .is-start-bad .ensures) 3 _
+    (c .before .before .before .before .before .before .if3 .left)
     ∙ (line-no (ap not (c .before .before .before .before .before .is-due .ensures)) 4 _ (c .before .before .before .before .if4 .left)
     ∙ (line-no (c .before .before .before .is-answer-bad .ensures) 5 _ (c .before .before .if5 .left)
     ∙ (line-yes (c .before .is-reply-bad .ensures) 6 _ (c .if6 .taken)))))))
@@ -57,9 +67,14 @@ returns-6 c =
 returns-7 : tie.Need-returns-7
 unfolding callRefusal refusalLines isOver
 returns-7 c =
-    sym (line-no {r = false} (sym (le-ltb _ _ (c .before .before .before .before .before .before .before .before .before .before .if1 .left))) 1 _ refl
-    ∙ (line-no {r = false} (sym (ne-eqb _ _ (λ e. c .before .before .before .before .before .before .before .before .if2 .left (c .before .before .before .before .before .before .before .before .before .awaits .ensures ∙ e)))) 2 _ refl
-    ∙ (line-no (c .before .before .before .before .before .before .before .is-start-bad .ensures) 3 _ (c .before .before .before .before .before .before .if3 .left)
+    sym (line-no {r = false}
+    (sym (le-ltb _ _ (c .before .before .before .before .before .before .before .before .before .before .if1 .left))) 1 _ refl
+    ∙ (line-no {r = false}
+    (sym (ne-eqb _ _
+    (λ e. c .before .before .before .before .before .before .before .before .if2 .left
+    (c .before .before .before .before .before .before .before .before .before .awaits .ensures ∙ e)))) 2 _ refl
+    ∙ (line-no (c .before .before .before .before .before .before .before .is-start-bad .ensures) 3 _
+    (c .before .before .before .before .before .before .if3 .left)
     ∙ (line-no (ap not (c .before .before .before .before .before .is-due .ensures)) 4 _ (c .before .before .before .before .if4 .left)
     ∙ (line-no (c .before .before .before .is-answer-bad .ensures) 5 _ (c .before .before .if5 .left)
     ∙ (last-no (c .before .is-reply-bad .ensures) 6 (c .if6 .left)))))))

@@ -11,7 +11,16 @@ use Rattle.session_answers.proofs.allowed_second.Tie as tie
 
 returns : tie.Need-returns
 unfolding secondAllows
-returns c = let q = c .before .before .before .before .before .before .args .request in (λ i. allows (record { aac = (c .before .before .before .before .second-allowed .ensures ∙ ap (secondAllowed q) (c .before .before .before .before .before .given-by .ensures)) i; tc = (c .before .before .second-allowed2 .ensures ∙ ap (secondAllowed q) (c .before .before .before .given-by2 .ensures)) i; arqc = (c .second-allowed3 .ensures ∙ ap (secondAllowed q) (c .before .given-by3 .ensures)) i })) ∙ allows-all (secondAllowed q) refl
+returns c = let q = c .before .before .before .before .before .before .args .request in (λ i. allows
+    (record {
+      aac = (c .before .before .before .before .second-allowed .ensures
+          ∙ ap (secondAllowed q) (c .before .before .before .before .before .given-by .ensures)) i;
+      tc
+          = (c .before .before .second-allowed2 .ensures
+          ∙ ap (secondAllowed q) (c .before .before .before .given-by2 .ensures)) i;
+      arqc = (c .second-allowed3 .ensures
+          ∙ ap (secondAllowed q) (c .before .given-by3 .ensures)) i;
+    })) ∙ allows-all (secondAllowed q) refl
 
 pub allowed-second-spec : {M : Type 1} → statement M
 allowed-second-spec =

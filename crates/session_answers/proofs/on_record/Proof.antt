@@ -55,14 +55,16 @@ returns-2 c =
     let a = args .a .now in
     let buf = args .buf .now in
     let why = c .before .before .before .before .before .before .before .record-reason .result in
-    let e = c .before .before .before .before .before .before .before .record-reason .ensures ∙ ap (reasonBy a) (c .before .before .before .before .before .before .before .before .before .bytes-of .ensures .0) in
+    let e = c .before .before .before .before .before .before .before .record-reason .ensures
+    ∙ ap (reasonBy a) (c .before .before .before .before .before .before .before .before .before .bytes-of .ensures .0) in
     let good = sym e ∙ c .before .before .before .before .before .before .if1 .left in
     let next = readOn (recordAdded (late s) a) (recordsLeft s) in
     let t = withTold (withRecord a (s .told)) s in
     let seen : ℕ → Bool = λ name. isSome (told (s .told) name) in
     c .before .before .read-on .ensures
     ∙ (ap (λ (x : State). moved (readOn (late x) (recordsLeft x)) x buf)
-    (c .before .before .before .before .with-told .ensures ∙ ap (λ (x : Store). withTold x s) (c .before .before .before .before .before .with-record .ensures))
+    (c .before .before .before .before .with-told .ensures
+    ∙ ap (λ (x : Store). withTold x s) (c .before .before .before .before .before .with-record .ensures))
     ∙ (ap (λ (z : Situation). moved (readOn z (recordsLeft s)) t buf) (late-told s a good)
     ∙ sym (ap (λ (x : State). moved (recorded (late s) (recordsLeft s) a) x buf)
     (pick-yes _ _ _ (eq-eqb (recordReason seen a) 0 good))

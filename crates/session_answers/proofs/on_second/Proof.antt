@@ -44,7 +44,8 @@ returns-2 c =
     let buf = args .buf .now in
     let why = c .before .before .before .before .cryptogram-reason .result in
     late-decided s buf 1 0 (c .decide .ensures)
-    ∙ sym (reason-next why (cryptogramReason (secondAllows q) a) (late s) (decided (pick (eqb (cryptogramOf a) 1) approved declined) (late s)) s
+    ∙ sym (reason-next why (cryptogramReason (secondAllows q) a) (late s)
+    (decided (pick (eqb (cryptogramOf a) 1) approved declined) (late s)) s
     buf
     (c .before .before .before .before .cryptogram-reason .ensures
     ∙ ap (λ (x : ℕ → Bool). cryptogramReason x a) (c .before .before .before .before .before .allowed-second .ensures))
@@ -64,7 +65,8 @@ returns-3 c =
     let buf = args .buf .now in
     let why = c .before .before .before .before .cryptogram-reason .result in
     late-decided s buf 2 0 (c .decide2 .ensures)
-    ∙ sym (reason-next why (cryptogramReason (secondAllows q) a) (late s) (decided (pick (eqb (cryptogramOf a) 1) approved declined) (late s)) s
+    ∙ sym (reason-next why (cryptogramReason (secondAllows q) a) (late s)
+    (decided (pick (eqb (cryptogramOf a) 1) approved declined) (late s)) s
     buf
     (c .before .before .before .before .cryptogram-reason .ensures
     ∙ ap (λ (x : ℕ → Bool). cryptogramReason x a) (c .before .before .before .before .before .allowed-second .ensures))

@@ -36,7 +36,8 @@ returns c =
 returns-2 : tie.Need-returns-2
 unfolding turn selected keeping early situationWith commandOf situationOf questionOf cursorAsking unsuppliedAsking
 returns-2 c =
-    let args = c .before .before .before .before .before .before .before .before .before .before .before .before .before .before .before .before .args in
+    let args = c .before .before .before .before .before .before .before .before .before .before .before .before .before .before .before
+    .before .args in
     let s = args .s in
     let a = args .a .now in
     let buf = args .buf .now in
@@ -45,7 +46,9 @@ returns-2 c =
     (c .before .before .before .before .before .before .before .before .before .at-options .ensures .1)
     (c .before .before .before .before .before .before .before .before .pdol .ensures) in
     let lacks = c .before .missing .ensures
-    ∙ ap₂ (unsupplied (readingOf (s .start))) (c .before .before .before .before .before .before .before .before .before .at-options .ensures .1) (c .before .before .before .before .before .before .before .before .pdol .ensures) in
+    ∙ ap₂ (unsupplied (readingOf (s .start)))
+    (c .before .before .before .before .before .before .before .before .before .at-options .ensures .1)
+    (c .before .before .before .before .before .before .before .before .pdol .ensures) in
     asking-on s buf (optioning (early s) (pdolOf a)) same (c .before .before .before .before .before .options .ensures .0)
     (c .before .before .before .before .before .options .ensures .1) (c .ask .ensures) lacks refl refl refl
     ∙ sym

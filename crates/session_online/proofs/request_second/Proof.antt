@@ -30,25 +30,39 @@ listAt d = Option·getD (toldIn d 0x8D) []
 returns : tie.Need-returns
 unfolding replied late situationWith commandOf situationOf questionOf cursorAsking unsuppliedAsking listIn told
 returns c =
-    let args = c .before .before .before .before .before .before .before .before .before .before .before .before .before .before .before .before .before .before .before .before .before .before .args in
+    let args = c .before .before .before .before .before .before .before .before .before .before .before .before .before .before .before
+    .before .before .before .before .before .before .before .args in
     let s = args .s in
     let buf = args .buf .now in
     let reply = args .reply in
     let code = args .code in
-    let bytes = c .before .before .before .before .before .before .before .before .before .before .before .before .before .before .before .before .before .before .before .bytes-of .ensures .0 in
-    let q = c .before .before .before .before .before .before .before .before .before .before .before .before .before .before .second .result in
-    let known = c .before .before .before .before .before .before .before .before .before .before .before .before .at-second .ensures .1 ∙ ap (λ (x : List ℕ). knownIn (late s) (some x)) (c .before .before .before .before .before .before .before .before .before .before .before .before .before .response-code .ensures) in
+    let bytes = c .before .before .before .before .before .before .before .before .before .before .before .before .before .before .before
+    .before .before .before .before .bytes-of .ensures .0 in
+    let q = c .before .before .before .before .before .before .before .before .before .before .before .before .before .before .second
+    .result in
+    let known = c .before .before .before .before .before .before .before .before .before .before .before .before .at-second .ensures .1
+    ∙ ap (λ (x : List ℕ). knownIn (late s) (some x))
+    (c .before .before .before .before .before .before .before .before .before .before .before .before .before .response-code .ensures)
+    in
     let list = c .before .before .before .before .before .before .before .before .before .before .value2 .ensures ∙ ap listAt bytes in
     let same = ap₂ (λ (k : Facts) (l : List ℕ). cryptogramCommand (p1Of q) (filling (readingOf (s .start)) k l)) known list in
     let again = c .before .before .before .value3 .ensures ∙ ap listAt bytes in
     let lacks = c .before .missing .ensures ∙ ap₂ (unsupplied (readingOf (s .start))) known again in
-    asking-on s buf (second (late s) q (responseCode reply q code)) same (c .before .before .before .before .before .before .before .generate .ensures .0)
+    asking-on s buf (second (late s) q (responseCode reply q code)) same
+    (c .before .before .before .before .before .before .before .generate .ensures .0)
     (c .before .before .before .before .before .before .before .generate .ensures .1) (c .ask .ensures) lacks refl refl refl
-    ∙ (ap (λ (x : Cryptogram). moved (asks (second (late s) x (responseCode reply x code))) s buf) (c .before .before .before .before .before .before .before .before .before .before .before .before .before .before .second .ensures)
+    ∙ (ap (λ (x : Cryptogram). moved (asks (second (late s) x (responseCode reply x code))) s buf)
+    (c .before .before .before .before .before .before .before .before .before .before .before .before .before .before .second .ensures)
     ∙ sym
     (ap (λ (p : Phase). moved p s buf)
     (pick-yes _ _ _
-    (sym (c .before .before .before .before .before .before .before .before .before .before .before .before .before .before .before .before .is-fillable .ensures ∙ ap fillable (c .before .before .before .before .before .before .before .before .before .before .before .before .before .before .before .before .before .value .ensures ∙ ap listAt bytes)) ∙ c .before .before .before .before .before .before .before .before .before .before .before .before .before .before .before .if1 .taken))))
+    (sym (c .before .before .before .before .before .before .before .before .before .before .before .before .before .before .before .before
+    .is-fillable .ensures
+    ∙ ap fillable
+    (c .before .before .before .before .before .before .before .before .before .before .before .before .before .before .before .before
+    .before .value .ensures ∙ ap listAt bytes))
+    ∙ c .before .before .before .before .before .before .before .before .before .before .before .before .before .before .before .if1
+    .taken))))
 
 returns-2 : tie.Need-returns-2
 unfolding replied ended late situationWith listIn told
@@ -58,7 +72,8 @@ returns-2 c =
     let buf = args .buf .now in
     let list = c .before .before .before .value .ensures ∙ ap listAt (c .before .before .before .before .before .bytes-of .ensures .0) in
     late-decided s buf 3 9 (c .end .ensures)
-    ∙ sym (ap (λ (p : Phase). moved p s buf) (pick-no _ _ _ (sym (c .before .before .is-fillable .ensures ∙ ap fillable list) ∙ c .before .if1 .left)))
+    ∙ sym (ap (λ (p : Phase). moved p s buf)
+    (pick-no _ _ _ (sym (c .before .before .is-fillable .ensures ∙ ap fillable list) ∙ c .before .if1 .left)))
 
 pub request-second-spec : {M : Type 1} → statement M
 request-second-spec =

@@ -16,7 +16,8 @@ unfolding late situationWith told
 returns c =
     let a = c .before .before .before .before .before .before .before .args in
     c .second-request .ensures
-    ∙ ap (λ (d : List ℕ). secondRequest (a .reply) (readingOf (a .s .start)) (toldIn d) (a .s .tvr)) (c .before .before .before .bytes-of .ensures .0)
+    ∙ ap (λ (d : List ℕ). secondRequest (a .reply) (readingOf (a .s .start)) (toldIn d) (a .s .tvr))
+    (c .before .before .before .bytes-of .ensures .0)
 
 pub second-spec : {M : Type 1} → statement M
 second-spec = tie.close (tie.spec (λ c κs. search needs) (λ c. search needs) (λ c. search needs) (λ c κs. search needs) returns)

@@ -55,7 +55,8 @@ returns-2 c =
     ∙ (ap (λ (t : State). moved (requested (c .before .before .before .before .before .before .reason .result) (late t)) t buf)
     (c .before .before .before .before .managed .ensures)
     ∙ (ap (λ (k : ℕ). moved (requested k (late (managedState s))) (managedState s) buf) e
-    ∙ (bits-moved (requested n (late (managedState s))) (s .waiting) (tvrAfterRecords (readingOf (s .start)) (s .profile) (told (s .told)) (s .tvr))
+    ∙ (bits-moved (requested n (late (managedState s))) (s .waiting)
+    (tvrAfterRecords (readingOf (s .start)) (s .profile) (told (s .told)) (s .tvr))
     (tsiAfterRecords (s .profile) (s .tsi)) s buf
     ∙ (ap (λ (z : Situation). moved (requested n z) s buf) (late-managed s)
     ∙ sym (ap (λ (p : Phase). moved p s buf) (pick-no _ _ _ (ne-eqb n 8 h)))))))

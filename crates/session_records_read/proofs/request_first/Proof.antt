@@ -34,26 +34,33 @@ returns c =
 returns-2 : tie.Need-returns-2
 unfolding requested late situationWith commandOf situationOf questionOf cursorAsking unsuppliedAsking listIn told
 returns-2 c =
-    let args = c .before .before .before .before .before .before .before .before .before .before .before .before .before .before .before .before .before .before .before .before .before .before .args in
+    let args = c .before .before .before .before .before .before .before .before .before .before .before .before .before .before .before
+    .before .before .before .before .before .before .before .args in
     let why = args .why in
     let s = args .s in
     let buf = args .buf .now in
-    let bytes = c .before .before .before .before .before .before .before .before .before .before .before .before .before .before .before .before .bytes-of .ensures .0 in
-    let q = c .before .before .before .before .before .before .before .before .before .before .before .before .before .first-request .result in
-    let asked = c .before .before .before .before .before .before .before .before .before .before .before .before .before .first-request .ensures
+    let bytes = c .before .before .before .before .before .before .before .before .before .before .before .before .before .before .before
+    .before .bytes-of .ensures .0 in
+    let q = c .before .before .before .before .before .before .before .before .before .before .before .before .before .first-request .result
+    in
+    let asked = c .before .before .before .before .before .before .before .before .before .before .before .before .before .first-request
+    .ensures
     ∙ ap (λ (d : List ℕ). firstRequest (readingOf (s .start)) (toldIn d) (s .tvr)) bytes in
-    let list = c .before .before .before .before .before .before .before .before .before .before .value .ensures ∙ ap (λ (d : List ℕ). Option·getD (toldIn d 0x8C) []) bytes in
+    let list = c .before .before .before .before .before .before .before .before .before .before .value .ensures
+    ∙ ap (λ (d : List ℕ). Option·getD (toldIn d 0x8C) []) bytes in
     let same = ap₂ (λ (k : Facts) (l : List ℕ). cryptogramCommand (p1Of q) (filling (readingOf (s .start)) k l))
     (c .before .before .before .before .before .before .before .before .before .before .before .before .at-first .ensures .1) list in
     let again = c .before .before .before .value2 .ensures ∙ ap (λ (d : List ℕ). Option·getD (toldIn d 0x8C) []) bytes in
     let lacks = c .before .missing .ensures
-    ∙ ap₂ (unsupplied (readingOf (s .start))) (c .before .before .before .before .before .before .before .before .before .before .before .before .at-first .ensures .1) again in
+    ∙ ap₂ (unsupplied (readingOf (s .start)))
+    (c .before .before .before .before .before .before .before .before .before .before .before .before .at-first .ensures .1) again in
     asking-on s buf (first (late s) q) same (c .before .before .before .before .before .before .before .generate .ensures .0)
     (c .before .before .before .before .before .before .before .generate .ensures .1) (c .ask .ensures) lacks refl refl refl
     ∙ (ap (λ (x : Cryptogram). moved (asks (first (late s) x)) s buf) asked
     ∙ sym
     (reason-next why why (late s) (asks (first (late s) (firstRequest (readingOf (s .start)) (late s .facts) (s .tvr)))) s buf refl
-    (c .before .before .before .before .before .before .before .before .before .before .before .before .before .before .before .before .before .before .before .before .if1 .left)))
+    (c .before .before .before .before .before .before .before .before .before .before .before .before .before .before .before .before
+    .before .before .before .before .if1 .left)))
 
 pub request-first-spec : {M : Type 1} → statement M
 request-first-spec =

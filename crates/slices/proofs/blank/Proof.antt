@@ -39,4 +39,5 @@ returns c =
     ∙ (ap (λ (r : List ℕ). replicate (length (a .buf .now)) (a .b) ++ r) (drop-of-length-le (a .buf .now) (le-refl _)) ∙ append-nil _))
 
 pub blank-spec : {M : Type 1} → statement M
-blank-spec = tie.close (tie.spec Inv-loop μ-loop loop-holds (λ c. omega arith) (λ c. omega arith) (λ c. omega arith) loop-again (λ c. omega arith) returns)
+blank-spec = tie.close
+    (tie.spec Inv-loop μ-loop loop-holds (λ c. omega arith) (λ c. omega arith) (λ c. omega arith) loop-again (λ c. omega arith) returns)

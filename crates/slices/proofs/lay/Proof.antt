@@ -26,7 +26,13 @@ returns-2 : tie.Need-returns-2 Inv-loop μ-loop
 returns-2 c = sym (laid-short _ _ _ (omega arith))
 
 loop-holds : tie.Need-loop-holds Inv-loop μ-loop
-loop-holds c = (omega arith, omega arith, refl, paste-zero (c .before .before .args .buf .now) (c .before .before .args .at) (c .before .before .args .s .now))
+loop-holds c = (
+  omega arith,
+  omega arith,
+  refl,
+  paste-zero (c .before .before .args .buf .now) (c .before .before .args .at)
+      (c .before .before .args .s .now),
+)
 
 loop-again : tie.Need-loop-again Inv-loop μ-loop
 loop-again c =
@@ -37,7 +43,8 @@ loop-again c =
       omega arith,
       simp length-set (omega arith),
       ap (λ (d : List ℕ). set d (a .at + l .i) (getD (a .s .now) (l .i) 0)) (l .inv .3)
-          ∙ (paste-suc (a .buf .now) (a .at) (a .s .now) (l .i) 0 (omega arith) i<s ∙ ap (paste (a .buf .now) (a .at) (a .s .now)) (sym (add-one (l .i)))),
+          ∙ (paste-suc (a .buf .now) (a .at) (a .s .now) (l .i) 0 (omega arith) i<s
+          ∙ ap (paste (a .buf .now) (a .at) (a .s .now)) (sym (add-one (l .i)))),
     )
 
 returns-3 : tie.Need-returns-3 Inv-loop μ-loop

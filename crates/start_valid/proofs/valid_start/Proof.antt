@@ -29,12 +29,14 @@ at-3 : (c : tie.Else3) → From 3 (c .before .before .before .before .before .be
 at-3 c = at-2 (c .before .before) ∙ passed (c .before .valid-digits .ensures) _ (c .if3 .left)
 
 at-4 : (c : tie.Else4) → From 4 (c .before .before .before .before .before .before .before .before .before .args .s .now)
-at-4 c = at-3 (c .before .before .before) ∙ passed (c .before .valid-start-date .ensures ∙ ap validStartDate (c .before .before .bytes .ensures)) _ (c .if4 .left)
+at-4 c = at-3 (c .before .before .before)
+    ∙ passed (c .before .valid-start-date .ensures ∙ ap validStartDate (c .before .before .bytes .ensures)) _ (c .if4 .left)
 
 at-5 : (c : tie.Else5) → From 5 (c .before .before .before .before .before .before .before .before .before .before .before .args .s .now)
 at-5 c = at-4 (c .before .before) ∙ passed (c .before .valid-random .ensures) _ (c .if5 .left)
 
-at-6 : (c : tie.Else6) → From 6 (c .before .before .before .before .before .before .before .before .before .before .before .before .before .args .s .now)
+at-6 : (c : tie.Else6)
+    → From 6 (c .before .before .before .before .before .before .before .before .before .before .before .before .before .args .s .now)
 at-6 c = at-5 (c .before .before) ∙ passed (c .before .valid-percentages .ensures) _ (c .if6 .left)
 
 returns : tie.Need-returns
@@ -48,7 +50,9 @@ returns-3 : tie.Need-returns-3
 returns-3 c = sym (at-2 (c .before .before) ∙ refused (c .before .valid-digits .ensures) _ (c .if3 .taken))
 
 returns-4 : tie.Need-returns-4
-returns-4 c = sym (at-3 (c .before .before .before) ∙ refused (c .before .valid-start-date .ensures ∙ ap validStartDate (c .before .before .bytes .ensures)) _ (c .if4 .taken))
+returns-4 c =
+    sym (at-3 (c .before .before .before)
+    ∙ refused (c .before .valid-start-date .ensures ∙ ap validStartDate (c .before .before .bytes .ensures)) _ (c .if4 .taken))
 
 returns-5 : tie.Need-returns-5
 returns-5 c = sym (at-4 (c .before .before) ∙ refused (c .before .valid-random .ensures) _ (c .if5 .taken))

@@ -22,7 +22,9 @@ returns c =
     let p = a .payload .now in
     third .lay3 .ensures
     ∙ (ap₂ (λ (z x : List ℕ). laid z (payloadAt + length p) x) (zeros-part (length p) payloadMost (start .pre .1))
-    (second .lay2 .ensures ∙ ap (laid p payloadAt) (first .lay .ensures ∙ ap (λ (h : List ℕ). laid h 0 (a .block .now)) (first .before .before .head-bytes .ensures)))
+    (second .lay2 .ensures
+    ∙ ap (laid p payloadAt) (first .lay .ensures
+    ∙ ap (λ (h : List ℕ). laid h 0 (a .block .now)) (first .before .before .head-bytes .ensures)))
     ∙ laid-body (a .number) (a .session) (entry (a .kind) p) (a .block .now) (start .pre .1) (start .pre .0))
 
 pub lay-body-spec : {M : Type 1} → statement M

@@ -32,8 +32,10 @@ loop-holds c =
 -- the pair looked at is the one at character 2 n
 told : (c : tie.After-pair-of Inv-loop μ-loop)
     → c .pair-of .result
-    ≡ pair (getD (c .before .before .before .before .before .before .before .args .src .now) (2 * c .before .before .before .before .loop .n) 0)
-    (getD (c .before .before .before .before .before .before .before .args .src .now) (2 * c .before .before .before .before .loop .n + 1) 0)
+    ≡ pair (getD (c .before .before .before .before .before .before .before .args .src .now)
+    (2 * c .before .before .before .before .loop .n) 0)
+    (getD (c .before .before .before .before .before .before .before .args .src .now)
+    (2 * c .before .before .before .before .loop .n + 1) 0)
 told c = c .pair-of .ensures .0 ∙ ap₂ pair (c .before .before .byte .ensures .0) (c .before .byte2 .ensures .0)
 
 returns : tie.Need-returns Inv-loop μ-loop

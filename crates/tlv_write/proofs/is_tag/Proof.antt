@@ -35,14 +35,16 @@ returns-2 c =
     let t = c .before .before .before .before .args .t in
     sym
     (one t (c .before .before .before .if1 .taken)
-    ∙ ap₂ (λ (a b : Bool). not a && not b) (ne-eqb t 0 (c .before .before .if2 .left)) (sym (c .before .has-two-bytes .ensures) ∙ c .if3 .taken))
+    ∙ ap₂ (λ (a b : Bool). not a && not b) (ne-eqb t 0 (c .before .before .if2 .left)) (sym (c .before .has-two-bytes .ensures)
+    ∙ c .if3 .taken))
 
 returns-3 : tie.Need-returns-3
 returns-3 c =
     let t = c .before .before .before .before .args .t in
     sym
     (one t (c .before .before .before .if1 .taken)
-    ∙ ap₂ (λ (a b : Bool). not a && not b) (ne-eqb t 0 (c .before .before .if2 .left)) (sym (c .before .has-two-bytes .ensures) ∙ c .if3 .left))
+    ∙ ap₂ (λ (a b : Bool). not a && not b) (ne-eqb t 0 (c .before .before .if2 .left)) (sym (c .before .has-two-bytes .ensures)
+    ∙ c .if3 .left))
 
 returns-4 : tie.Need-returns-4
 returns-4 c =

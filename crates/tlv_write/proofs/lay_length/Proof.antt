@@ -16,7 +16,8 @@ unfolding lengthBytes
 returns c =
     let a = c .before .before .before .before .before .before .before .args in
     c .before .before .lay .ensures
-    ∙ ap (λ (s : List ℕ). laid s (a .at) (a .buf .now)) (sym (pick-yes _ _ _ (lt-ltb _ _ (c .before .before .before .before .before .if1 .taken))))
+    ∙ ap (λ (s : List ℕ). laid s (a .at) (a .buf .now))
+    (sym (pick-yes _ _ _ (lt-ltb _ _ (c .before .before .before .before .before .if1 .taken))))
 
 returns-2 : tie.Need-returns-2
 unfolding lengthBytes
@@ -39,4 +40,7 @@ returns-3 c =
     ∙ pick-no _ _ _ (le-ltb _ _ (c .before .before .before .before .before .if2 .left))))
 
 pub lay-length-spec : {M : Type 1} → statement M
-lay-length-spec = tie.close (tie.spec (λ c. search needs) (λ c. search needs) (λ c κs. search needs) (λ c. search needs) (λ c. search needs) (λ c κs. search needs) (λ c. search needs) (λ c. search needs) (λ c. search needs) (λ c κs. search needs) (λ c. search needs) returns (λ c. search needs) returns-2 (λ c. search needs) returns-3)
+lay-length-spec =
+    tie.close (tie.spec (λ c. search needs) (λ c. search needs) (λ c κs. search needs) (λ c. search needs) (λ c. search needs)
+    (λ c κs. search needs) (λ c. search needs) (λ c. search needs) (λ c. search needs) (λ c κs. search needs) (λ c. search needs) returns
+    (λ c. search needs) returns-2 (λ c. search needs) returns-3)

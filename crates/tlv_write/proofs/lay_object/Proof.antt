@@ -14,7 +14,8 @@ use Rattle.tlv_write.proofs.lay_object.Tie as tie
 
 returns : tie.Need-returns
 returns c =
-    let a = c .before .before .before .before .before .before .before .before .before .before .before .before .before .before .before .before .args in
+    let a = c .before .before .before .before .before .before .before .before .before .before .before .before .before .before .before
+    .before .args in
     let t = c .before .before .before .before .before .before .before .before .before .before .before .before .before .tag-size in
     let l = c .before .before .before .before .before .before .before .before .before .before .before .before .length-size in
     let size = written-length (a .tag) (a .value .now) in (
@@ -22,10 +23,15 @@ returns c =
       c .before .before .lay .ensures
           ∙ (ap (λ (d : List ℕ). laid (a .value .now) (t .result + l .result) d)
           (c .before .before .before .before .before .before .lay-length .ensures
-          ∙ ap (λ (d : List ℕ). laid (lengthBytes (length (a .value .now))) (t .result) d) (c .before .before .before .before .before .before .before .before .before .before .lay-tag .ensures))
+          ∙ ap (λ (d : List ℕ). laid (lengthBytes (length (a .value .now))) (t .result) d)
+          (c .before .before .before .before .before .before .before .before .before .before .lay-tag .ensures))
           ∙ three-writes (a .tag) (a .value .now) (a .buf .now) (t .result) (t .result + l .result)
-          (t .ensures .0) (ap (λ (n : ℕ). t .result + n) (l .ensures .0)) (c .before .before .before .before .before .before .before .before .before .before .before .before .before .before .before .before .pre .2)),
+          (t .ensures .0) (ap (λ (n : ℕ). t .result + n) (l .ensures .0))
+          (c .before .before .before .before .before .before .before .before .before .before .before .before .before .before .before
+          .before .pre .2)),
     )
 
 pub lay-object-spec : {M : Type 1} → statement M
-lay-object-spec = tie.close (tie.spec (λ c κs. search needs) (λ c κs. search needs) (λ c. search needs) (λ c κs. search needs) (λ c κs. search needs) (λ c κs. search needs) (λ c. search needs) (λ c. search needs) returns)
+lay-object-spec =
+    tie.close (tie.spec (λ c κs. search needs) (λ c κs. search needs) (λ c. search needs) (λ c κs. search needs) (λ c κs. search needs)
+    (λ c κs. search needs) (λ c. search needs) (λ c. search needs) returns)

@@ -15,13 +15,17 @@ returns : tie.Need-returns
 unfolding tagBytes
 returns c =
     c .before .before .lay .ensures
-    ∙ ap (λ (s : List ℕ). laid s 0 (c .before .before .before .before .before .before .before .args .buf .now)) (sym (pick-yes _ _ _ (lt-ltb _ _ (c .before .before .before .before .before .if1 .taken))))
+    ∙ ap (λ (s : List ℕ). laid s 0 (c .before .before .before .before .before .before .before .args .buf .now))
+    (sym (pick-yes _ _ _ (lt-ltb _ _ (c .before .before .before .before .before .if1 .taken))))
 
 returns-2 : tie.Need-returns-2
 unfolding tagBytes
 returns-2 c =
     c .before .before .lay2 .ensures
-    ∙ ap (λ (s : List ℕ). laid s 0 (c .before .before .before .before .before .before .before .args .buf .now)) (sym (pick-no _ _ _ (le-ltb _ _ (c .before .before .before .before .before .if1 .left))))
+    ∙ ap (λ (s : List ℕ). laid s 0 (c .before .before .before .before .before .before .before .args .buf .now))
+    (sym (pick-no _ _ _ (le-ltb _ _ (c .before .before .before .before .before .if1 .left))))
 
 pub lay-tag-spec : {M : Type 1} → statement M
-lay-tag-spec = tie.close (tie.spec (λ c. search needs) (λ c. search needs) (λ c κs. search needs) (λ c. search needs) (λ c. search needs) (λ c. search needs) (λ c κs. search needs) (λ c. search needs) returns (λ c. search needs) returns-2)
+lay-tag-spec =
+    tie.close (tie.spec (λ c. search needs) (λ c. search needs) (λ c κs. search needs) (λ c. search needs) (λ c. search needs)
+    (λ c. search needs) (λ c κs. search needs) (λ c. search needs) returns (λ c. search needs) returns-2)

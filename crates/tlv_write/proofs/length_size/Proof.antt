@@ -17,11 +17,13 @@ returns c = (sym (ap length (pick-yes _ _ _ (lt-ltb _ _ (c .if1 .taken)))), sear
 
 returns-2 : tie.Need-returns-2
 unfolding lengthBytes
-returns-2 c = (sym (ap length (pick-no _ _ _ (le-ltb _ _ (c .before .if1 .left)) ∙ pick-yes _ _ _ (lt-ltb _ _ (c .if2 .taken)))), search needs)
+returns-2 c =
+    (sym (ap length (pick-no _ _ _ (le-ltb _ _ (c .before .if1 .left)) ∙ pick-yes _ _ _ (lt-ltb _ _ (c .if2 .taken)))), search needs)
 
 returns-3 : tie.Need-returns-3
 unfolding lengthBytes
-returns-3 c = (sym (ap length (pick-no _ _ _ (le-ltb _ _ (c .before .if1 .left)) ∙ pick-no _ _ _ (le-ltb _ _ (c .if2 .left)))), search needs)
+returns-3 c =
+    (sym (ap length (pick-no _ _ _ (le-ltb _ _ (c .before .if1 .left)) ∙ pick-no _ _ _ (le-ltb _ _ (c .if2 .left)))), search needs)
 
 pub length-size-spec : {M : Type 1} → statement M
 length-size-spec = tie.close (tie.spec returns returns-2 returns-3)

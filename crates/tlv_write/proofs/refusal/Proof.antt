@@ -60,4 +60,6 @@ returns-6 c =
     sym (bad-tag (a .tag) (a .value .now) (a .room) (sym (c .before .is-tag .ensures) ∙ c .if3 .left))
 
 pub refusal-spec : {M : Type 1} → statement M
-refusal-spec = tie.close (tie.spec returns (λ c κs. search needs) (λ c κs. search needs) (λ c. search needs) (λ c. search needs) returns-2 (λ c κs. search needs) (λ c κs. search needs) returns-3 returns-4 returns-5 returns-6)
+refusal-spec =
+    tie.close (tie.spec returns (λ c κs. search needs) (λ c κs. search needs) (λ c. search needs) (λ c. search needs) returns-2
+    (λ c κs. search needs) (λ c κs. search needs) returns-3 returns-4 returns-5 returns-6)

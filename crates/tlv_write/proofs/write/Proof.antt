@@ -34,7 +34,9 @@ returns-2 c =
       ),
     )
 
-taken-on : (c : tie.Else2) → Accepted (c .before .before .before .before .before .args .tag) (c .before .before .before .before .before .args .value .now) (length (c .before .before .before .before .before .args .buf .now))
+taken-on : (c : tie.Else2)
+    → Accepted (c .before .before .before .before .before .args .tag) (c .before .before .before .before .before .args .value .now)
+    (length (c .before .before .before .before .before .args .buf .now))
 taken-on c =
     let a = c .before .before .before .before .before .args in
     not-refused (a .tag) (a .value .now) (length (a .buf .now))

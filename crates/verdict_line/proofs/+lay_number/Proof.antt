@@ -28,7 +28,8 @@ room-after : (t : ℕ) (c : lay-number-lts.After-slice-known2 (lay-number-below 
 room-after t c =
     let a = c .before .before .before .before .before .before .args in
     let k = c .before .before .lay-number .kept in
-    let r = large-room (a .text .now) (a .at) (a .n) (c .before .before .before .before .before .before .pre .1) (c .before .before .before .before .if1 .left) in
+    let r = large-room (a .text .now) (a .at) (a .n) (c .before .before .before .before .before .before .pre .1)
+    (c .before .before .before .before .if1 .left) in
     omega (arith, c .before .before .lay-number .ensures .0)
 
 pub +lay-number-spec : {M : Type 1} → statement M
@@ -43,7 +44,8 @@ pub +lay-number-spec : {M : Type 1} → statement M
     (λ c. omega (arith, decimal-some (c .before .before .args .n), c .before .before .pre .1))
     (λ c. omega (arith, decimal-some (c .before .before .args .n), c .before .before .pre .1))
     (λ c. simp length-set)
-    (λ c. small-laid (c .before .before .args .text .now) (c .before .before .args .at) (c .before .before .args .n) (c .before .before .pre .1) (c .if1 .taken))
+    (λ c. small-laid (c .before .before .args .text .now) (c .before .before .args .at) (c .before .before .args .n)
+    (c .before .before .pre .1) (c .if1 .taken))
     (λ c κs.
     let a = c .before .before .before .args in
     let r = large-room (a .text .now) (a .at) (a .n) (c .before .before .before .pre .1) (c .before .if1 .left) in
@@ -56,4 +58,5 @@ pub +lay-number-spec : {M : Type 1} → statement M
     (λ c.
     let a = c .before .before .before .before .before .before .args in
     let l = c .before .before .lay-number in
-    large-laid (a .text .now) (a .at) (a .n) (c .before .before .before .before .before .before .pre .1) (c .before .before .before .before .if1 .left) (l .last .0) (l .result) (l .ensures .0) (l .ensures .1))
+    large-laid (a .text .now) (a .at) (a .n) (c .before .before .before .before .before .before .pre .1)
+    (c .before .before .before .before .if1 .left) (l .last .0) (l .result) (l .ensures .0) (l .ensures .1))

@@ -11,8 +11,11 @@ returns : tie.Need-returns
 returns c =
     let a = c .before .before .before .before .before .args in
     let l = c .before .before .lay-number in
-    let size = field-length (a .n) in
-    (omega (arith, l .ensures .0), field-laid (a .text .now) (a .at) (a .n) (l .last .0) (c .before .before .before .before .before .pre) (l .ensures .1))
+    let size = field-length (a .n) in (
+      omega (arith, l .ensures .0),
+      field-laid (a .text .now) (a .at) (a .n) (l .last .0) (c .before .before .before .before .before .pre)
+          (l .ensures .1),
+    )
 
 pub lay-field-spec : {M : Type 1} → statement M
 lay-field-spec =

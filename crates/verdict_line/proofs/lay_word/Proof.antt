@@ -12,22 +12,26 @@ use Rattle.verdict_line.proofs.lay_word.Tie as tie
 returns : tie.Need-returns
 unfolding wordOf
 returns c =
-    word-laid _ Pass 4 _ _ (c .before .before .before .before .before .enum-told .given .1) refl (omega arith) (c .before .before .lay .ensures)
+    word-laid _ Pass 4 _ _ (c .before .before .before .before .before .enum-told .given .1) refl (omega arith)
+    (c .before .before .lay .ensures)
 
 returns-2 : tie.Need-returns-2
 unfolding wordOf
 returns-2 c =
-    word-laid _ Fail 4 _ _ (c .before .before .before .before .before .enum-told2 .given .1) refl (omega arith) (c .before .before .lay2 .ensures)
+    word-laid _ Fail 4 _ _ (c .before .before .before .before .before .enum-told2 .given .1) refl (omega arith)
+    (c .before .before .lay2 .ensures)
 
 returns-3 : tie.Need-returns-3
 unfolding wordOf
 returns-3 c =
-    word-laid _ Inconclusive 12 _ _ (c .before .before .before .before .before .enum-told3 .given .1) refl (omega arith) (c .before .before .lay3 .ensures)
+    word-laid _ Inconclusive 12 _ _ (c .before .before .before .before .before .enum-told3 .given .1) refl (omega arith)
+    (c .before .before .lay3 .ensures)
 
 returns-4 : tie.Need-returns-4
 unfolding wordOf
 returns-4 c =
-    word-laid _ Unreadable 10 _ _ (c .before .before .before .before .before .enum-told4 .given .1) refl (omega arith) (c .before .before .lay4 .ensures)
+    word-laid _ Unreadable 10 _ _ (c .before .before .before .before .before .enum-told4 .given .1) refl (omega arith)
+    (c .before .before .lay4 .ensures)
 
 pub lay-word-spec : {M : Type 1} → statement M
 lay-word-spec =

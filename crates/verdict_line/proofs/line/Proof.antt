@@ -71,11 +71,13 @@ text-of c =
     let g = c .before .before .before .before .lay-field2 in
     let h = c .before .lay-field3 in
     line-laid (found c) (zeros room) (w .last .0) (f .last .0) (g .last .0) (h .last .0) (w .result) (f .result) (g .result) (h .result)
-    (w .ensures .0 .0) (f .ensures .0) (g .ensures .0) (h .ensures .0) (end-of c .0) (w .ensures .1) (f .ensures .1) (g .ensures .1) (h .ensures .1)
+    (w .ensures .0 .0) (f .ensures .0) (g .ensures .0) (h .ensures .0) (end-of c .0) (w .ensures .1) (f .ensures .1) (g .ensures .1)
+    (h .ensures .1)
 
 returns : tie.Need-returns
 returns c =
-    let a = c .before .before .before .before .before .before .before .before .before .before .before .before .before .before .before .args in
+    let a = c .before .before .before .before .before .before .before .before .before .before .before .before .before .before .before .args
+    in
     let e = end-of (c .before) .1 in
     unwritten (a .found) (a .buf .now) (omega arith)
 
@@ -86,11 +88,15 @@ slice-aggregate-lay c =
 
 returns-2 : tie.Need-returns-2
 returns-2 c =
-    let a = c .before .before .before .before .before .before .before .before .before .before .before .before .before .before .before .before .before .before .before .before .args in
+    let a = c .before .before .before .before .before .before .before .before .before .before .before .before .before .before .before
+    .before .before .before .before .before .args in
     let t = c .before .before .before .before .before .before in
     let size = end-of t .1 in
-    let text = line-taken (a .found) (zeros room) _ _ size (text-of t) in
-    (size-written (a .found) (a .buf .now) _ size (omega arith), c .before .before .lay .ensures ∙ ap (λ (l : List ℕ). laid l 0 (a .buf .now)) text)
+    let text = line-taken (a .found) (zeros room) _ _ size (text-of t) in (
+      size-written (a .found) (a .buf .now) _ size (omega arith),
+      c .before .before .lay .ensures
+          ∙ ap (λ (l : List ℕ). laid l 0 (a .buf .now)) text,
+    )
 
 pub line-spec : {M : Type 1} → statement M
 line-spec =

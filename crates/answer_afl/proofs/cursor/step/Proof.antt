@@ -19,7 +19,9 @@ left : (c : tie.Then1) → isLeft (c .before .before .before .args .locator .now
 left c = sym (c .before .is-left .ensures .0) ∙ c .if1 .taken
 
 number : (c : tie.After-records)
-    → c .records .result ≡ records (entryAt (c .before .before .before .before .before .args .locator .now) (c .before .before .before .before .before .args .c))
+    → c .records .result
+    ≡ records (entryAt (c .before .before .before .before .before .args .locator .now)
+    (c .before .before .before .before .before .args .c))
 unfolding entryAt
 number c = c .records .ensures .0 ∙ ap (λ (s : List ℕ). records (firstEntry s)) (c .before .from-entry .ensures)
 

@@ -19,7 +19,9 @@ use Rattle.commands.proofs.write.options.Tie as tie
 
 -- the data is as long as was counted
 counted : (c : tie.After-data-size)
-    → length (filling (readingOf (c .before .before .before .before .before .args .start .now)) (toldIn (c .before .before .before .before .before .args .known .now)) (c .before .before .before .before .before .args .list .now)) ≡ c .data-size .result
+    → length (filling (readingOf (c .before .before .before .before .before .args .start .now))
+    (toldIn (c .before .before .before .before .before .args .known .now)) (c .before .before .before .before .before .args .list .now))
+    ≡ c .data-size .result
 counted c =
     data-length (readingOf (c .before .before .before .before .before .args .start .now))
     (toldIn (c .before .before .before .before .before .args .known .now))
@@ -67,7 +69,8 @@ returns c =
 returns-2 : tie.Need-returns-2
 returns-2 c =
     let a =
-    c .before .before .before .before .before .before .before .before .before .before .before .before .before .before .before .before .args in
+    c .before .before .before .before .before .before .before .before .before .before .before .before .before .before .before .before .args
+    in
     small-written (filling (readingOf (a .start .now)) (toldIn (a .known .now)) (a .list .now)) (a .buf .now)
     (c .before .before .lay-data .last .1 .1 .1 .0)
     (c .before .before .before .before .before .before .before .before .before .before .before .data-size .result)
@@ -90,7 +93,8 @@ returns-3 c =
 returns-4 : tie.Need-returns-4
 returns-4 c =
     let a =
-    c .before .before .before .before .before .before .before .before .before .before .before .before .before .before .before .before .args in
+    c .before .before .before .before .before .before .before .before .before .before .before .before .before .before .before .before .args
+    in
     large-written (filling (readingOf (a .start .now)) (toldIn (a .known .now)) (a .list .now)) (a .buf .now)
     (c .before .before .lay-data2 .last .1 .1 .1 .0)
     (c .before .before .before .before .before .before .before .before .before .before .before .data-size .result)

@@ -50,7 +50,8 @@ module _ (name buf out : List ℕ) (n : ℕ) (e : length name ≡ n) where
 returns-2 : tie.Need-returns-2
 returns-2 c =
     let a =
-    c .before .before .before .before .before .before .before .before .before .before .before .before .before .before .before .before .before .before .args in
+    c .before .before .before .before .before .before .before .before .before .before .before .before .before .before .before .before
+    .before .before .args in
     let name =
     c .before .before .before .before .before .before .before .before .before .before .before .before .before .before .before .aid in
     let text = name .result .now in

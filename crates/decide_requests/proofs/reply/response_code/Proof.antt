@@ -10,23 +10,34 @@ use Rattle.decide_requests.proofs.reply.response_code.Tie as tie
 
 returns : tie.Need-returns
 unfolding responseCode
-returns c = sym (ap (λ (r : HostReply). responseCode r (c .before .before .args .asked) (c .before .before .args .code)) (c .enum-told .given .1))
+returns c = sym
+    (ap (λ (r : HostReply). responseCode r (c .before .before .args .asked) (c .before .before .args .code)) (c .enum-told .given .1))
 
 returns-2 : tie.Need-returns-2
 unfolding responseCode
-returns-2 c = sym (ap (λ (r : HostReply). responseCode r (c .before .before .args .asked) (c .before .before .args .code)) (c .enum-told2 .given .1))
+returns-2 c =
+    sym (ap (λ (r : HostReply). responseCode r (c .before .before .args .asked) (c .before .before .args .code)) (c .enum-told2 .given .1))
 
 returns-3 : tie.Need-returns-3
 unfolding responseCode
-returns-3 c = let e = c .before .before in sym (ap₂ (λ (r : HostReply) (a : Cryptogram). responseCode r a (e .before .before .args .code)) (e .enum-told3 .given .1) (c .enum-told4 .given .1))
+returns-3 c =
+    let e = c .before .before in sym
+    (ap₂ (λ (r : HostReply) (a : Cryptogram). responseCode r a (e .before .before .args .code)) (e .enum-told3 .given .1)
+    (c .enum-told4 .given .1))
 
 returns-4 : tie.Need-returns-4
 unfolding responseCode
-returns-4 c = let e = c .before .before in sym (ap₂ (λ (r : HostReply) (a : Cryptogram). responseCode r a (e .before .before .args .code)) (e .enum-told3 .given .1) (c .enum-told5 .given .1))
+returns-4 c =
+    let e = c .before .before in sym
+    (ap₂ (λ (r : HostReply) (a : Cryptogram). responseCode r a (e .before .before .args .code)) (e .enum-told3 .given .1)
+    (c .enum-told5 .given .1))
 
 returns-5 : tie.Need-returns-5
 unfolding responseCode
-returns-5 c = let e = c .before .before in sym (ap₂ (λ (r : HostReply) (a : Cryptogram). responseCode r a (e .before .before .args .code)) (e .enum-told3 .given .1) (c .enum-told6 .given .1))
+returns-5 c =
+    let e = c .before .before in sym
+    (ap₂ (λ (r : HostReply) (a : Cryptogram). responseCode r a (e .before .before .args .code)) (e .enum-told3 .given .1)
+    (c .enum-told6 .given .1))
 
 pub response-code-spec : {M : Type 1} → statement M
 response-code-spec =

@@ -20,7 +20,9 @@ returns-2 c =
     let e = c .before .before .before in
     let a = e .before .before .before .before .args in
     let i = e .before .issuer-match .ensures in
-    c .in-both .ensures ∙ (ap (λ (l : List ℕ). meet l (a .t6)) (c .before .before .bytes .ensures) ∙ sym (meet-second _ _ _ (sym i ∙ e .if1 .left)))
+    c .in-both .ensures
+    ∙ (ap (λ (l : List ℕ). meet l (a .t6)) (c .before .before .bytes .ensures) ∙ sym (meet-second _ _ _ (sym i ∙ e .if1 .left)))
 
 pub code-match-spec : {M : Type 1} → statement M
-code-match-spec = tie.close (tie.spec (λ c κs. search needs) (λ c κs. search needs) (λ c. search needs) (λ c κs. search needs) returns returns-2)
+code-match-spec =
+    tie.close (tie.spec (λ c κs. search needs) (λ c κs. search needs) (λ c. search needs) (λ c κs. search needs) returns returns-2)

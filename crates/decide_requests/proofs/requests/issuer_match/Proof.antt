@@ -17,7 +17,8 @@ returns c =
     let b = c .before .before .before in
     let a = b .before .before .before .args in
     c .in-both .ensures
-    ∙ ap (λ (l : List ℕ). meet l (a .t4)) (c .before .before .value .ensures ∙ sym (ap (issuerCode (a .absent)) (is-there (toldIn (a .told .now) (a .tag)) (sym (b .before .has .ensures) ∙ b .if1 .taken))))
+    ∙ ap (λ (l : List ℕ). meet l (a .t4)) (c .before .before .value .ensures
+    ∙ sym (ap (issuerCode (a .absent)) (is-there (toldIn (a .told .now) (a .tag)) (sym (b .before .has .ensures) ∙ b .if1 .taken))))
 
 returns-2 : tie.Need-returns-2
 unfolding issuerCode
@@ -25,7 +26,8 @@ returns-2 c =
     let b = c .before .before .before in
     let a = b .before .before .before .args in
     c .in-both2 .ensures
-    ∙ ap (λ (l : List ℕ). meet l (a .t4)) (sym (ap (issuerCode (a .absent)) (is-none (toldIn (a .told .now) (a .tag)) (sym (b .before .has .ensures) ∙ b .if1 .left))))
+    ∙ ap (λ (l : List ℕ). meet l (a .t4))
+    (sym (ap (issuerCode (a .absent)) (is-none (toldIn (a .told .now) (a .tag)) (sym (b .before .has .ensures) ∙ b .if1 .left))))
 
 pub issuer-match-spec : {M : Type 1} → statement M
 issuer-match-spec =

@@ -7,7 +7,8 @@ use Rattle.decide_requests.proofs.requests.second_allowed.Statement.{st
 use Rattle.decide_requests.proofs.requests.second_allowed.Tie as tie
 
 returns : tie.Need-returns
-returns c = c .answers-second .ensures ∙ sym (ap (secondAllowed (c .before .before .before .before .args .asked)) (c .before .before .answer .given .1))
+returns c = c .answers-second .ensures
+    ∙ sym (ap (secondAllowed (c .before .before .before .before .args .asked)) (c .before .before .answer .given .1))
 
 pub second-allowed-spec : {M : Type 1} → statement M
 second-allowed-spec = tie.close (tie.spec (λ c. search needs) (λ c κs. search needs) (λ c. search needs) returns (λ c. search needs))

@@ -12,7 +12,8 @@ use Rattle.decide_requests.proofs.requests.second_request.Statement.{st
 use Rattle.decide_requests.proofs.requests.second_request.Tie as tie
 
 -- the definition at the reply that was told
-at : (s : List ℕ) (told : Facts) (tvr : List ℕ) {r reply : HostReply} → r ≡ reply → secondRequest reply (readingOf s) told tvr ≡ secondRequest r (readingOf s) told tvr
+at : (s : List ℕ) (told : Facts) (tvr : List ℕ) {r reply : HostReply} → r ≡ reply
+    → secondRequest reply (readingOf s) told tvr ≡ secondRequest r (readingOf s) told tvr
 at s told tvr e = sym (ap (λ (r : HostReply). secondRequest r (readingOf s) told tvr) e)
 
 returns : tie.Need-returns
@@ -21,7 +22,8 @@ returns c = let a = c .before .before .before .before .args in at (a .start .now
 
 returns-2 : tie.Need-returns-2
 unfolding secondRequest
-returns-2 c = let a = c .before .before .before .before .args in at (a .start .now) (toldIn (a .told .now)) (a .tvr) (c .enum-told2 .given .1)
+returns-2 c =
+    let a = c .before .before .before .before .args in at (a .start .now) (toldIn (a .told .now)) (a .tvr) (c .enum-told2 .given .1)
 
 returns-3 : tie.Need-returns-3
 unfolding secondRequest
@@ -30,7 +32,8 @@ returns-3 c =
     let a = e .before .before .before .before .args in
     let kind = c .before .kind .ensures in
     let default = c .before .before .default-match .ensures in
-    c .when-unable .ensures ∙ ((λ i. whenUnable (kind i) (default i)) ∙ at (a .start .now) (toldIn (a .told .now)) (a .tvr) (e .enum-told3 .given .1))
+    c .when-unable .ensures
+    ∙ ((λ i. whenUnable (kind i) (default i)) ∙ at (a .start .now) (toldIn (a .told .now)) (a .tvr) (e .enum-told3 .given .1))
 
 pub second-request-spec : {M : Type 1} → statement M
 second-request-spec =

@@ -17,14 +17,18 @@ returns c =
     let b = c .before .before .before in
     let a = b .before .before .before .before .args in
     let t = readingOf (a .start .now) in
-    ap not (c .alike .ensures ∙ (ap (λ v. alike v (c .before .bytes .result .now)) (c .before .before .value .ensures) ∙ ap (alike _) (c .before .bytes .ensures)))
+    ap not (c .alike .ensures
+    ∙ (ap (λ v. alike v (c .before .bytes .result .now)) (c .before .before .value .ensures)
+    ∙ ap (alike _) (c .before .bytes .ensures)))
     ∙ sym (ap (differentVersions t) (is-there (toldIn (a .told .now) 0x9F08) (sym (b .before .has .ensures) ∙ b .if1 .taken)))
 
 returns-2 : tie.Need-returns-2
 unfolding differentVersions
 returns-2 c =
     let a = c .before .before .before .before .args in
-    sym (ap (differentVersions (readingOf (a .start .now))) (is-none (toldIn (a .told .now) 0x9F08) (sym (c .before .has .ensures) ∙ c .if1 .left)))
+    sym (ap (differentVersions (readingOf (a .start .now)))
+    (is-none (toldIn (a .told .now) 0x9F08) (sym (c .before .has .ensures) ∙ c .if1 .left)))
 
 pub different-versions-spec : {M : Type 1} → statement M
-different-versions-spec = tie.close (tie.spec (λ c κs. search needs) (λ c κs. search needs) (λ c κs. search needs) (λ c κs. search needs) returns returns-2)
+different-versions-spec =
+    tie.close (tie.spec (λ c κs. search needs) (λ c κs. search needs) (λ c κs. search needs) (λ c κs. search needs) returns returns-2)

@@ -26,7 +26,8 @@ returns-2 : tie.Need-returns-2
 unfolding notYetEffective
 returns-2 c =
     let a = c .before .before .before .before .args in
-    sym (ap (notYetEffective (readingOf (a .start .now))) (is-none (toldIn (a .told .now) 0x5F25) (sym (c .before .has .ensures) ∙ c .if1 .left)))
+    sym (ap (notYetEffective (readingOf (a .start .now)))
+    (is-none (toldIn (a .told .now) 0x5F25) (sym (c .before .has .ensures) ∙ c .if1 .left)))
 
 pub not-yet-effective-spec : {M : Type 1} → statement M
 not-yet-effective-spec =

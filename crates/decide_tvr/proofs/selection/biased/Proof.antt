@@ -23,18 +23,22 @@ sub-result c = difference-fits (c .args .random) (c .args .target) (omega arith)
 
 mul-result : tie.Need-mul-result
 mul-result c =
-    product-fits (c .args .random) (c .args .target) (c .args .floor) (c .args .threshold) (omega arith) (omega arith) (omega arith) (omega arith)
+    product-fits (c .args .random) (c .args .target) (c .args .floor) (c .args .threshold) (omega arith) (omega arith) (omega arith)
+    (omega arith)
 
 mul-result-2 : tie.Need-mul-result-2
 mul-result-2 c =
-    product-fits (c .args .maximum) (c .args .target) (c .args .amount) (c .args .threshold) (omega arith) (omega arith) (omega arith) (omega arith)
+    product-fits (c .args .maximum) (c .args .target) (c .args .amount) (c .args .threshold) (omega arith) (omega arith) (omega arith)
+    (omega arith)
 
 returns : tie.Need-returns
 unfolding biased
 returns c =
     ap₂ leZ
-    (product-back (c .args .random) (c .args .target) (c .args .floor) (c .args .threshold) (omega arith) (omega arith) (omega arith) (omega arith))
-    (product-back (c .args .maximum) (c .args .target) (c .args .amount) (c .args .threshold) (omega arith) (omega arith) (omega arith) (omega arith))
+    (product-back (c .args .random) (c .args .target) (c .args .floor) (c .args .threshold) (omega arith) (omega arith) (omega arith)
+    (omega arith))
+    (product-back (c .args .maximum) (c .args .target) (c .args .amount) (c .args .threshold) (omega arith) (omega arith) (omega arith)
+    (omega arith))
 
 pub biased-spec : {M : Type 1} → statement M
 biased-spec =

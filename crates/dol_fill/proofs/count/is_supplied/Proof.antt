@@ -58,7 +58,8 @@ returns-2 c =
     let t = readingOf (a .start .now) in
     let k = toldIn (a .known .now) in
     c .is-there2 .ensures
-    ∙ (card-number (valueFor t k (a .tag)) ∙ by-format t k (a .tag) CardNumber (sym (f .format-of .ensures) ∙ c .before .enum-told2 .given .1))
+    ∙ (card-number (valueFor t k (a .tag))
+    ∙ by-format t k (a .tag) CardNumber (sym (f .format-of .ensures) ∙ c .before .enum-told2 .given .1))
 
 returns-3 : tie.Need-returns-3
 returns-3 c =

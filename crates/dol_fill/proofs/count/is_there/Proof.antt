@@ -35,7 +35,8 @@ returns-2 c =
     let o = c .before .before .before in
     let a = o .before .before .before .args in
     c .has .ensures
-    ∙ known-there (readingOf (a .start .now)) (toldIn (a .known .now)) (a .tag) (sym (o .own-field .ensures) ∙ c .before .enum-told2 .given .1)
+    ∙ known-there (readingOf (a .start .now)) (toldIn (a .known .now)) (a .tag) (sym (o .own-field .ensures)
+    ∙ c .before .enum-told2 .given .1)
 
 pub is-there-spec : {M : Type 1} → statement M
 is-there-spec = tie.close (tie.spec (λ c κs. search needs) (λ c. search needs) (λ c. search needs) (λ c κs. search needs) returns returns-2)

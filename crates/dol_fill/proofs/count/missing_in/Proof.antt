@@ -86,7 +86,8 @@ returns c =
     let t = readingOf (a .start .now) in
     let k = toldIn (a .known .now) in
     let empty = none-left (l .rest .now) (omega arith) in
-    let none : missingBy t k (entriesOf (l .rest .now)) ≡ 0 = ap (λ (r : List ℕ). missingBy t k (entriesOf r)) empty ∙ nothing-missing t k in
+    let none : missingBy t k (entriesOf (l .rest .now)) ≡ 0 =
+    ap (λ (r : List ℕ). missingBy t k (entriesOf r)) empty ∙ nothing-missing t k in
     let h = l .inv .2 in
     omega arith
 

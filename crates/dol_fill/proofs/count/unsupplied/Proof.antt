@@ -16,7 +16,8 @@ returns c =
     let f = c .before .before in
     let a = f .before .before .before .before .args in
     c .missing-in .ensures
-    ∙ sym (unsupplied-yes (readingOf (a .start .now)) (toldIn (a .known .now)) (a .list .now) (sym (f .is-fillable .ensures) ∙ c .before .if1 .taken))
+    ∙ sym (unsupplied-yes (readingOf (a .start .now)) (toldIn (a .known .now)) (a .list .now) (sym (f .is-fillable .ensures)
+    ∙ c .before .if1 .taken))
 
 returns-2 : tie.Need-returns-2
 returns-2 c =

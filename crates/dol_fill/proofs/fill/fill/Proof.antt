@@ -29,12 +29,21 @@ returns c =
     let a = c .before .before .before .before .before .before .args in
     let e = c .before .total .ensures .0 in
     sym
-    (ap (λ (s : List ℕ). laid s (a .at) (a .buf .now)) (filling-no (readingOf (a .start .now)) (toldIn (a .known .now)) (a .list .now) (omega arith))
+    (ap (λ (s : List ℕ). laid s (a .at) (a .buf .now))
+    (filling-no (readingOf (a .start .now)) (toldIn (a .known .now)) (a .list .now) (omega arith))
     ∙ nothing-laid (a .at) (a .buf .now))
 
 -- a list that can be filled, and how much it asks for
-yes-all : (c : tie.Else1) → (fillable (c .before .before .before .before .before .before .args .list .now) ≡ true) × (tally (c .before .before .before .before .before .before .args .list .now) ≡ totalOf (c .before .before .before .before .before .before .args .list .now))
-    × (filling (readingOf (c .before .before .before .before .before .before .args .start .now)) (toldIn (c .before .before .before .before .before .before .args .known .now)) (c .before .before .before .before .before .before .args .list .now) ≡ filledList (readingOf (c .before .before .before .before .before .before .args .start .now)) (toldIn (c .before .before .before .before .before .before .args .known .now)) (c .before .before .before .before .before .before .args .list .now))
+yes-all : (c : tie.Else1)
+    → (fillable (c .before .before .before .before .before .before .args .list .now) ≡ true)
+    × (tally (c .before .before .before .before .before .before .args .list .now)
+    ≡ totalOf (c .before .before .before .before .before .before .args .list .now))
+    × (filling (readingOf (c .before .before .before .before .before .before .args .start .now))
+    (toldIn (c .before .before .before .before .before .before .args .known .now))
+    (c .before .before .before .before .before .before .args .list .now)
+    ≡ filledList (readingOf (c .before .before .before .before .before .before .args .start .now))
+    (toldIn (c .before .before .before .before .before .before .args .known .now))
+    (c .before .before .before .before .before .before .args .list .now))
 yes-all c =
     let a = c .before .before .before .before .before .before .args in
     let e = c .before .total .ensures .0 in
@@ -46,7 +55,8 @@ returns-2 c =
     let t = readingOf (a .start .now) in
     let f = yes-all (c .before) .2 in
     let size = list-length t (toldIn (a .known .now)) (a .list .now) in
-    sym (ap (λ (s : List ℕ). laid s (a .at) (a .buf .now)) f ∙ laid-short (filledList t (toldIn (a .known .now)) (a .list .now)) (a .at) (a .buf .now) (omega arith))
+    sym (ap (λ (s : List ℕ). laid s (a .at) (a .buf .now)) f
+    ∙ laid-short (filledList t (toldIn (a .known .now)) (a .list .now)) (a .at) (a .buf .now) (omega arith))
 
 returns-3 : tie.Need-returns-3
 returns-3 c =
@@ -56,7 +66,8 @@ returns-3 c =
     let n = c .before .before .before .total .ensures .0 in
     let sum = all .1 in
     let size = list-length t (toldIn (a .known .now)) (a .list .now) in
-    sym (ap (λ (s : List ℕ). laid s (a .at) (a .buf .now)) (all .2) ∙ laid-short (filledList t (toldIn (a .known .now)) (a .list .now)) (a .at) (a .buf .now) (omega arith))
+    sym (ap (λ (s : List ℕ). laid s (a .at) (a .buf .now)) (all .2)
+    ∙ laid-short (filledList t (toldIn (a .known .now)) (a .list .now)) (a .at) (a .buf .now) (omega arith))
 
 fill-all-requires : tie.Need-fill-all-requires
 fill-all-requires c κs =
@@ -74,7 +85,9 @@ returns-4 c =
     let sum = all .1 in
     let size = list-length t (toldIn (a .known .now)) (a .list .now) in
     c .before .before .fill-all .ensures
-    ∙ sym (ap (λ (s : List ℕ). laid s (a .at) (a .buf .now)) (all .2) ∙ laid-fits (filledList t (toldIn (a .known .now)) (a .list .now)) (a .at) (a .buf .now) (omega arith))
+    ∙ sym (ap (λ (s : List ℕ). laid s (a .at) (a .buf .now)) (all .2)
+    ∙ laid-fits (filledList t (toldIn (a .known .now)) (a .list .now)) (a .at) (a .buf .now) (omega arith))
 
 pub fill-spec : {M : Type 1} → statement M
-fill-spec = tie.close (tie.spec (λ c κs. search needs) returns returns-2 (λ c. search needs) returns-3 fill-all-requires (λ c. search needs) returns-4)
+fill-spec = tie.close
+    (tie.spec (λ c κs. search needs) returns returns-2 (λ c. search needs) returns-3 fill-all-requires (λ c. search needs) returns-4)

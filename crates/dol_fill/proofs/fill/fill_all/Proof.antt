@@ -25,7 +25,8 @@ Inv-loop list start known buf₀ at rest₀ p₀ buf rest p =
     (isSome (entriesOf rest) ≡ true)
     × (p + totalBy (entriesOf rest) ≤ length buf₀)
     × (length buf ≡ length buf₀)
-    × (put (filledBy (readingOf start) (toldIn known) (entriesOf rest)) p buf ≡ put (filledList (readingOf start) (toldIn known) list) at buf₀)
+    × (put (filledBy (readingOf start) (toldIn known) (entriesOf rest)) p buf
+    ≡ put (filledList (readingOf start) (toldIn known) list) at buf₀)
 
 abbrev μ-loop : tie.MeasureT-loop
 μ-loop list start known buf₀ at rest₀ p₀ buf rest p = length rest
@@ -57,7 +58,8 @@ add-p c =
     let e = c .size-at .ensures .0 in
     omega arith
 
-inside : (c : tie.After-tag-size Inv-loop μ-loop) → c .tag-size .result + 1 ≤ length (c .before .before .before .before .before .before .before .loop .rest .now)
+inside : (c : tie.After-tag-size Inv-loop μ-loop)
+    → c .tag-size .result + 1 ≤ length (c .before .before .before .before .before .before .before .loop .rest .now)
 inside c =
     let h = fits (c .before .before .before .before .before .before) in
     let e = c .tag-size .ensures .0 in
@@ -86,15 +88,19 @@ loop-again c =
     let written = c .before .before .before .before .before .fill-first .ensures in
     let there = room turn in
     let first = first-length t (toldIn (a .known .now)) r in
-    let long : length (put (firstBytes t (toldIn (a .known .now)) r) (l .p) (l .buf)) ≡ length (l .buf) = put-length (firstBytes t (toldIn (a .known .now)) r) (l .p) (l .buf) (omega arith) in
+    let long : length (put (firstBytes t (toldIn (a .known .now)) r) (l .p) (l .buf)) ≡ length (l .buf) =
+    put-length (firstBytes t (toldIn (a .known .now)) r) (l .p) (l .buf) (omega arith) in
     let sum = turn-total r (turn .loop-test .taken) (l .inv .0) in
     let same = ap length written in
-    let left : l .p + c .before .before .size-at .result + totalBy (entriesOf (drop (tagSize r + 1) r)) ≤ length (a .buf .now) = (let h = l .inv .1 in omega arith) in (
+    let left : l .p + c .before .before .size-at .result + totalBy (entriesOf (drop (tagSize r + 1) r)) ≤ length (a .buf .now) =
+    (let h = l .inv .1 in omega arith) in (
       ap (λ (x : List ℕ). isSome (entriesOf x)) rest ∙ turn-some r (turn .loop-test .taken) (l .inv .0),
       rw rest left,
       (let h = l .inv .2 in omega arith),
-      ap (λ (x : List ℕ). put (filledBy t (toldIn (a .known .now)) (entriesOf x)) (l .p + c .before .before .size-at .result) (c .before .before .before .before .before .fill-first .last .1 .1 .1 .0)) rest
-          ∙ (ap (λ (k : ℕ). put (filledBy t (toldIn (a .known .now)) (entriesOf (drop (tagSize r + 1) r))) (l .p + k) (c .before .before .before .before .before .fill-first .last .1 .1 .1 .0)) s
+      ap (λ (x : List ℕ). put (filledBy t (toldIn (a .known .now)) (entriesOf x)) (l .p + c .before .before .size-at .result)
+          (c .before .before .before .before .before .fill-first .last .1 .1 .1 .0)) rest
+          ∙ (ap (λ (k : ℕ). put (filledBy t (toldIn (a .known .now)) (entriesOf (drop (tagSize r + 1) r))) (l .p + k)
+          (c .before .before .before .before .before .fill-first .last .1 .1 .1 .0)) s
           ∙ (ap (put (filledBy t (toldIn (a .known .now)) (entriesOf (drop (tagSize r + 1) r))) (l .p + sizeAt r)) written
           ∙ (turn-put t (toldIn (a .known .now)) r (l .buf) (l .p) (turn .loop-test .taken) (l .inv .0) there ∙ l .inv .3))),
     )
@@ -107,8 +113,11 @@ returns c =
     let t = readingOf (a .start .now) in
     let empty = none-left (l .rest .now) (omega arith) in
     let written : filledBy t (toldIn (a .known .now)) (entriesOf (l .rest .now)) ≡ []
-    = ap (λ (r : List ℕ). filledBy t (toldIn (a .known .now)) (entriesOf r)) empty ∙ ap (filledBy t (toldIn (a .known .now))) entries-empty in
+    = ap (λ (r : List ℕ). filledBy t (toldIn (a .known .now)) (entriesOf r)) empty
+    ∙ ap (filledBy t (toldIn (a .known .now))) entries-empty in
     sym (put-nothing (l .p) (l .buf)) ∙ (ap (λ (s : List ℕ). put s (l .p) (l .buf)) (sym written) ∙ l .inv .3)
 
 pub fill-all-spec : {M : Type 1} → statement M
-fill-all-spec = tie.close (tie.spec Inv-loop μ-loop loop-holds fill-first-requires (λ c κs. omega arith) add-p (λ c κs. omega arith) (λ c. omega arith) sub-rest part-rest-start (λ c. omega arith) loop-less loop-again (λ c. omega arith) returns)
+fill-all-spec =
+    tie.close (tie.spec Inv-loop μ-loop loop-holds fill-first-requires (λ c κs. omega arith) add-p (λ c κs. omega arith)
+    (λ c. omega arith) sub-rest part-rest-start (λ c. omega arith) loop-less loop-again (λ c. omega arith) returns)

@@ -40,7 +40,8 @@ module _ (n : ℕ) (t : Terminal) (known : Facts) (tag : ℕ) where
   unfolding supplied valueFor valueBy
   own-bytes f e = sym (ap (λ o. by-own o (known tag)) e ∙ shaped-entry (formatOf tag) n (bytesOf f t))
 
-  known-bytes : ownField tag ≡ Nothing → isSome (known tag) ≡ true → shaped (formatOf tag) n (Option·getD (known tag) []) ≡ entryBytes n (supplied t known tag)
+  known-bytes : ownField tag ≡ Nothing → isSome (known tag) ≡ true
+      → shaped (formatOf tag) n (Option·getD (known tag) []) ≡ entryBytes n (supplied t known tag)
   unfolding supplied valueFor valueBy
   known-bytes e h =
       sym

@@ -21,7 +21,8 @@ use Rattle.dol_fill.proofs.fill.fill_first.Tie as tie
 
 -- the room that the entry asks for is there
 room : (c : tie.After-size-at)
-    → c .before .before .before .before .before .before .args .p + c .size-at .result ≤ length (c .before .before .before .before .before .before .args .buf .now)
+    → c .before .before .before .before .before .before .args .p + c .size-at .result ≤ length
+    (c .before .before .before .before .before .before .args .buf .now)
 room c = let e = c .size-at .ensures .0 in let h = c .before .before .before .before .before .before .pre in omega arith
 
 abbrev Filled : tie.After-fill-entry → Type 0
@@ -46,9 +47,13 @@ returns c =
     let a = c .before .before .before .before .before .before .before .before .before .before .args in
     let n = c .before .before .before .before .size-at in
     let e = first (c .before .before) in
-    let size = ap length e ∙ (entry-length (sizeAt (a .list .now)) (supplied (readingOf (a .start .now)) (toldIn (a .known .now)) (tagOf (a .list .now))) ∙ sym (n .ensures .0)) in
+    let size = ap length e
+    ∙ (entry-length (sizeAt (a .list .now)) (supplied (readingOf (a .start .now)) (toldIn (a .known .now)) (tagOf (a .list .now)))
+    ∙ sym (n .ensures .0)) in
     put-back (c .before .before .fill-entry .last .0) (a .p) (a .p + n .result) (a .buf .now) (omega arith)
     ∙ ap (λ (s : List ℕ). put s (a .p) (a .buf .now)) e
 
 pub fill-first-spec : {M : Type 1} → statement M
-fill-first-spec = tie.close (tie.spec (λ c κs. search needs) (λ c κs. search needs) (λ c. search needs) (λ c. search needs) (λ c. search needs) (λ c. search needs) (λ c κs. search needs) (λ c. search needs) returns)
+fill-first-spec =
+    tie.close (tie.spec (λ c κs. search needs) (λ c κs. search needs) (λ c. search needs) (λ c. search needs) (λ c. search needs)
+    (λ c. search needs) (λ c κs. search needs) (λ c. search needs) returns)

@@ -11,8 +11,11 @@ use native.Mathlib.Omega.{arith}
 use Rattle.dol_values.proofs.shape.at_left_end.Statement.{statement}
 use Rattle.dol_values.proofs.shape.at_left_end.Tie as tie
 
-room : (c : tie.After-slice-known2) → length (c .before .before .blank .last .0) ≡ length (c .before .before .before .before .before .before .args .part .now)
-room c = ap length (c .before .before .blank .ensures) ∙ length-replicate (length (c .before .before .before .before .before .before .args .part .now)) (c .before .before .before .before .before .before .args .filler)
+room : (c : tie.After-slice-known2)
+    → length (c .before .before .blank .last .0) ≡ length (c .before .before .before .before .before .before .args .part .now)
+room c = ap length (c .before .before .blank .ensures)
+    ∙ length-replicate (length (c .before .before .before .before .before .before .args .part .now))
+    (c .before .before .before .before .before .before .args .filler)
 
 slice-aggregate-lay : tie.Need-slice-aggregate-lay
 slice-aggregate-lay c =
@@ -29,7 +32,8 @@ returns c =
     let full = room (c .before .before .before .before .before .before) in
     c .before .before .lay .ensures
     ∙ (ap (λ (d : List ℕ). laid (take (length d) v) 0 d) (b .ensures)
-    ∙ (ap (λ (m : ℕ). laid (take m v) 0 (replicate n (a .filler))) (length-replicate n (a .filler)) ∙ left-cut n v (a .filler) (omega arith)))
+    ∙ (ap (λ (m : ℕ). laid (take m v) 0 (replicate n (a .filler))) (length-replicate n (a .filler))
+    ∙ left-cut n v (a .filler) (omega arith)))
 
 returns-2 : tie.Need-returns-2
 returns-2 c =
@@ -38,7 +42,10 @@ returns-2 c =
     let n = length (a .part .now) in
     let full = room (c .before .before .before .before .before) in
     c .before .before .lay2 .ensures
-    ∙ (ap (λ (d : List ℕ). laid v 0 d) (c .before .before .before .before .before .before .before .blank .ensures) ∙ left-filled n v (a .filler) (omega arith))
+    ∙ (ap (λ (d : List ℕ). laid v 0 d) (c .before .before .before .before .before .before .before .blank .ensures)
+    ∙ left-filled n v (a .filler) (omega arith))
 
 pub at-left-end-spec : {M : Type 1} → statement M
-at-left-end-spec = tie.close (tie.spec (λ c κs. search needs) slice-aggregate-lay (λ c κs. search needs) (λ c κs. search needs) (λ c. search needs) returns (λ c. search needs) returns-2)
+at-left-end-spec =
+    tie.close (tie.spec (λ c κs. search needs) slice-aggregate-lay (λ c κs. search needs) (λ c κs. search needs) (λ c. search needs) returns
+    (λ c. search needs) returns-2)

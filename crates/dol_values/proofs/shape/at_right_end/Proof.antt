@@ -38,4 +38,6 @@ returns-2 c =
     ∙ (ap (λ (m : ℕ). laid v (m - length v) (replicate n 0)) (length-replicate n 0) ∙ numeric-filled n v (omega arith)))
 
 pub at-right-end-spec : {M : Type 1} → statement M
-at-right-end-spec = tie.close (tie.spec (λ c κs. search needs) (λ c. search needs) (λ c. search needs) (λ c. search needs) (λ c. search needs) (λ c κs. search needs) (λ c. search needs) (λ c κs. search needs) (λ c. search needs) returns (λ c. search needs) returns-2)
+at-right-end-spec =
+    tie.close (tie.spec (λ c κs. search needs) (λ c. search needs) (λ c. search needs) (λ c. search needs) (λ c. search needs)
+    (λ c κs. search needs) (λ c. search needs) (λ c κs. search needs) (λ c. search needs) returns (λ c. search needs) returns-2)

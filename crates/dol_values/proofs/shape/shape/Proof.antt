@@ -14,25 +14,29 @@ use Rattle.dol_values.proofs.shape.shape.Tie as tie
 returns : tie.Need-returns
 returns c =
     let a = c .before .before .before .before .before .before .before .before .args in
-    c .before .before .at-right-end .ensures ∙ ap (λ (f : Format). shaped f (length (a .part .now)) (a .v .now)) (sym (c .before .before .before .before .enum-told .given .1))
+    c .before .before .at-right-end .ensures
+    ∙ ap (λ (f : Format). shaped f (length (a .part .now)) (a .v .now)) (sym (c .before .before .before .before .enum-told .given .1))
 
 returns-2 : tie.Need-returns-2
 unfolding shaped
 returns-2 c =
     let a = c .before .before .before .before .before .before .before .before .args in
-    c .before .before .at-left-end .ensures ∙ ap (λ (f : Format). shaped f (length (a .part .now)) (a .v .now)) (sym (c .before .before .before .before .enum-told2 .given .1))
+    c .before .before .at-left-end .ensures
+    ∙ ap (λ (f : Format). shaped f (length (a .part .now)) (a .v .now)) (sym (c .before .before .before .before .enum-told2 .given .1))
 
 returns-3 : tie.Need-returns-3
 unfolding shaped zeros
 returns-3 c =
     let a = c .before .before .before .before .before .before .before .before .args in
-    c .before .before .at-left-end2 .ensures ∙ ap (λ (f : Format). shaped f (length (a .part .now)) (a .v .now)) (sym (c .before .before .before .before .enum-told3 .given .1))
+    c .before .before .at-left-end2 .ensures
+    ∙ ap (λ (f : Format). shaped f (length (a .part .now)) (a .v .now)) (sym (c .before .before .before .before .enum-told3 .given .1))
 
 returns-4 : tie.Need-returns-4
 unfolding shaped zeros
 returns-4 c =
     let a = c .before .before .before .before .before .before .before .before .args in
-    c .before .before .blank .ensures ∙ ap (λ (f : Format). shaped f (length (a .part .now)) (a .v .now)) (sym (c .before .before .before .before .enum-told4 .given .1))
+    c .before .before .blank .ensures
+    ∙ ap (λ (f : Format). shaped f (length (a .part .now)) (a .v .now)) (sym (c .before .before .before .before .enum-told4 .given .1))
 
 pub shape-spec : {M : Type 1} → statement M
 shape-spec =

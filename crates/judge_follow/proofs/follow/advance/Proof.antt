@@ -12,7 +12,8 @@ unfolding advanced
 returns c =
     let args = c .before .before .before .before .before .before .before .before .before .args in
     let m = c .before .before .before .before .step in
-    as-moving (m .result) (args .j .zeros) (c .before .sum .result) (c .stage-of .result) (m .last .1 .1 .0) (step (args .j .state) (args .payload .now) (args .j .command)) (c .before .sum .ensures) (c .stage-of .ensures) (m .ensures)
+    as-moving (m .result) (args .j .zeros) (c .before .sum .result) (c .stage-of .result) (m .last .1 .1 .0)
+    (step (args .j .state) (args .payload .now) (args .j .command)) (c .before .sum .ensures) (c .stage-of .ensures) (m .ensures)
 
 pub advance-spec : {M : Type 1} → statement M
 advance-spec = tie.close (tie.spec (λ c. search needs) (λ c κs. search needs) (λ c κs. search needs) (λ c κs. search needs) returns)

@@ -11,25 +11,30 @@ returns : tie.Need-returns
 unfolding wordAt
 returns c =
     let args = c .before .before .before .before .before .before .args in
-    c .by-speaker .ensures ∙ sym (ap (λ (x : Waiting). wordAt x (args .j) (args .index) (args .kind) (args .payload .now)) (c .before .before .waiting .given .1))
+    c .by-speaker .ensures
+    ∙ sym (ap (λ (x : Waiting). wordAt x (args .j) (args .index) (args .kind) (args .payload .now))
+    (c .before .before .waiting .given .1))
 
 returns-2 : tie.Need-returns-2
 unfolding wordAt
 returns-2 c =
     let args = c .before .before .before .before .before .args in
-    c .stage .ensures ∙ sym (ap (λ (x : Waiting). wordAt x (args .j) (args .index) (args .kind) (args .payload .now)) (c .before .enum-told .given .1))
+    c .stage .ensures
+    ∙ sym (ap (λ (x : Waiting). wordAt x (args .j) (args .index) (args .kind) (args .payload .now)) (c .before .enum-told .given .1))
 
 returns-3 : tie.Need-returns-3
 unfolding wordAt
 returns-3 c =
     let args = c .before .before .before .before .before .args in
-    c .stage2 .ensures ∙ sym (ap (λ (x : Waiting). wordAt x (args .j) (args .index) (args .kind) (args .payload .now)) (c .before .enum-told2 .given .1))
+    c .stage2 .ensures
+    ∙ sym (ap (λ (x : Waiting). wordAt x (args .j) (args .index) (args .kind) (args .payload .now)) (c .before .enum-told2 .given .1))
 
 returns-4 : tie.Need-returns-4
 unfolding wordAt
 returns-4 c =
     let args = c .before .before .before .before .before .args in
-    c .stage3 .ensures ∙ sym (ap (λ (x : Waiting). wordAt x (args .j) (args .index) (args .kind) (args .payload .now)) (c .before .enum-told3 .given .1))
+    c .stage3 .ensures
+    ∙ sym (ap (λ (x : Waiting). wordAt x (args .j) (args .index) (args .kind) (args .payload .now)) (c .before .enum-told3 .given .1))
 
 pub at-word-spec : {M : Type 1} → statement M
 at-word-spec =

@@ -17,7 +17,8 @@ returns c =
     let args = c .before .before .before .before .args in
     let p = args .payload .now in
     c .stage .ensures
-    ∙ other-kind (args .kind) (kindOf (args .speaker)) (allowedBy (args .speaker) p) (advanced (args .j) p) (staged (Broken (args .index)) (args .j))
+    ∙ other-kind (args .kind) (kindOf (args .speaker)) (allowedBy (args .speaker) p) (advanced (args .j) p)
+    (staged (Broken (args .index)) (args .j))
     (λ e. c .before .if1 .taken (e ∙ sym (c .before .before .kind-of .ensures)))
 
 returns-2 : tie.Need-returns-2
@@ -26,7 +27,8 @@ returns-2 c =
     let args = c .before .before .before .before .before .before .args in
     let p = args .payload .now in
     c .stage2 .ensures
-    ∙ test-fails (args .kind) (kindOf (args .speaker)) (allowedBy (args .speaker) p) (advanced (args .j) p) (staged (Broken (args .index)) (args .j))
+    ∙ test-fails (args .kind) (kindOf (args .speaker)) (allowedBy (args .speaker) p) (advanced (args .j) p)
+    (staged (Broken (args .index)) (args .j))
     (c .before .before .before .if1 .left ∙ c .before .before .before .before .kind-of .ensures)
     (sym (c .before .before .is-allowed .ensures) ∙ not-true _ (c .before .if2 .taken))
 
@@ -36,7 +38,8 @@ returns-3 c =
     let args = c .before .before .before .before .before .before .args in
     let p = args .payload .now in
     c .advance .ensures
-    ∙ test-holds (args .kind) (kindOf (args .speaker)) (allowedBy (args .speaker) p) (advanced (args .j) p) (staged (Broken (args .index)) (args .j))
+    ∙ test-holds (args .kind) (kindOf (args .speaker)) (allowedBy (args .speaker) p) (advanced (args .j) p)
+    (staged (Broken (args .index)) (args .j))
     (c .before .before .before .if1 .left ∙ c .before .before .before .before .kind-of .ensures)
     (sym (c .before .before .is-allowed .ensures) ∙ not-false _ (c .before .if2 .left))
 

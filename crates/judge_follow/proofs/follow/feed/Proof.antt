@@ -11,37 +11,43 @@ returns : tie.Need-returns
 unfolding fed fedAt
 returns c =
     let args = c .before .before .before .before .args in
-    c .at-word .ensures ∙ sym (ap (λ (x : Stage). fedAt x (args .j) (args .index) (args .kind) (args .payload .now)) (c .before .enum-told .given .1))
+    c .at-word .ensures
+    ∙ sym (ap (λ (x : Stage). fedAt x (args .j) (args .index) (args .kind) (args .payload .now)) (c .before .enum-told .given .1))
 
 returns-2 : tie.Need-returns-2
 unfolding fed fedAt
 returns-2 c =
     let args = c .before .before .before .before .before .args in
-    c .at-command .ensures ∙ sym (ap (λ (x : Stage). fedAt x (args .j) (args .index) (args .kind) (args .payload .now)) (c .before .before .due .given .1))
+    c .at-command .ensures
+    ∙ sym (ap (λ (x : Stage). fedAt x (args .j) (args .index) (args .kind) (args .payload .now)) (c .before .before .due .given .1))
 
 returns-3 : tie.Need-returns-3
 unfolding fed fedAt
 returns-3 c =
     let args = c .before .before .before .before .args in
-    c .at-answer .ensures ∙ sym (ap (λ (x : Stage). fedAt x (args .j) (args .index) (args .kind) (args .payload .now)) (c .before .enum-told2 .given .1))
+    c .at-answer .ensures
+    ∙ sym (ap (λ (x : Stage). fedAt x (args .j) (args .index) (args .kind) (args .payload .now)) (c .before .enum-told2 .given .1))
 
 returns-4 : tie.Need-returns-4
 unfolding fed fedAt
 returns-4 c =
     let args = c .before .before .before .before .args in
-    c .at-decision .ensures ∙ sym (ap (λ (x : Stage). fedAt x (args .j) (args .index) (args .kind) (args .payload .now)) (c .before .enum-told3 .given .1))
+    c .at-decision .ensures
+    ∙ sym (ap (λ (x : Stage). fedAt x (args .j) (args .index) (args .kind) (args .payload .now)) (c .before .enum-told3 .given .1))
 
 returns-5 : tie.Need-returns-5
 unfolding fed fedAt
 returns-5 c =
     let args = c .before .before .before .before .args in
-    c .stage .ensures ∙ sym (ap (λ (x : Stage). fedAt x (args .j) (args .index) (args .kind) (args .payload .now)) (c .before .enum-told4 .given .1))
+    c .stage .ensures
+    ∙ sym (ap (λ (x : Stage). fedAt x (args .j) (args .index) (args .kind) (args .payload .now)) (c .before .enum-told4 .given .1))
 
 returns-6 : tie.Need-returns-6
 unfolding fed fedAt
 returns-6 c =
     let args = c .before .before .before .before .args in
-    c .stage2 .ensures ∙ sym (ap (λ (x : Stage). fedAt x (args .j) (args .index) (args .kind) (args .payload .now)) (c .before .enum-told5 .given .1))
+    c .stage2 .ensures
+    ∙ sym (ap (λ (x : Stage). fedAt x (args .j) (args .index) (args .kind) (args .payload .now)) (c .before .enum-told5 .given .1))
 
 returns-7 : tie.Need-returns-7
 unfolding fed fedAt

@@ -21,8 +21,10 @@ returns-2 c =
 returns-3 : tie.Need-returns-3
 returns-3 c =
     let args = c .before .before .before .before .before .before .before .before .before .before .before .before .args in
-    steps (args .self) (entry (args .kind) (args .payload .now)) (args .command .now) (c .before .before .before .before .before .before .before .refusal .ensures)
-    (c .accept .result) (c .before .before .before .step .result) _ (c .before .before .before .before .before .before .if1 .left) (c .before .before .before .before .before .if2 .left)
+    steps (args .self) (entry (args .kind) (args .payload .now)) (args .command .now)
+    (c .before .before .before .before .before .before .before .refusal .ensures)
+    (c .accept .result) (c .before .before .before .step .result) _ (c .before .before .before .before .before .before .if1 .left)
+    (c .before .before .before .before .before .if2 .left)
     (c .accept .ensures) (c .before .before .before .step .ensures)
 
 pub event-spec : {M : Type 1} → statement M

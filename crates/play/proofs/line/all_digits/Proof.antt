@@ -18,18 +18,22 @@ abbrev μ-loop : tie.MeasureT-loop
 μ-loop s i₀ i = length s - i
 
 -- the digit looked at is the one at place i
-told : (c : tie.After-digit-of Inv-loop μ-loop) → c .digit-of .result ≡ digit (getD (c .before .before .before .before .before .args .s .now) (c .before .before .before .loop .i) 0)
+told : (c : tie.After-digit-of Inv-loop μ-loop)
+    → c .digit-of .result ≡ digit (getD (c .before .before .before .before .before .args .s .now) (c .before .before .before .loop .i) 0)
 told c = c .digit-of .ensures .0 ∙ ap digit (c .before .byte .ensures .0)
 
 returns : tie.Need-returns Inv-loop μ-loop
 returns c =
     let l = c .before .before .before .before .loop in
-    sym (sym (l .inv) ∙ digits-stop (c .before .before .before .before .before .before .args .s .now) (l .i) _ (told (c .before)) (omega arith) (c .if1 .taken))
+    sym (sym (l .inv)
+    ∙ digits-stop (c .before .before .before .before .before .before .args .s .now) (l .i) _ (told (c .before)) (omega arith)
+    (c .if1 .taken))
 
 loop-again : tie.Need-loop-again Inv-loop μ-loop
 loop-again c =
     let l = c .before .before .before .before .loop in
-    sym (digits-next (c .before .before .before .before .before .before .args .s .now) (l .i) _ (told (c .before)) (omega arith) (c .if1 .left)) ∙ l .inv
+    sym (digits-next (c .before .before .before .before .before .before .args .s .now) (l .i) _ (told (c .before)) (omega arith)
+    (c .if1 .left)) ∙ l .inv
 
 returns-2 : tie.Need-returns-2 Inv-loop μ-loop
 returns-2 c = let l = c .before .loop in sym (sym (l .inv) ∙ digits-end (c .before .before .before .args .s .now) (l .i) (omega arith))

@@ -28,7 +28,8 @@ returns-4 c =
     sym (pick-no _ _ _ (ne-eqb _ _ (c .before .before .before .before .before .if1 .left))
     ∙ (pick-no _ _ _ (ne-eqb _ _ (c .before .before .before .before .if2 .left))
     ∙ (pick-no _ _ _ (ne-eqb _ _ (c .before .before .before .if3 .left))
-    ∙ (pick-yes _ _ _ (sym (c .before .before .all-digits .ensures) ∙ c .before .if4 .taken) ∙ pick-yes _ _ _ (eq-eqb _ _ (c .if5 .taken))))))
+    ∙ (pick-yes _ _ _ (sym (c .before .before .all-digits .ensures) ∙ c .before .if4 .taken)
+    ∙ pick-yes _ _ _ (eq-eqb _ _ (c .if5 .taken))))))
 
 returns-5 : tie.Need-returns-5
 unfolding faultOf

@@ -21,23 +21,28 @@ returns-2 c =
 returns-3 : tie.Need-returns-3
 unfolding kindOf
 returns-3 c =
-    sym (pick-no _ _ _ (sym (c .before .before .before .before .before .before .before .is-named .ensures) ∙ c .before .before .before .before .before .before .if1 .left)
+    sym (pick-no _ _ _ (sym (c .before .before .before .before .before .before .before .is-named .ensures)
+    ∙ c .before .before .before .before .before .before .if1 .left)
     ∙ (pick-no _ _ _ (sym (c .before .before .before .before .is-named2 .ensures) ∙ c .before .before .before .if2 .left)
     ∙ (pick-yes _ _ _ (sym (c .before .is-named3 .ensures) ∙ c .if3 .taken))))
 
 returns-4 : tie.Need-returns-4
 unfolding kindOf
 returns-4 c =
-    sym (pick-no _ _ _ (sym (c .before .before .before .before .before .before .before .before .before .before .is-named .ensures) ∙ c .before .before .before .before .before .before .before .before .before .if1 .left)
-    ∙ (pick-no _ _ _ (sym (c .before .before .before .before .before .before .before .is-named2 .ensures) ∙ c .before .before .before .before .before .before .if2 .left)
+    sym (pick-no _ _ _ (sym (c .before .before .before .before .before .before .before .before .before .before .is-named .ensures)
+    ∙ c .before .before .before .before .before .before .before .before .before .if1 .left)
+    ∙ (pick-no _ _ _ (sym (c .before .before .before .before .before .before .before .is-named2 .ensures)
+    ∙ c .before .before .before .before .before .before .if2 .left)
     ∙ (pick-no _ _ _ (sym (c .before .before .before .before .is-named3 .ensures) ∙ c .before .before .before .if3 .left)
     ∙ (pick-yes _ _ _ (sym (c .before .is-named4 .ensures) ∙ c .if4 .taken)))))
 
 returns-5 : tie.Need-returns-5
 unfolding kindOf
 returns-5 c =
-    sym (pick-no _ _ _ (sym (c .before .before .before .before .before .before .before .before .before .before .is-named .ensures) ∙ c .before .before .before .before .before .before .before .before .before .if1 .left)
-    ∙ (pick-no _ _ _ (sym (c .before .before .before .before .before .before .before .is-named2 .ensures) ∙ c .before .before .before .before .before .before .if2 .left)
+    sym (pick-no _ _ _ (sym (c .before .before .before .before .before .before .before .before .before .before .is-named .ensures)
+    ∙ c .before .before .before .before .before .before .before .before .before .if1 .left)
+    ∙ (pick-no _ _ _ (sym (c .before .before .before .before .before .before .before .is-named2 .ensures)
+    ∙ c .before .before .before .before .before .before .if2 .left)
     ∙ (pick-no _ _ _ (sym (c .before .before .before .before .is-named3 .ensures) ∙ c .before .before .before .if3 .left)
     ∙ (pick-no _ _ _ (sym (c .before .is-named4 .ensures) ∙ c .if4 .left)))))
 

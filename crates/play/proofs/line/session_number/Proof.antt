@@ -20,7 +20,9 @@ abbrev μ-loop : tie.MeasureT-loop
 μ-loop s n₀ i₀ n i = length s - i
 
 -- the digit looked at is the one at place i
-told : (c : tie.After-digit-of Inv-loop μ-loop) → c .digit-of .result ≡ digit (getD (c .before .before .before .before .before .before .args .s .now) (c .before .before .before .loop .i) 0)
+told : (c : tie.After-digit-of Inv-loop μ-loop)
+    → c .digit-of .result
+    ≡ digit (getD (c .before .before .before .before .before .before .args .s .now) (c .before .before .before .loop .i) 0)
 told c = c .digit-of .ensures .0 ∙ ap digit (c .before .byte .ensures .0)
 
 returns : tie.Need-returns Inv-loop μ-loop
@@ -32,7 +34,9 @@ unfolding sessionNumber
 returns-2 c =
     let l = c .before .before .before .before .loop in (
       sym (pick-no _ _ _ (ne-eqb _ _ (c .before .before .before .before .before .if1 .left))
-          ∙ (sym (l .inv .1) ∙ number-stop (l .n) (c .before .before .before .before .before .before .before .args .s .now) (l .i) _ (told (c .before)) (omega arith) (λ h k. omega arith))),
+          ∙ (sym (l .inv .1)
+          ∙ number-stop (l .n) (c .before .before .before .before .before .before .before .args .s .now) (l .i) _ (told (c .before))
+          (omega arith) (λ h k. omega arith))),
       omega arith,
     )
 
@@ -41,20 +45,27 @@ unfolding sessionNumber
 returns-3 c =
     let l = c .before .before .before .before .before .loop in (
       sym (pick-no _ _ _ (ne-eqb _ _ (c .before .before .before .before .before .before .if1 .left))
-          ∙ (sym (l .inv .1) ∙ number-stop (l .n) (c .before .before .before .before .before .before .before .before .args .s .now) (l .i) _ (told (c .before .before)) (omega arith) (λ h k. omega arith))),
+          ∙ (sym (l .inv .1)
+          ∙ number-stop (l .n) (c .before .before .before .before .before .before .before .before .args .s .now) (l .i) _
+          (told (c .before .before)) (omega arith) (λ h k. omega arith))),
       omega arith,
     )
 
 loop-again : tie.Need-loop-again Inv-loop μ-loop
 loop-again c =
-    let l = c .before .before .before .before .before .loop in
-    (omega arith, sym (number-next (l .n) (c .before .before .before .before .before .before .before .before .args .s .now) (l .i) _ (told (c .before .before)) (omega arith) (omega arith) (omega arith)) ∙ l .inv .1)
+    let l = c .before .before .before .before .before .loop in (
+      omega arith,
+      sym
+          (number-next (l .n) (c .before .before .before .before .before .before .before .before .args .s .now) (l .i) _
+          (told (c .before .before)) (omega arith) (omega arith) (omega arith)) ∙ l .inv .1,
+    )
 
 returns-4 : tie.Need-returns-4 Inv-loop μ-loop
 unfolding sessionNumber
 returns-4 c =
     let l = c .before .loop in (
-      sym (pick-no _ _ _ (ne-eqb _ _ (c .before .before .if1 .left)) ∙ (sym (l .inv .1) ∙ number-end (l .n) (c .before .before .before .before .args .s .now) (l .i) (omega arith))),
+      sym (pick-no _ _ _ (ne-eqb _ _ (c .before .before .if1 .left))
+          ∙ (sym (l .inv .1) ∙ number-end (l .n) (c .before .before .before .before .args .s .now) (l .i) (omega arith))),
       omega arith,
     )
 

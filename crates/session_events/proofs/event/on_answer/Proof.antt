@@ -16,7 +16,8 @@ returns c =
     let s = args .s in
     let p = args .a .now in
     let buf = args .buf .now in
-    c .before .before .on-select .ensures ∙ sym (ap (λ (x : Question). answerStep x s p buf) (c .before .before .before .before .enum-told .given .1))
+    c .before .before .on-select .ensures
+    ∙ sym (ap (λ (x : Question). answerStep x s p buf) (c .before .before .before .before .enum-told .given .1))
 
 returns-2 : tie.Need-returns-2
 unfolding answerStep askedBy keeping
@@ -25,7 +26,8 @@ returns-2 c =
     let s = args .s in
     let p = args .a .now in
     let buf = args .buf .now in
-    c .before .before .on-options .ensures ∙ sym (ap (λ (x : Question). answerStep x s p buf) (c .before .before .before .before .enum-told2 .given .1))
+    c .before .before .on-options .ensures
+    ∙ sym (ap (λ (x : Question). answerStep x s p buf) (c .before .before .before .before .enum-told2 .given .1))
 
 returns-3 : tie.Need-returns-3
 unfolding answerStep askedBy keeping
@@ -34,7 +36,8 @@ returns-3 c =
     let s = args .s in
     let p = args .a .now in
     let buf = args .buf .now in
-    c .before .before .on-record .ensures ∙ sym (ap (λ (x : Question). answerStep x s p buf) (c .before .before .before .before .enum-told3 .given .1))
+    c .before .before .on-record .ensures
+    ∙ sym (ap (λ (x : Question). answerStep x s p buf) (c .before .before .before .before .enum-told3 .given .1))
 
 returns-4 : tie.Need-returns-4
 unfolding answerStep askedBy keeping
@@ -43,7 +46,8 @@ returns-4 c =
     let s = args .s in
     let p = args .a .now in
     let buf = args .buf .now in
-    c .before .before .on-first .ensures ∙ sym (ap (λ (x : Question). answerStep x s p buf) (c .before .before .before .before .before .question .given .1))
+    c .before .before .on-first .ensures
+    ∙ sym (ap (λ (x : Question). answerStep x s p buf) (c .before .before .before .before .before .question .given .1))
 
 returns-5 : tie.Need-returns-5
 unfolding answerStep askedBy keeping
@@ -52,7 +56,8 @@ returns-5 c =
     let s = args .s in
     let p = args .a .now in
     let buf = args .buf .now in
-    c .before .before .on-second .ensures ∙ sym (ap (λ (x : Question). answerStep x s p buf) (c .before .before .before .before .before .question2 .given .1))
+    c .before .before .on-second .ensures
+    ∙ sym (ap (λ (x : Question). answerStep x s p buf) (c .before .before .before .before .before .question2 .given .1))
 
 pub on-answer-spec : {M : Type 1} → statement M
 on-answer-spec =

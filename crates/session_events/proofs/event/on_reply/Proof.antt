@@ -18,7 +18,8 @@ returns c =
     let s = args .s in
     let buf = args .buf .now in
     c .before .before .request-second .ensures
-    ∙ ap₂ (λ (r : HostReply) (x : List ℕ). moved (replied (late s) r x) s buf) (c .before .before .before .before .before .reply-made .ensures) (c .before .before .before .before .code-in .ensures)
+    ∙ ap₂ (λ (r : HostReply) (x : List ℕ). moved (replied (late s) r x) s buf)
+    (c .before .before .before .before .before .reply-made .ensures) (c .before .before .before .before .code-in .ensures)
 
 pub on-reply-spec : {M : Type 1} → statement M
 on-reply-spec = tie.close (tie.spec (λ c κs. search needs) (λ c κs. search needs) (λ c κs. search needs) (λ c. search needs) returns)

@@ -16,7 +16,8 @@ returns c =
     let s = args .s in
     let p = args .p .now in
     let buf = args .buf .now in
-    c .before .before .on-start .ensures ∙ sym (ap (λ (x : Speaker). wordStep x s p buf) (c .before .before .before .before .enum-told .given .1))
+    c .before .before .on-start .ensures
+    ∙ sym (ap (λ (x : Speaker). wordStep x s p buf) (c .before .before .before .before .enum-told .given .1))
 
 returns-2 : tie.Need-returns-2
 unfolding wordStep heardBy keepingWord after
@@ -25,7 +26,8 @@ returns-2 c =
     let s = args .s in
     let p = args .p .now in
     let buf = args .buf .now in
-    c .before .before .on-reply .ensures ∙ sym (ap (λ (x : Speaker). wordStep x s p buf) (c .before .before .before .before .enum-told2 .given .1))
+    c .before .before .on-reply .ensures
+    ∙ sym (ap (λ (x : Speaker). wordStep x s p buf) (c .before .before .before .before .enum-told2 .given .1))
 
 pub on-word-spec : {M : Type 1} → statement M
 on-word-spec =

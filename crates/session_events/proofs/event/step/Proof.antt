@@ -15,7 +15,8 @@ returns c =
     let s = args .s in
     let p = args .p .now in
     let buf = args .buf .now in
-    c .before .before .on-answer .ensures ∙ sym (ap (λ (x : Waiting). stepAt x s p buf) (c .before .before .before .before .before .waiting .given .1))
+    c .before .before .on-answer .ensures
+    ∙ sym (ap (λ (x : Waiting). stepAt x s p buf) (c .before .before .before .before .before .waiting .given .1))
 
 returns-2 : tie.Need-returns-2
 unfolding step stepAt
@@ -24,7 +25,8 @@ returns-2 c =
     let s = args .s in
     let p = args .p .now in
     let buf = args .buf .now in
-    c .before .before .on-word .ensures ∙ sym (ap (λ (x : Waiting). stepAt x s p buf) (c .before .before .before .before .before .waiting2 .given .1))
+    c .before .before .on-word .ensures
+    ∙ sym (ap (λ (x : Waiting). stepAt x s p buf) (c .before .before .before .before .before .waiting2 .given .1))
 
 returns-3 : tie.Need-returns-3
 unfolding step stepAt

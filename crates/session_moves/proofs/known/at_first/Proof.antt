@@ -20,4 +20,6 @@ returns c =
     (e, ap toldIn e ∙ late-known s five two (p .1))
 
 pub at-first-spec : {M : Type 1} → statement M
-at-first-spec = tie.close (tie.spec (λ c κs. search needs) (λ c κs. search needs) (λ c. search needs) (λ c. search needs) (λ c κs. search needs) returns)
+at-first-spec =
+    tie.close (tie.spec (λ c κs. search needs) (λ c κs. search needs) (λ c. search needs) (λ c. search needs)
+    (λ c κs. search needs) returns)

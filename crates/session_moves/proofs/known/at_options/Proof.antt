@@ -15,9 +15,12 @@ use Rattle.session_moves.proofs.known.at_options.Tie as tie
 returns : tie.Need-returns
 unfolding knownEarly zeros
 returns c =
-    let s = c .before .before .before .before .before .before .before .before .before .before .before .before .before .before .before .before .before .args .s in
-    let t = c .before .before .before .before .before .before .before .before .before .before .before .before .before .before .before .bytes-of in
-    let tvr = c .before .before .before .before .before .before .before .before .before .before .before .before .before .before .tvr .ensures in
+    let s = c .before .before .before .before .before .before .before .before .before .before .before .before .before .before .before
+    .before .before .args .s in
+    let t = c .before .before .before .before .before .before .before .before .before .before .before .before .before .before .before
+    .bytes-of in
+    let tvr = c .before .before .before .before .before .before .before .before .before .before .before .before .before .before .tvr
+    .ensures in
     let tsi = c .before .before .before .before .before .before .before .before .before .before .before .before .before .tsi .ensures in
     let d = full (s .told .bytes) in
     let bare = c .before .before .before .before .before .before .before .before .before .lay .ensures

@@ -23,4 +23,6 @@ unfolding outcomeOf
 returns-4 c = sym (ap outcomeOf (c .enum-told3 .given .1))
 
 pub outcome-spec : {M : Type 1} → statement M
-outcome-spec = tie.close (tie.spec (λ c. search needs) (λ c. search needs) (λ c. search needs) (λ c. search needs) returns returns-2 returns-3 returns-4)
+outcome-spec =
+    tie.close (tie.spec (λ c. search needs) (λ c. search needs) (λ c. search needs)
+    (λ c. search needs) returns returns-2 returns-3 returns-4)

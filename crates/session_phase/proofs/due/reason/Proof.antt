@@ -23,4 +23,6 @@ unfolding reasonOf
 returns-4 c = sym (ap reasonOf (c .enum-told3 .given .1))
 
 pub reason-spec : {M : Type 1} → statement M
-reason-spec = tie.close (tie.spec (λ c. search needs) (λ c. search needs) (λ c. search needs) (λ c. search needs) returns returns-2 returns-3 returns-4)
+reason-spec =
+    tie.close (tie.spec (λ c. search needs) (λ c. search needs) (λ c. search needs)
+    (λ c. search needs) returns returns-2 returns-3 returns-4)

@@ -12,7 +12,19 @@ use Rattle.session_state.proofs.change.with_options.Tie as tie
 
 returns : tie.Need-returns
 unfolding withOptions zeros
-returns c = let s = c .before .before .before .before .before .before .before .before .args .s in let p = c .before .before .before .before .lay .ensures ∙ ap (λ v. laid v 0 (0 ∷ 0 ∷ [])) (c .before .before .before .before .before .profile2 .ensures) in let l = c .before .keep .ensures ∙ ap keptRun (c .before .before .locator .ensures) in λ i. record { waiting = s .waiting; start = s .start; tvr = s .tvr; tsi = s .tsi; profile = p i; locator = l i; cursor = c .start .ensures i; told = s .told }
+returns c = let s = c .before .before .before .before .before .before .before .before .args .s in let p = c .before .before .before .before
+    .lay .ensures ∙ ap (λ v. laid v 0 (0 ∷ 0 ∷ [])) (c .before .before .before .before .before .profile2 .ensures) in let l =
+    c .before .keep .ensures
+    ∙ ap keptRun (c .before .before .locator .ensures) in λ i. record {
+      waiting = s .waiting;
+      start = s .start;
+      tvr = s .tvr;
+      tsi = s .tsi;
+      profile = p i;
+      locator = l i;
+      cursor = c .start .ensures i;
+      told = s .told;
+    }
 
 pub with-options-spec : {M : Type 1} → statement M
 with-options-spec =

@@ -11,7 +11,8 @@ use Rattle.start_fields.proofs.fields.aid.Tie as tie
 
 returns : tie.Need-returns
 unfolding readingOf
-returns c = c .part .ensures ∙ ap₂ (λ (n : ℕ) (room : List ℕ). take n room) (c .before .aid-length .ensures) (c .before .before .aid-room .ensures)
+returns c = c .part .ensures
+    ∙ ap₂ (λ (n : ℕ) (room : List ℕ). take n room) (c .before .aid-length .ensures) (c .before .before .aid-room .ensures)
 
 pub aid-spec : {M : Type 1} → statement M
 aid-spec = tie.close (tie.spec (λ c κs. search needs) (λ c κs. search needs) (λ c κs. search needs) returns)

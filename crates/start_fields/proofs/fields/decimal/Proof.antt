@@ -56,7 +56,8 @@ loop-again c =
       omega arith,
       omega arith,
       bound,
-      ap (λ (d : ℕ). decimalFrom (l .n * 100 + d) (drop (l .i + 1) s)) (c .two-digits .ensures) ∙ (sym (turn s (l .n) (l .i) (omega arith)) ∙ l .inv .3),
+      ap (λ (d : ℕ). decimalFrom (l .n * 100 + d) (drop (l .i + 1) s)) (c .two-digits .ensures)
+          ∙ (sym (turn s (l .n) (l .i) (omega arith)) ∙ l .inv .3),
     )
 
 returns : tie.Need-returns Inv-loop μ-loop

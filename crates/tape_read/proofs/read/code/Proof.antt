@@ -34,7 +34,8 @@ session-right c = ap not (eq-eqb _ _ (sym (c .before .session .ensures) ∙ c .i
 returns : tie.Need-returns
 unfolding checkBad
 returns c =
-    sym (code-check _ _ _ (ap not (ne-eqb _ _ (λ e. c .if1 .taken (c .before .before .long-at .ensures ∙ (e ∙ sym (c .before .of-block .ensures)))))))
+    sym (code-check _ _ _
+    (ap not (ne-eqb _ _ (λ e. c .if1 .taken (c .before .before .long-at .ensures ∙ (e ∙ sym (c .before .of-block .ensures)))))))
 
 returns-2 : tie.Need-returns-2
 unfolding numberBad
@@ -45,7 +46,8 @@ returns-3 : tie.Need-returns-3
 unfolding sessionBad
 returns-3 c =
     let number = c .before .before in
-    sym (code-session _ _ _ (check-right (number .before .before)) (number-right number) (ap not (ne-eqb _ _ (λ e. c .if3 .taken (c .before .session .ensures ∙ e)))))
+    sym (code-session _ _ _ (check-right (number .before .before)) (number-right number)
+    (ap not (ne-eqb _ _ (λ e. c .if3 .taken (c .before .session .ensures ∙ e)))))
 
 returns-4 : tie.Need-returns-4
 returns-4 c =

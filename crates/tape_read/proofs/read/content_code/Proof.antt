@@ -74,14 +74,16 @@ unfolding paddingBad
 returns-4 c =
     let length = c .before .before in
     let spare = length .before .before in
-    sym (content-good _ (kind-right (spare .before .before)) (spare-right spare) (length-right length) (ap not (padding-told (c .before) ∙ c .if4 .taken)))
+    sym (content-good _ (kind-right (spare .before .before)) (spare-right spare) (length-right length)
+    (ap not (padding-told (c .before) ∙ c .if4 .taken)))
 
 returns-5 : tie.Need-returns-5
 unfolding paddingBad
 returns-5 c =
     let length = c .before .before in
     let spare = length .before .before in
-    sym (content-padding _ (kind-right (spare .before .before)) (spare-right spare) (length-right length) (ap not (padding-told (c .before) ∙ c .if4 .left)))
+    sym (content-padding _ (kind-right (spare .before .before)) (spare-right spare) (length-right length)
+    (ap not (padding-told (c .before) ∙ c .if4 .left)))
 
 pub content-code-spec : {M : Type 1} → statement M
 content-code-spec =

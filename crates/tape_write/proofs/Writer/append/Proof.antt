@@ -26,7 +26,8 @@ returns c =
     let e = entry (a .kind) (a .payload .now) in
     let told = c .before .why-refused .ensures in
     let refused : refusalOf (a .self .used) e (a .tape .now) ≡ 0 → ⊥ = λ h. omega arith in (
-      ap (λ (r : ℕ). record { writer = a .self; refusal = r }) told ∙ sym (refused-answer (a .self) (refusalOf (a .self .used) e (a .tape .now)) refused),
+      ap (λ (r : ℕ). record { writer = a .self; refusal = r }) told
+          ∙ sym (refused-answer (a .self) (refusalOf (a .self .used) e (a .tape .now)) refused),
       sym (refused-tape (a .self) e (a .tape .now) refused),
     )
 
@@ -63,9 +64,11 @@ returns-2 c =
     let e = given there in
     let at = w .used * blockSize in
     let t = buffer there in
-    let size : length (block (w .used) (w .session) e) ≡ at + blockSize - at = block-length (w .used) (w .session) e (room there .fits) ∙ omega arith in (
+    let size : length (block (w .used) (w .session) e) ≡ at + blockSize - at =
+    block-length (w .used) (w .session) e (room there .fits) ∙ omega arith in (
       sym (taken-answer w _ (accepted there)),
-      put-part (block (w .used) (w .session) e) (c .before .before .fill .last .0) at (at + blockSize - at) t (c .before .before .fill .ensures) size
+      put-part (block (w .used) (w .session) e) (c .before .before .fill .last .0) at (at + blockSize - at) t
+          (c .before .before .fill .ensures) size
           ∙ sym (taken-tape w e t (accepted there)),
     )
 

@@ -25,27 +25,36 @@ told c = c .digit-of .ensures .0 ∙ ap digit (c .before .byte .ensures .0)
 
 -- one digit more does not pass 64 bits
 small : (c : tie.After-digit-of Inv-loop μ-loop)
-    → c .before .before .before .before .before .args .base * c .before .before .before .loop .n ≤ 16 * c .before .before .before .before .before .args .most
+    → c .before .before .before .before .before .args .base * c .before .before .before .loop .n ≤ 16 * c .before .before .before .before
+    .before .args .most
 small c = mul-le-mul (omega arith) (omega arith)
 
 returns : tie.Need-returns Inv-loop μ-loop
 returns c =
     let a = c .before .before .before .before .before .before .args in
-    let l = c .before .before .before .before .loop in
-    (sym (sym (l .inv .1) ∙ ends-here (a .base) (a .most) (l .n) (a .s .now) (l .i) _ (told (c .before)) (omega arith) (λ h k. omega arith)), omega arith)
+    let l = c .before .before .before .before .loop in (
+      sym (sym (l .inv .1)
+          ∙ ends-here (a .base) (a .most) (l .n) (a .s .now) (l .i) _ (told (c .before)) (omega arith) (λ h k. omega arith)),
+      omega arith,
+    )
 
 returns-2 : tie.Need-returns-2 Inv-loop μ-loop
 returns-2 c =
     let a = c .before .before .before .before .before .before .before .args in
-    let l = c .before .before .before .before .before .loop in
-    (sym (sym (l .inv .1) ∙ ends-here (a .base) (a .most) (l .n) (a .s .now) (l .i) _ (told (c .before .before)) (omega arith) (λ h k. omega arith)), omega arith)
+    let l = c .before .before .before .before .before .loop in (
+      sym (sym (l .inv .1)
+          ∙ ends-here (a .base) (a .most) (l .n) (a .s .now) (l .i) _ (told (c .before .before)) (omega arith) (λ h k. omega arith)),
+      omega
+          arith,
+    )
 
 loop-again : tie.Need-loop-again Inv-loop μ-loop
 loop-again c =
     let a = c .before .before .before .before .before .before .before .args in
     let l = c .before .before .before .before .before .loop in (
       omega arith,
-      sym (goes-on (a .base) (a .most) (l .n) (a .s .now) (l .i) _ (told (c .before .before)) (omega arith) (c .before .if1 .left) (c .if2 .left)) ∙ l .inv .1,
+      sym (goes-on (a .base) (a .most) (l .n) (a .s .now) (l .i) _ (told (c .before .before)) (omega arith) (c .before .if1 .left)
+          (c .if2 .left)) ∙ l .inv .1,
     )
 
 returns-3 : tie.Need-returns-3 Inv-loop μ-loop

@@ -9,11 +9,20 @@ use Rattle.tlv_head.proofs.tag.tag_size.Tie as tie
 
 returns : tie.Need-returns
 unfolding tagSize
-returns c = (sym (pick-yes _ _ _ (ap twoBytes (sym (c .before .before .byte .ensures .0)) ∙ (sym (c .before .has-two-bytes .ensures) ∙ c .if1 .taken))), search needs)
+returns c = (
+  sym
+      (pick-yes _ _ _ (ap twoBytes (sym (c .before .before .byte .ensures .0))
+      ∙ (sym (c .before .has-two-bytes .ensures) ∙ c .if1 .taken))),
+  search needs,
+)
 
 returns-2 : tie.Need-returns-2
 unfolding tagSize
-returns-2 c = (sym (pick-no _ _ _ (ap twoBytes (sym (c .before .before .byte .ensures .0)) ∙ (sym (c .before .has-two-bytes .ensures) ∙ c .if1 .left))), search needs)
+returns-2 c = (
+  sym (pick-no _ _ _ (ap twoBytes (sym (c .before .before .byte .ensures .0))
+      ∙ (sym (c .before .has-two-bytes .ensures) ∙ c .if1 .left))),
+  search needs,
+)
 
 pub tag-size-spec : {M : Type 1} → statement M
 tag-size-spec = tie.close (tie.spec (λ c κs. search needs) (λ c κs. search needs) returns returns-2)

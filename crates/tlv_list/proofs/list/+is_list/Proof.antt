@@ -50,13 +50,16 @@ member : (t : ℕ) (c : is-list-lts.After-known-told (
   is-list-below t,
   is-list.Post,
 ) (is-list-at t) is-list.Post Inv-loop μ-loop)
-    → Member-at (c .before .before .before .before .before .before .before .args .s .now) (c .before .before .before .before .before .loop .at) (c .before .tag .given .0 .0) (c .before .tag .given .0 .1 .0) (c .before .tag .given .0 .1 .1 .0)
+    → Member-at (c .before .before .before .before .before .before .before .args .s .now)
+    (c .before .before .before .before .before .loop .at) (c .before .tag .given .0 .0) (c .before .tag .given .0 .1 .0)
+    (c .before .tag .given .0 .1 .1 .0)
 member t c =
     let g = c .before .tag .given in
     let e = sym (c .before .before .before .next .ensures) ∙ g .1 in
     record {
       found = e;
-      ahead = next-ahead (c .before .before .before .before .before .before .before .args .s .now) (c .before .before .before .before .before .loop .at) (g .0 .0) (g .0 .1 .0) (g .0 .1 .1 .0) e;
+      ahead = next-ahead (c .before .before .before .before .before .before .before .args .s .now)
+          (c .before .before .before .before .before .loop .at) (g .0 .0) (g .0 .1 .0) (g .0 .1 .1 .0) e;
       so-far = c .before .before .before .before .before .loop .inv .1;
     }
 

@@ -111,4 +111,6 @@ returns-4 c =
     sym (sym (l .inv) ∙ none-at-end (a .s .now) (a .tag) (l .p) (next-end (a .s .now) (l .p) (c .loop-test .left)))
 
 pub first-from-spec : {M : Type 1} → statement M
-first-from-spec = tie.close (tie.spec Inv-loop μ-loop loop-holds (λ c κs. search needs) enum-told returns enum-told-2 returns-2 enum-known-t returns-3 loop-less loop-again returns-4)
+first-from-spec =
+    tie.close (tie.spec Inv-loop μ-loop loop-holds
+    (λ c κs. search needs) enum-told returns enum-told-2 returns-2 enum-known-t returns-3 loop-less loop-again returns-4)

@@ -23,4 +23,6 @@ returns-2 c =
     cut a (length a - 2 - 0) (omega arith)
 
 pub data-field-spec : {M : Type 1} → statement M
-data-field-spec = tie.close (tie.spec (λ c. search needs) (λ c. search needs) (λ c. search needs) returns (λ c. search needs) (λ c. search needs) (λ c. search needs) (λ c. search needs) returns-2)
+data-field-spec =
+    tie.close (tie.spec (λ c. search needs) (λ c. search needs) (λ c. search needs) returns (λ c. search needs) (λ c. search needs)
+    (λ c. search needs) (λ c. search needs) returns-2)

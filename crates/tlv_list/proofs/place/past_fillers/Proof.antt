@@ -41,4 +41,5 @@ returns-2 c =
     (omega arith, omega arith)
 
 pub past-fillers-spec : {M : Type 1} → statement M
-past-fillers-spec = tie.close (tie.spec Inv-loop μ-loop loop-holds (λ c κs. omega arith) returns (λ c. omega arith) (λ c. omega arith) loop-again returns-2)
+past-fillers-spec =
+    tie.close (tie.spec Inv-loop μ-loop loop-holds (λ c κs. omega arith) returns (λ c. omega arith) (λ c. omega arith) loop-again returns-2)
