@@ -1,0 +1,2 @@
+-- A tape judged piece by piece.
+pub mod Feeding
