@@ -1,12 +1,12 @@
--- `read_all` is safe and ends: each read that goes on brings at least one byte, and none brings more than there is room for.
+-- `read_block` is safe and ends: each read that goes on brings at least one byte, and none brings more than there is room for.
 -- Assumes nothing.
 use mathlib.Core.Path.{_≡_}
 use Prim.Native.Nat.{_≤_, _-_}
 use native.Mathlib.Omega.{arith}
 use lib.ListN.{length}
 use borrow.Author.Needs.{needs}
-use Rattle.judge_tape.proofs.read_all.Statement.{statement}
-use Rattle.judge_tape.proofs.read_all.Tie as tie
+use Rattle.judge_tape.proofs.read_block.Statement.{statement}
+use Rattle.judge_tape.proofs.read_block.Tie as tie
 
 abbrev Inv-loop : tie.InvT-loop
 Inv-loop buf₀ n₀ buf n = (n ≤ length buf) × (length buf ≡ length buf₀)
@@ -14,8 +14,8 @@ Inv-loop buf₀ n₀ buf n = (n ≤ length buf) × (length buf ≡ length buf₀
 abbrev μ-loop : tie.MeasureT-loop
 μ-loop buf₀ n₀ buf n = length buf - n
 
-pub read-all-spec : {M : Type 1} → statement M
-read-all-spec =
+pub read-block-spec : {M : Type 1} → statement M
+read-block-spec =
     tie.close
     (tie.spec
     Inv-loop
