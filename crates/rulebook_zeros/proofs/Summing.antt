@@ -19,7 +19,8 @@ use Rattle.rulebook.specs.Machine.{Machine, at, owes, done, next, andOn, run}
 use Rattle.rulebook.proofs.Single.{head-same, tail-same}
 use Rattle.rulebook.proofs.Running.{taken, session-run, takes-command, takes-answer, takes-heard, takes-decision}
 use Rattle.rulebook.proofs.Reading.{awaits-run, beginning-run, other-kind}
-use Rattle.rulebook.proofs.Trichotomy.{Sort, finished, unfinished, neither, sorted}
+use Rattle.rulebook.specs.Stated.{Sort, finished, unfinished, neither}
+use Rattle.rulebook.proofs.Trichotomy.{sorted}
 use Rattle.rulebook.proofs.Ends.{finishes}
 use Rattle.rulebook.proofs.Breaks.{break-found, break-within}
 use Rattle.rulebook.proofs.States.{state-lawful, state-next}
