@@ -2,8 +2,9 @@
 """Calls for crates/bench_kernel: writes its stdin, and the stdout that it must give.
 
 The replies come from two programs that were written from the scope paper and share nothing with the proved code: those of
-crates/bench_kernel/calls.jsonl and zeros.jsonl (with R-6's number) were stored with the calls, the others are given by `reference make-calls`, and by `reference play` for
-the scripts of samples/. Build it first (cd reference && cargo build --release --offline), then run this in the repository's
+crates/bench_kernel/calls.jsonl and zeros.jsonl (with R-6's number) were stored with the calls; of those made before
+a rule was amended the ones are taken of which the reference says the same. The others are given by `reference make-calls`, and by
+`reference play` for the scripts of samples/. Build it first (cd reference && cargo build --release --offline), then run this in the repository's
 root.
 """
 import glob
@@ -32,10 +33,24 @@ def sequence(line):
     return [(c["event"], c["payload"].upper(), c["room"], reply_line(c["reply"]), c.get("zeros")) for c in calls]
 
 
+def agrees(calls):
+    lines, lent = [], 261
+    for event, payload, room, _, _ in calls:
+        if room != lent:
+            lines.append(f"ROOM {room}")
+            lent = room
+        lines.append(f"{event} {payload}".rstrip())
+    text = "".join(line + "\n" for line in lines)
+    played = subprocess.run([REFERENCE, "play"], input=text, capture_output=True, text=True).stdout.splitlines()
+    return [line for line in played if line] == [reply for _, _, _, reply, _ in calls]
+
+
 def stored():
     for name in STORED:
         with open(name) as lines:
-            yield from map(sequence, lines)
+            taken = [calls for calls in map(sequence, lines) if agrees(calls)]
+        print(f"{len(taken)} of {name}")
+        yield from taken
 
 
 def made():

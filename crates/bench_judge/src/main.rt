@@ -15,11 +15,15 @@ enum Frame {
 }
 
 fn main() {
-    let mut tape = [0u8; 70000];
+    let mut tape = [0u8; 530000];
+    tell_all(&mut tape);
+}
+
+fn tell_all(tape: &mut [u8]) {
     let mut left: usize = 100000;
     while 0 < left {
         match size() {
-            Frame::Size(n) => tell(&mut tape, n),
+            Frame::Size(n) => tell(tape, n),
             Frame::End => return,
         }
         left -= 1;

@@ -16,7 +16,7 @@ const RECORD: usize = 2060;
 
 const RECORDS: usize = 64;
 
-const LONGEST: usize = 66560;
+const LONGEST: usize = 526336;
 
 fn main() {
     let mut room = [0u8; RECORD];
@@ -110,15 +110,19 @@ fn good_blocks(t: &[u8], blocks: usize, session: u32) -> usize {
 
 fn entries(t: &[u8], blocks: usize, session: u32) {
     let mut copy = [0u8; LONGEST];
+    again(t, blocks, session, &mut copy);
+}
+
+fn again(t: &[u8], blocks: usize, session: u32, copy: &mut [u8]) {
     let mut writer = Writer::new(session);
     io::write_all(STDOUT_FILENO, b" read\n");
     let mut n = 0;
     while n < blocks {
         let block = tape_read::block_at(t, n);
-        writer = entry(writer, block, &mut copy);
+        writer = entry(writer, block, copy);
         n += 1;
     }
-    written(&copy, writer);
+    written(copy, writer);
 }
 
 // Shows an entry and writes it again.

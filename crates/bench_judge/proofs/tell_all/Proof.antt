@@ -1,20 +1,20 @@
--- `main` is safe and ends: each turn takes one from a count.
+-- `tell_all` is safe and ends: each turn takes one from a count.
 -- Assumes nothing.
 use mathlib.Core.Path.{_≡_}
 use native.Mathlib.Omega.{arith}
 use lib.ListN.{length}
 use borrow.Author.Needs.{needs}
-use Rattle.bench_judge.proofs.main.Statement.{statement}
-use Rattle.bench_judge.proofs.main.Tie as tie
+use Rattle.bench_judge.proofs.tell_all.Statement.{statement}
+use Rattle.bench_judge.proofs.tell_all.Tie as tie
 
 abbrev Inv-loop : tie.InvT-loop
-Inv-loop tape₀ left₀ tape left = length tape ≡ 70000
+Inv-loop tape₀ left₀ tape left = length tape ≡ length tape₀
 
 abbrev μ-loop : tie.MeasureT-loop
 μ-loop tape₀ left₀ tape left = left
 
-pub main-spec : {M : Type 1} → statement M
-main-spec =
+pub tell-all-spec : {M : Type 1} → statement M
+tell-all-spec =
     tie.close
     (tie.spec
     Inv-loop
@@ -22,11 +22,12 @@ main-spec =
     (λ c. search needs)
     (λ c κs. search needs)
     (λ c. search needs)
-    (λ c. search needs)
     (λ c κs. search needs)
     (λ c. search needs)
     (λ c. search needs)
     (λ c. search needs)
+    (λ c. search needs)
+    (λ c. omega arith)
     (λ c. search needs)
     (λ c. search needs)
     (λ c. search needs))
