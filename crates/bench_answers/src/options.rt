@@ -21,11 +21,11 @@ fn print_answer(answer: &[u8]) {
     }
 }
 
-// The records are at most 58, so that the bound on their number is never met.
+// The records are at most 500, so that the bound on their number is never met.
 fn print_records(afl: &[u8]) {
     let mut at = cursor::start();
     let mut n: usize = 0;
-    while n < 100 && cursor::is_left(afl, at) {
+    while n < 600 && cursor::is_left(afl, at) {
         print_record(cursor::record(afl, at), cursor::file(afl, at));
         at = cursor::step(afl, at);
         n += 1;

@@ -32,10 +32,9 @@ pub fn feed(u: UnderWay, piece: &[u8]) -> UnderWay
     let reader = taken.reader;
     let dialogue = u.dialogue;
     if taken.good {
-        let further = follow::feed(dialogue, index, kind(piece), payload(piece));
         return UnderWay {
             reader,
-            dialogue: further,
+            dialogue: follow::feed(dialogue, index, kind(piece), payload(piece)),
         };
     }
     UnderWay { reader, dialogue }

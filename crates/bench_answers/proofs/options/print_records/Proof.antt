@@ -7,10 +7,10 @@ use Rattle.bench_answers.proofs.options.print_records.Statement.{statem
 use Rattle.bench_answers.proofs.options.print_records.Tie as tie
 
 abbrev Inv-loop : tie.InvT-loop
-Inv-loop afl at₀ n₀ at n = n ≤ 100
+Inv-loop afl at₀ n₀ at n = n ≤ 600
 
 abbrev μ-loop : tie.MeasureT-loop
-μ-loop afl at₀ n₀ at n = 100 - n
+μ-loop afl at₀ n₀ at n = 600 - n
 
 pub print-records-spec : {M : Type 1} → statement M
 print-records-spec =
