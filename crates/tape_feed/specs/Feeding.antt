@@ -1,7 +1,7 @@
 -- A tape handed in piece by piece (02, R-8): a piece of 512 bytes is a block, any other the tail, and nothing behind a tail is looked
 -- at. A tail of no bytes is none. Codes 1 and 2 (01, "The tape") are known only where the tape ends, and go before all others.
 -- Assumes nothing.
-use mathlib.Core.Bool.{Bool, true, false, _&&_, _||_}
+use mathlib.Core.Bool.{Bool, true, false}
 use mathlib.Core.List.{List, [], _∷_}
 use Prim.Native.Nat.{ℕ, _+_, _/_}
 use lib.Dec.{eqb, ltb}
