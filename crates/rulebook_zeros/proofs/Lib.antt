@@ -1,3 +1,4 @@
 pub mod Summing
 pub mod Most
+pub mod Supplied
 pub mod Worked
