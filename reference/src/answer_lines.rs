@@ -8,16 +8,17 @@ use crate::answers::{
 use crate::commands::{bytes_of, each_line, reply_line, Outcome};
 use crate::decide::{first_allows, second_allows, Cryptogram};
 use crate::hex;
-use crate::kernel::{Event, Reply, Session, LONGEST_COMMAND};
+use crate::kernel::{Event, Reply, Session};
 use crate::lists::{fill, Known};
 use crate::terminal::Terminal;
 
-/// `SELECT START ANSWER`: 9F38, and the command the kernel sends next.
+/// `SELECT START ANSWER`: 9F38, and the command that comes next. START may
+/// have either size (02, R-7).
 fn select_line(start: &[u8], answer: &[u8]) -> Result<String, String> {
-    let terminal = Terminal::read(start).ok_or("no valid START")?;
+    let terminal = Terminal::read_either(start).ok_or("no valid START")?;
     let mut session = Session::default();
-    session.step(LONGEST_COMMAND, Event::Start(start));
-    match session.step(LONGEST_COMMAND, Event::Answer(answer)) {
+    session.retell(Event::Start(start));
+    match session.retell(Event::Answer(answer)) {
         Reply::Command(command) => {
             let list = read_select(answer, terminal.aid()).ok().flatten().unwrap_or_default();
             Ok(format!("0 {} {}", hex::text_or_dash(&list), hex::text(&command)))
@@ -54,9 +55,10 @@ fn after_records(card: &CardData) -> Reason {
 }
 
 /// `RECORDS ANSWER ..`: each record's reason and what it tells, up to the
-/// first that is bad; then the reason found after the last.
-fn records_line(answers: &[Vec<u8>]) -> String {
-    let mut card = CardData::default();
+/// first that is bad; then the reason found after the last. `RECORDS74` is the
+/// same under a START of the former size (02, R-7).
+fn records_line(with_verification: bool, answers: &[Vec<u8>]) -> String {
+    let mut card = CardData::new(with_verification);
     let mut line = String::new();
     for answer in answers {
         let before = card.clone();
@@ -104,9 +106,9 @@ fn answer_line(line: &str) -> Result<String, String> {
     match words[..] {
         ["SELECT", start, answer] => select_line(&bytes_of(start)?, &bytes_of(answer)?),
         ["GPO", answer] => Ok(options_line(&bytes_of(answer)?)),
-        ["RECORDS", ref answers @ ..] => {
+        [word @ ("RECORDS" | "RECORDS74"), ref answers @ ..] => {
             let answers: Result<Vec<_>, _> = answers.iter().map(|word| bytes_of(word)).collect();
-            Ok(records_line(&answers?))
+            Ok(records_line(word == "RECORDS", &answers?))
         }
         ["AC1", asked, answer] => {
             Ok(cryptogram_line(first_allows, request(asked)?, &bytes_of(answer)?))
@@ -125,7 +127,7 @@ pub fn read_answers() -> Outcome {
 #[cfg(test)]
 mod tests {
     use super::*;
-    use crate::terminal::tests::sample;
+    use crate::terminal::tests::{former, sample};
 
     fn asked(line: &str) -> String {
         answer_line(line).unwrap()
@@ -139,6 +141,11 @@ mod tests {
         assert_eq!(line("6F098405A000000003A5009000"), "0 - 80A8000002830000");
         assert_eq!(line("6A82"), "2");
         assert_eq!(line("-"), "1");
+        // 9F33 is known to the larger START alone.
+        let asking = "6F118405A000000003A5089F38059F33039C019000";
+        assert_eq!(line(asking), "0 9F33039C01 80A8000006830460E0000000");
+        let line = asked(&format!("SELECT {} {asking}", hex::text(&former())));
+        assert_eq!(line, "0 9F33039C01 80A800000683040000000000");
         assert!(answer_line("SELECT 00 9000").is_err());
     }
 
@@ -162,6 +169,12 @@ mod tests {
             asked("RECORDS 700E5A01125F24032612318C01008D009000"),
             "0 5A:12 5F24:261231 8C:00 8D:- | 9"
         );
+        let record = "700F8E0800000001000000029F420209789000";
+        assert_eq!(
+            asked(&format!("RECORDS {record} {record}")),
+            "0 8E:0000000100000002 9F42:0978 | 4"
+        );
+        assert_eq!(asked(&format!("RECORDS74 {record} {record}")), "0 | 0 | 8");
     }
 
     #[test]

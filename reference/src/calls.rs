@@ -11,6 +11,7 @@ pub const START: &str = "START";
 pub const ANSWER: &str = "ANSWER";
 pub const SILENCE: &str = "SILENCE";
 pub const HOST: &str = "HOST";
+pub const RESULTS: &str = "RESULTS";
 
 /// A call before it is made.
 #[derive(Clone, Debug, PartialEq, Eq)]
@@ -26,6 +27,7 @@ impl Call {
             START => Event::Start(&self.payload),
             ANSWER => Event::Answer(&self.payload),
             HOST => Event::Host(&self.payload),
+            RESULTS => Event::Results(&self.payload),
             _ => Event::Silence,
         };
         session.step(self.room, event)
@@ -57,6 +59,7 @@ fn reply_text(reply: &Reply) -> String {
     match reply {
         Reply::Command(bytes) => format!("[\"command\", \"{}\"]", lower(bytes)),
         Reply::HostDue => "[\"host\"]".to_string(),
+        Reply::ResultsDue(number) => format!("[\"results\", {number}]"),
         Reply::Decision(bytes) => format!("[\"decision\", \"{}\"]", lower(bytes)),
         Reply::Closed => "[\"closed\"]".to_string(),
         Reply::Refused(number) => format!("[\"refused\", {number}]"),
@@ -81,7 +84,7 @@ pub fn session_line(number: usize, calls: &[Made]) -> String {
 
 /// The call and the reply it should get, as text.
 fn read_call(value: &Value) -> Option<(Call, String)> {
-    let names = [START, ANSWER, SILENCE, HOST];
+    let names = [START, ANSWER, SILENCE, HOST, RESULTS];
     let event = value.get("event")?.text()?;
     let call = Call {
         event: names.into_iter().find(|name| *name == event)?,
@@ -154,17 +157,42 @@ mod tests {
             Call { event: START, payload: sample().to_vec(), room: 261 },
             Call { event: ANSWER, payload: vec![], room: 261 },
             Call { event: SILENCE, payload: vec![], room: 300 },
+            Call { event: RESULTS, payload: vec![1], room: 261 },
         ];
         let made = calls.map(|call| Made::new(call, &mut session));
         let line = session_line(4, &made);
         assert!(line.contains("[\"refused\", 1]") && line.contains("00a40400"));
-        assert_eq!(replay(&line), Some((4, vec![])));
+        assert_eq!(replay(&line), Some((5, vec![])));
         let (_, differing) = replay(&line.replace("\"refused\", 2", "\"refused\", 4")).unwrap();
-        assert_eq!(differing.len(), 1);
+        assert_eq!(differing.len(), 2);
         let (_, differing) = replay(&line.replace("\"zeros\": 0", "\"zeros\": 1")).unwrap();
-        assert_eq!(differing.len(), 4);
+        assert_eq!(differing.len(), 5);
         let (_, differing) = replay(&line.replace(", \"zeros\": 0", "")).unwrap();
         assert_eq!(differing.len(), 0);
         assert_eq!(replay("{}"), None);
+    }
+
+    /// A session up to its results, which are told with their number.
+    #[test]
+    fn results_replay() {
+        let list = "8E0A00000000000000001E00";
+        let payloads = [
+            (START, sample().to_vec()),
+            (ANSWER, hex::bytes("6F098405A000000003A5009000").unwrap()),
+            (ANSWER, hex::bytes("80061000080101009000").unwrap()),
+            (ANSWER, hex::bytes(&format!("70195A01125F24032612318C008D00{list}9000")).unwrap()),
+            (RESULTS, vec![5]),
+            (RESULTS, vec![1]),
+        ];
+        let mut session = Session::default();
+        let made = payloads
+            .map(|(event, payload)| Made::new(Call { event, payload, room: 261 }, &mut session));
+        let line = session_line(1, &made);
+        let told = "\"reply\": [\"results\", 1], \"zeros\": 0}, {\"event\": \"RESULTS\", \
+                    \"payload\": \"05\", \"room\": 261, \"reply\": [\"refused\", 12]";
+        assert!(line.contains(told), "{line}");
+        assert_eq!(replay(&line), Some((6, vec![])));
+        let (_, differing) = replay(&line.replace("[\"results\", 1]", "[\"host\"]")).unwrap();
+        assert_eq!(differing.len(), 1);
     }
 }

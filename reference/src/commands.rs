@@ -143,6 +143,7 @@ impl Player {
             "ANSWER" => (tape::ANSWER, Event::Answer(&payload)),
             "SILENCE" => (tape::SILENCE, Event::Silence),
             "HOST" => (tape::HOST, Event::Host(&payload)),
+            "RESULTS" => (tape::RESULTS, Event::Results(&payload)),
             _ => return Err(format!("unknown word: {word}")),
         };
         let reply = self.session.step(self.room, event);
@@ -172,6 +173,7 @@ pub fn reply_line(reply: &Reply) -> String {
     match reply {
         Reply::Command(bytes) => format!("COMMAND {}", hex::text(bytes)),
         Reply::HostDue => "HOST".to_string(),
+        Reply::ResultsDue(count) => format!("RESULTS {count}"),
         Reply::Decision(bytes) => format!("DECISION {}", hex::text(bytes)),
         Reply::Closed => "CLOSED".to_string(),
         Reply::Refused(number) => format!("REFUSED {number}"),
@@ -292,7 +294,7 @@ pub fn run_exchanges(short: bool) -> Outcome {
 #[cfg(test)]
 mod tests {
     use super::*;
-    use crate::terminal::tests::sample;
+    use crate::terminal::tests::{former, sample};
 
     #[test]
     fn object_lines() {
@@ -373,5 +375,24 @@ mod tests {
         assert_eq!(say(&start), "COMMAND 00A4040005A00000000300");
         assert_eq!(say("ANSWER 6a82"), "DECISION 030200000000000000");
         assert_eq!(say("SILENCE"), "REFUSED 2");
+        assert_eq!(say("RESULTS"), "REFUSED 2");
+    }
+
+    #[test]
+    fn player_lines_with_results() {
+        let mut player = Player { session: Session::default(), room: 261, recorder: None };
+        let mut say = |line: &str| player.line(line).unwrap().unwrap_or_default();
+        assert_eq!(say(&format!("START {}", hex::text(&former()))), "REFUSED 3");
+        say(&format!("START {}", hex::text(&sample())));
+        say("ANSWER 6F098405A000000003A5009000");
+        assert_eq!(say("RESULTS 01"), "REFUSED 4");
+        say("ANSWER 80061000080101009000");
+        let list = "8E0A00000000000000001E00";
+        let record = format!("ANSWER 70195A01125F24032612318C008D00{list}9000");
+        assert_eq!(say(&record), "RESULTS 1");
+        assert_eq!(say("RESULTS 05"), "REFUSED 12");
+        assert_eq!(say("RESULTS"), "REFUSED 12");
+        assert_eq!(say("SILENCE"), "REFUSED 4");
+        assert_eq!(say("RESULTS 01"), "COMMAND 80AE800000");
     }
 }

@@ -15,11 +15,14 @@ const OVER_FLOOR: (usize, u8) = (3, 0x80);
 const SELECTED: (usize, u8) = (3, 0x10);
 
 /// TSI byte 1 (003, Table A-7).
+pub const VERIFICATION_DONE: u8 = 0x40;
 pub const CARD_RISK_DONE: u8 = 0x20;
 pub const TERMINAL_RISK_DONE: u8 = 0x08;
 
 /// AIP byte 1: the card wants terminal risk management.
 const RISK_WANTED: u8 = 0x08;
+/// AIP byte 1: the card supports cardholder verification (02, R-7).
+pub const VERIFICATION_SUPPORTED: u8 = 0x10;
 
 /// What is known of the card after its last record.
 pub struct Facts<'a> {

@@ -1,7 +1,7 @@
 //! The judge: reads a whole tape and gives one verdict (00, demand 3; 01,
 //! "The tape").
 
-use crate::kernel::{Event, Reply, Session, LONGEST_COMMAND};
+use crate::kernel::{Event, Reply, Session};
 use crate::tape::{self, Entry, Unreadable};
 use std::fmt;
 
@@ -54,6 +54,8 @@ enum Next {
     /// Any answer, or a silence that closes.
     Answer,
     Host,
+    /// A result for each rule of the verification list (02, R-7).
+    Results,
     /// Exactly this decision.
     Decision([u8; 9]),
     /// Nothing: the session is finished.
@@ -103,6 +105,7 @@ impl Follower {
             (Next::Answer, tape::ANSWER) => self.feed(Event::Answer(entry.payload)),
             (Next::Answer, tape::SILENCE) => entry.payload.is_empty().then_some(Next::Closed),
             (Next::Host, tape::HOST) => self.feed(Event::Host(entry.payload)),
+            (Next::Results, tape::RESULTS) => self.feed(Event::Results(entry.payload)),
             (Next::Decision(due), tape::DECISION) => {
                 (entry.payload == due).then_some(Next::Finished)
             }
@@ -111,9 +114,10 @@ impl Follower {
     }
 
     fn feed(&mut self, event: Event) -> Option<Next> {
-        match self.session.step(LONGEST_COMMAND, event) {
+        match self.session.retell(event) {
             Reply::Command(command) => Some(Next::Command(command)),
             Reply::HostDue => Some(Next::Host),
+            Reply::ResultsDue(_) => Some(Next::Results),
             Reply::Decision(decision) => Some(Next::Decision(decision)),
             Reply::Closed | Reply::Refused(_) => None,
         }
@@ -141,86 +145,4 @@ fn follow(entries: &[Entry]) -> Judgement {
 }
 
 #[cfg(test)]
-mod tests {
-    use super::*;
-    use crate::kernel::tests::h;
-    use crate::tape::Writer;
-    use crate::terminal::tests::sample;
-
-    fn verdict(entries: &[(u8, Vec<u8>)]) -> String {
-        let mut writer = Writer::new(5, 1 << 20);
-        for (kind, payload) in entries {
-            writer.add(Entry { kind: *kind, payload }).unwrap();
-        }
-        judge(&writer.into_bytes()).to_string()
-    }
-
-    /// START, SELECT, a refusal by the card, and the end.
-    fn short_session() -> Vec<(u8, Vec<u8>)> {
-        vec![
-            (tape::START, sample().to_vec()),
-            (tape::COMMAND, h("00A4040005A00000000300")),
-            (tape::ANSWER, h("6A82")),
-            (tape::DECISION, h("030200000000000000")),
-        ]
-    }
-
-    fn first(count: usize, more: &[(u8, Vec<u8>)]) -> String {
-        let mut entries = short_session();
-        entries.truncate(count);
-        entries.extend_from_slice(more);
-        verdict(&entries)
-    }
-
-    #[test]
-    fn run_cases_empty_and_one_byte() {
-        assert_eq!(judge(&[]).to_string(), "INCONCLUSIVE 0 0 0");
-        assert_eq!(judge(&[0]).to_string(), "UNREADABLE 0 2 0");
-    }
-
-    #[test]
-    fn whole_and_cut() {
-        assert_eq!(first(4, &[]), "PASS 4 0 0");
-        for count in 0..4 {
-            assert_eq!(first(count, &[]), format!("INCONCLUSIVE {count} 0 0"));
-        }
-    }
-
-    #[test]
-    fn silences() {
-        let silence = || (tape::SILENCE, vec![]);
-        assert_eq!(first(2, &[silence()]), "INCONCLUSIVE 3 0 0");
-        assert_eq!(first(1, &[silence()]), "FAIL 1 0 0");
-        assert_eq!(first(3, &[silence()]), "FAIL 3 0 0");
-        assert_eq!(first(4, &[silence()]), "FAIL 4 0 0");
-        assert_eq!(first(2, &[(tape::SILENCE, vec![0])]), "FAIL 2 0 0");
-        assert_eq!(first(2, &[silence(), silence()]), "FAIL 3 0 0");
-        assert_eq!(first(2, &[silence(), (tape::ANSWER, vec![])]), "FAIL 3 0 0");
-    }
-
-    #[test]
-    fn wrong_entries() {
-        assert_eq!(first(0, &[(tape::START, vec![])]), "FAIL 0 0 0");
-        assert_eq!(first(1, &[(tape::COMMAND, vec![])]), "FAIL 1 0 0");
-        assert_eq!(first(3, &[(tape::DECISION, h("030300000000000000"))]), "FAIL 3 0 0");
-        assert_eq!(first(4, &[(tape::START, sample().to_vec())]), "FAIL 4 0 0");
-    }
-
-    /// SELECT's answer asks for 9F06 and for 82, before it can be there.
-    #[test]
-    fn the_fourth_number() {
-        let asking = || (tape::ANSWER, h("6F11 8405A000000003 A508 9F3805 9F0601 8202 9000"));
-        let options = || (tape::COMMAND, h("80A80000058303 000000 00"));
-        assert_eq!(first(2, &[asking()]), "INCONCLUSIVE 3 0 2");
-        assert_eq!(first(2, &[asking(), options()]), "INCONCLUSIVE 4 0 2");
-        assert_eq!(first(2, &[asking(), (tape::COMMAND, vec![])]), "FAIL 3 0 2");
-        assert_eq!(first(1, &[asking()]), "FAIL 1 0 0");
-        let silence = || (tape::SILENCE, vec![]);
-        assert_eq!(first(2, &[asking(), options(), silence()]), "INCONCLUSIVE 5 0 2");
-        assert_eq!(first(2, &[asking(), options(), silence(), silence()]), "FAIL 5 0 2");
-        let refused = || (tape::ANSWER, h("6985"));
-        let end = || (tape::DECISION, h("030200000000000000"));
-        assert_eq!(first(2, &[asking(), options(), refused(), end()]), "PASS 6 0 2");
-        assert_eq!(first(2, &[asking(), options(), refused(), end(), end()]), "FAIL 6 0 2");
-    }
-}
+mod tests;

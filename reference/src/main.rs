@@ -18,12 +18,14 @@ mod random;
 mod recover;
 mod reopening;
 mod reset;
+mod samples;
 mod t0;
 mod t1;
 mod t1_lines;
 mod tape;
 mod terminal;
 mod vectors;
+mod verify;
 
 use commands::Outcome;
 use std::path::Path;
@@ -32,6 +34,7 @@ use std::process::ExitCode;
 const USAGE: &str = "usage:
   reference judge [FILE ..]
   reference play [--tape FILE] [--session N]
+  reference sample NAME
   reference objects
   reference write
   reference fill [counted]
@@ -89,6 +92,7 @@ fn run(mut arguments: Vec<String>) -> Outcome {
             let session = session.as_deref().map_or(Ok(0), number)?;
             commands::play(tape.as_deref(), session)
         }
+        ("sample", [name]) => samples::print(name),
         ("objects", []) => commands::read_objects(),
         ("write", []) => commands::write_objects(),
         ("fill", []) => commands::fill_lists(false),

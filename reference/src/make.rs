@@ -14,9 +14,12 @@ mod nodes;
 mod plan;
 mod remains;
 mod resets;
+mod results;
+mod rules;
 mod scenarios;
 mod start;
 mod tweaks;
+mod verified;
 
 pub use blocks::make_blocks;
 pub use books::make_books;
@@ -122,7 +125,7 @@ mod tests {
         for index in 0..600 {
             let mut r = Random::nth(3, index);
             let items = play(&by_chance(&mut r).plan, &mut r);
-            assert!(items.len() <= 1011);
+            assert!(items.len() <= 1012);
             // Of the long ones some beginnings will do.
             let step = 1 + items.len() / 100;
             for count in (0..items.len()).step_by(step).chain([items.len()]) {
@@ -133,12 +136,17 @@ mod tests {
         }
     }
 
+    /// 02, R-7 adds an entry.
     #[test]
-    fn the_longest_session_has_1011_entries() {
+    fn the_longest_session_has_1012_entries() {
         let all = systematic();
-        let longest = all.iter().filter(|s| s.label == "500 records, whole");
-        for scenario in longest {
-            assert_eq!(play(&scenario.plan, &mut Random::nth(1, 1)).len(), 1011);
+        for (last, entries) in [("unverified", 1011), ("verified", 1012)] {
+            let label = format!("500 records, {last}, whole");
+            let longest: Vec<&Scenario> = all.iter().filter(|s| s.label == label).collect();
+            assert!(!longest.is_empty());
+            for scenario in longest {
+                assert_eq!(play(&scenario.plan, &mut Random::nth(1, 1)).len(), entries);
+            }
         }
     }
 

@@ -124,7 +124,8 @@ mod tests {
         for at in 0..8 {
             assert!(is_listed(at, 0xEE), "{at}");
         }
-        assert!(is_listed(8, 6) && !is_listed(8, 7) && !is_listed(8, 0));
+        assert!((1..=7).all(|kind| is_listed(8, kind)));
+        assert!(!is_listed(8, 0) && !is_listed(8, 8) && !is_listed(8, 255));
         assert!(!is_listed(9, 1));
         assert!(!is_listed(10, 2) && is_listed(10, 1));
         assert!(!is_listed(12, 1) && !is_listed(507, 1));

@@ -17,6 +17,8 @@ pub const ANSWER: u8 = 3;
 pub const SILENCE: u8 = 4;
 pub const HOST: u8 = 5;
 pub const DECISION: u8 = 6;
+/// 02, R-7: what came of each rule of the verification list.
+pub const RESULTS: u8 = 7;
 
 /// One entry, its payload lying in the tape.
 #[derive(Clone, Copy, Debug, PartialEq, Eq)]
@@ -91,7 +93,7 @@ impl Writer {
     /// Adds one entry and gives its block, or refuses with 7 or 8. Any
     /// payload of a good size will do.
     pub fn add(&mut self, entry: Entry) -> Result<[u8; BLOCK], u8> {
-        if !(START..=DECISION).contains(&entry.kind) || entry.payload.len() > LONGEST_PAYLOAD {
+        if !(START..=RESULTS).contains(&entry.kind) || entry.payload.len() > LONGEST_PAYLOAD {
             return Err(BAD_ENTRY);
         }
         let used = self.bytes.len() / BLOCK;
@@ -151,7 +153,7 @@ pub fn check_holds(block: &[u8]) -> bool {
 /// The entry of a block by itself, or the lowest code from 6 to 9 that applies.
 pub fn read_shape(block: &[u8]) -> Result<Entry<'_>, u8> {
     let kind = block[8];
-    if !(START..=DECISION).contains(&kind) {
+    if !(START..=RESULTS).contains(&kind) {
         return Err(6);
     }
     if block[9] != 0 {
@@ -209,7 +211,8 @@ mod tests {
         assert_eq!(damaged(0, 1), one(4));
         assert_eq!(damaged(4, 9), one(5));
         assert_eq!(damaged(8, 0), one(6));
-        assert_eq!(damaged(8, 7), one(6));
+        assert_eq!(damaged(8, 7), None);
+        assert_eq!(damaged(8, 8), one(6));
         assert_eq!(damaged(9, 1), one(7));
         assert_eq!(damaged(10, 2), one(8));
         assert_eq!(damaged(12, 1), one(9));
@@ -234,10 +237,10 @@ mod tests {
         let entry = |kind| Entry { kind, payload: &[] };
         let mut small = Writer::new(0, 1023);
         assert_eq!(small.add(entry(0)), Err(7));
-        assert_eq!(small.add(entry(7)), Err(7));
+        assert_eq!(small.add(entry(8)), Err(7));
         assert_eq!(small.add(Entry { kind: 3, payload: &[0; 497] }), Err(7));
-        assert!(small.add(entry(1)).is_ok());
-        assert_eq!(small.add(entry(1)), Err(8));
+        assert!(small.add(entry(7)).is_ok());
+        assert_eq!(small.add(entry(7)), Err(8));
         assert_eq!(small.add(entry(0)), Err(7));
         let mut large = Writer::new(0, 1 << 20);
         let added = (0..1100).filter(|_| large.add(entry(2)).is_ok()).count();

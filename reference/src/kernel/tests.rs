@@ -1,3 +1,5 @@
+mod verification;
+
 use super::*;
 use crate::hex;
 use crate::terminal::tests::sample;
@@ -22,6 +24,7 @@ fn step(session: &mut Session, event: &str) -> Reply {
     let event = match word {
         "ANSWER" => Event::Answer(&bytes),
         "HOST" => Event::Host(&bytes),
+        "RESULTS" => Event::Results(&bytes),
         _ => Event::Silence,
     };
     session.step(261, event)
@@ -31,6 +34,7 @@ fn show(reply: Reply) -> String {
     match reply {
         Reply::Command(bytes) => hex::text(&bytes),
         Reply::HostDue => "HOST".into(),
+        Reply::ResultsDue(count) => format!("RESULTS {count}"),
         Reply::Decision(bytes) => format!("DECISION {}", hex::text(&bytes)),
         Reply::Closed => "CLOSED".into(),
         Reply::Refused(number) => format!("REFUSED {number}"),

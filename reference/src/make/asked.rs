@@ -5,8 +5,9 @@ use super::card::{wish, Card, LIST_TAGS};
 use super::endings::{ending, Ending};
 use super::plan::Item;
 use super::tweaks::{tweak, Tweak};
+use super::verified::{unverified, verified};
 use crate::random::Random;
-use crate::tape::{DECISION, SILENCE};
+use crate::tape::{RESULTS, SILENCE};
 
 /// The three lists there are in a session.
 const LISTS: [u16; 3] = [0x9F38, 0x8C, 0x8D];
@@ -98,22 +99,38 @@ pub fn asked() -> Vec<Tweak> {
     [single_tags(), many_tags()].concat()
 }
 
-/// A session with a single record in which every list has something that is
-/// filled with zeros, a different number of times in each.
+/// A single record; every list has something that is filled with zeros, a
+/// different number of times in each.
+fn count_all(card: &mut Card, r: &mut Random) {
+    card.relocate(vec![[8, 1, 1, 0]], r);
+    for (which, times) in [(0x9F38, 1), (0x8C, 2), (0x8D, 4)] {
+        let unknown = [wish(0x9F06, 3), wish(0xBF0C, 0), wish(0x9F42, 1), wish(0x8E, 1)];
+        let mut list = unknown.into_iter().cycle().take(times).collect::<Vec<_>>().concat();
+        list.extend(wish(0x95, r.below(6)));
+        set_list(card, which, list, r);
+    }
+}
+
+/// A session with such lists and no verification.
 pub fn counted() -> Tweak {
-    tweak(0, "all lists counted", |_, card, r| {
-        card.relocate(vec![[8, 1, 1, 0]], r);
-        for (which, times) in [(0x9F38, 1), (0x8C, 2), (0x8D, 4)] {
-            let unknown = [wish(0x9F06, 3), wish(0xBF0C, 0), wish(0x9F1B, 1)];
-            let mut list = unknown.into_iter().cycle().take(times).collect::<Vec<_>>().concat();
-            list.extend(wish(0x95, r.below(6)));
-            set_list(card, which, list, r);
-        }
+    tweak(0, "all lists counted", |start, card, r| {
+        (unverified().apply)(start, card, r);
+        count_all(card, r);
     })
 }
 
-/// Entries of a session with one record, HOST among them.
-pub const ENTRIES: usize = 13;
+/// The same with verification (02, R-7), and with 9F33, which is known.
+pub fn counted_verified() -> Tweak {
+    tweak(0, "all lists counted, verified", |start, card, r| {
+        (verified().apply)(start, card, r);
+        count_all(card, r);
+        let list = [wish(0x9F33, 3), wish(0x9F42, 2), wish(0x8E, 0)].concat();
+        set_list(card, 0x8C, list, r);
+    })
+}
+
+/// Entries of a session with one record, HOST and RESULTS among them.
+pub const ENTRIES: usize = 14;
 
 fn at_entry(
     at: usize,
@@ -138,8 +155,8 @@ fn at(at: usize) -> Vec<Ending> {
             }
         }),
         at_entry(at, "is of another kind", move |items, r| {
-            let shift = r.below(5) as u8;
-            items[at].kind = (items[at].kind + shift) % DECISION + 1;
+            let shift = r.below(6) as u8;
+            items[at].kind = (items[at].kind + shift) % RESULTS + 1;
         }),
         at_entry(at, "is a silence", move |items, r| {
             items[at] = Item::new(SILENCE, []);
@@ -167,9 +184,11 @@ mod tests {
     use crate::make::tape_of;
 
     /// Whether the tag is known when the list is filled, in a session with all
-    /// objects: 01's enumeration, gone through by hand.
-    fn is_known(tag: u16, which: u16) -> bool {
+    /// objects: 01's enumeration, gone through by hand, and 9F33 where START
+    /// has it (02, R-7).
+    fn is_known(tag: u16, which: u16, former: bool) -> bool {
         match tag {
+            0x9F33 => !former,
             0x9F02 | 0x9F03 | 0x9F1A | 0x5F2A | 0x9A | 0x9C | 0x9F37 | 0x9F09 => true,
             0x95 | 0x9B => true,
             0x8A => which == 0x8D,
@@ -178,9 +197,11 @@ mod tests {
         }
     }
 
-    /// The fourth number of a session that was set up last by `change`.
-    fn sum(index: u64, change: Tweak) -> usize {
-        let all_there = tweak(0, "", |start, card, r| {
+    /// The fourth number of a session that was set up last by `change`, with
+    /// a START of the former size or not.
+    fn sum(index: u64, former: bool, change: Tweak) -> usize {
+        let all_there = tweak(0, "", move |start, card, r| {
+            start.capabilities = (!former).then_some([1, 2, 3]);
             card.relocate(vec![[8, 1, 2, 0]], r);
             card.list = None;
             card.set(0x8C, vec![], r);
@@ -202,12 +223,16 @@ mod tests {
     fn every_tag_in_every_list() {
         for which in LISTS {
             for (index, (tag, natural)) in LIST_TAGS.into_iter().enumerate() {
+                let index = index as u64;
                 for (length, times) in [(natural, 1), (0, 1), (natural + 1, 2)] {
                     let named = tweak(0, "", move |_, card, r| {
                         set_list(card, which, wish(tag, length).repeat(times), r);
                     });
-                    let expected = if is_known(tag, which) { 0 } else { times };
-                    assert_eq!(sum(index as u64, named), expected, "{which:X} {tag:X}");
+                    for former in [false, true] {
+                        let expected = if is_known(tag, which, former) { 0 } else { times };
+                        let got = sum(index, former, named.clone());
+                        assert_eq!(got, expected, "{which:X} {tag:X} {former}");
+                    }
                 }
             }
         }
@@ -216,20 +241,26 @@ mod tests {
     #[test]
     fn the_largest_sums() {
         let many = |tag| tweak(0, "", move |_, card, r| very_many(card, tag, r));
-        assert_eq!(sum(1, many(0x70)), 3 * VERY_MANY);
-        assert_eq!(sum(1, many(0x8A)), 2 * VERY_MANY);
-        assert_eq!(sum(1, many(0x82)), VERY_MANY);
-        assert_eq!(sum(1, many(0x9C)), 0);
-        assert_eq!(sum(1, counted()), 7);
+        assert_eq!(sum(1, false, many(0x70)), 3 * VERY_MANY);
+        assert_eq!(sum(1, false, many(0x8A)), 2 * VERY_MANY);
+        assert_eq!(sum(1, false, many(0x82)), VERY_MANY);
+        assert_eq!(sum(1, false, many(0x9C)), 0);
+        assert_eq!(sum(1, false, counted()), 7);
+        assert_eq!(sum(1, true, counted()), 7);
+        assert_eq!(sum(1, true, counted_verified()), 7);
     }
 
     #[test]
     fn every_entry_of_a_counted_session() {
-        let plan = Plan { tweaks: vec![counted()], ..long_plan(1) };
-        let items = play(&plan, &mut Random::nth(4, 1));
-        assert_eq!(items.len(), ENTRIES);
-        let sums = (0..=ENTRIES).map(|n| judge(&tape_of(&items[..n], 1)).unsupplied);
-        let sums: Vec<usize> = sums.collect();
-        assert_eq!(sums, [0, 0, 0, 1, 1, 1, 1, 3, 3, 3, 7, 7, 7, 7]);
+        let sums = |change: Tweak| -> Vec<usize> {
+            let plan = Plan { tweaks: vec![change], ..long_plan(1) };
+            let items = play(&plan, &mut Random::nth(4, 1));
+            (0..=items.len()).map(|n| judge(&tape_of(&items[..n], 1)).unsupplied).collect()
+        };
+        assert_eq!(sums(counted()), [0, 0, 0, 1, 1, 1, 1, 3, 3, 3, 7, 7, 7, 7]);
+        // RESULTS stand between the last record and the first request.
+        let verified = sums(counted_verified());
+        assert_eq!(verified, [0, 0, 0, 1, 1, 1, 1, 1, 3, 3, 3, 7, 7, 7, 7]);
+        assert_eq!(verified.len(), ENTRIES + 1);
     }
 }

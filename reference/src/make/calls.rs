@@ -2,9 +2,10 @@
 //! order.
 
 use super::plan::{Place, Players};
+use super::rules::{any_results, bad_results};
 use super::scenarios::by_chance;
 use super::start::{Start, NO_DAYS};
-use crate::calls::{session_line, Call, Made, ANSWER, HOST, SILENCE, START};
+use crate::calls::{session_line, Call, Made, ANSWER, HOST, RESULTS, SILENCE, START};
 use crate::kernel::{Reply, Session};
 use crate::random::Random;
 
@@ -17,13 +18,16 @@ fn small_room(r: &mut Random) -> usize {
     *r.pick(&[0, 1, 5, 100, 258, 259, 260, 260])
 }
 
-/// A START that is good, or just about not.
+/// A START that is good, or just about not. That of the former size is not
+/// good here (02, R-7).
 fn any_start(r: &mut Random) -> Vec<u8> {
     let mut bytes = Start::any(r).bytes();
-    match r.below(10) {
+    match r.below(13) {
         0 => bytes.clear(),
-        1 => bytes.truncate(73),
+        1 => bytes.truncate(*r.pick(&[73, 75, 76])),
         2 => bytes.push(0),
+        8 => bytes.truncate(74),
+        9 => bytes.resize(*r.pick(&[76, 77, 78]), 0),
         3 => bytes[0] = 3,
         4 => bytes[31] = *r.pick(&[0, 100]),
         5 => bytes[18] = 0x13,
@@ -59,16 +63,35 @@ fn any_host(r: &mut Random) -> Vec<u8> {
     r.pick(&hosts).to_vec()
 }
 
-/// Any call at all.
-fn any_call(r: &mut Random) -> Call {
-    let (event, payload) = match r.below(4) {
+/// Results for as many rules as are due, mostly not good, or for any number.
+fn results_near(due: Option<usize>, r: &mut Random) -> Vec<u8> {
+    let count = due.unwrap_or(*r.pick(&[0, 1, 2, 3, 12]));
+    match r.below(5) {
+        0 => any_results(count, r),
+        1 => {
+            let size = *r.pick(&[121, 496, 497, 600]);
+            any_results(size, r)
+        }
+        _ => bad_results(count, r),
+    }
+}
+
+/// Any call at all, where so many results are due, if any.
+fn any_call(due: Option<usize>, r: &mut Random) -> Call {
+    let results_due = due.is_some() && r.chance(40);
+    let (event, payload) = match if results_due { 4 } else { r.below(5) } {
         0 => (START, any_start(r)),
         1 => (ANSWER, any_answer(r)),
         2 => (SILENCE, Vec::new()),
-        _ => (HOST, any_host(r)),
+        3 => (HOST, any_host(r)),
+        _ => (RESULTS, results_near(due, r)),
     };
     let room = if r.chance(15) { small_room(r) } else { room(r) };
     Call { event, payload, room }
+}
+
+fn is_refused(reply: &Reply) -> bool {
+    matches!(reply, Reply::Refused(_))
 }
 
 /// The calls of one session with their replies.
@@ -87,9 +110,13 @@ impl Log {
 
     /// Some calls that are turned away; those that would not be are not made.
     fn disturb(&mut self, r: &mut Random) {
+        let due = match self.calls.iter().rfind(|made| !is_refused(&made.reply)) {
+            Some(Made { reply: Reply::ResultsDue(count), .. }) => Some(*count),
+            _ => None,
+        };
         for _ in 0..*r.pick(&[0, 1, 2, 4, 6]) {
-            let call = any_call(r);
-            if matches!(call.make(&mut self.session.clone()), Reply::Refused(_)) {
+            let call = any_call(due, r);
+            if is_refused(&call.make(&mut self.session.clone())) {
                 self.make(call);
             }
         }
@@ -99,6 +126,7 @@ impl Log {
 /// A planned session, disturbed before every call and after the end.
 fn disturbed(r: &mut Random) -> Vec<Made> {
     let mut plan = by_chance(r).plan;
+    plan.called = true;
     // Most sessions should get further than their first answers.
     if r.chance(60) {
         plan.faults.retain(|(place, _)| *place == Place::SecondCryptogram);
@@ -116,6 +144,7 @@ fn disturbed(r: &mut Random) -> Vec<Made> {
             Reply::Command(_) if r.chance(3) => (SILENCE, Vec::new()),
             Reply::Command(command) => (ANSWER, players.answer(&command, r)),
             Reply::HostDue => (HOST, players.host(r)),
+            Reply::ResultsDue(count) => (RESULTS, players.results(count, r)),
             _ => return log.calls,
         };
         reply = log.make(Call { event, payload, room: room(r) });
@@ -126,7 +155,7 @@ fn disturbed(r: &mut Random) -> Vec<Made> {
 fn in_any_order(r: &mut Random) -> Vec<Made> {
     let mut log = Log { session: Session::default(), calls: Vec::new() };
     for _ in 0..r.between(1, 12) {
-        log.make(any_call(r));
+        log.make(any_call(None, r));
     }
     log.calls
 }
@@ -146,8 +175,8 @@ mod tests {
 
     #[test]
     fn every_refusal_and_reply_occurs() {
-        let mut refusals = [0; 7];
-        let mut others = [0; 4];
+        let mut refusals = [0; 13];
+        let mut others = [0; 5];
         for index in 0..400 {
             for made in disturbed(&mut Random::nth(5, index)) {
                 match made.reply {
@@ -156,10 +185,12 @@ mod tests {
                     Reply::HostDue => others[1] += 1,
                     Reply::Decision(_) => others[2] += 1,
                     Reply::Closed => others[3] += 1,
+                    Reply::ResultsDue(_) => others[4] += 1,
                 }
             }
         }
-        assert!(refusals[1..].iter().all(|&n| n > 10), "{refusals:?}");
+        assert!(refusals[1..=6].iter().all(|&n| n > 10), "{refusals:?}");
+        assert!(refusals[12] > 50, "{refusals:?}");
         assert!(others.iter().all(|&n| n > 10), "{others:?}");
     }
 }

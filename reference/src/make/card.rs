@@ -1,6 +1,7 @@
 //! A card for made sessions: what it holds and how it answers.
 
 use super::nodes::{Answer, Node};
+use super::rules::{any_currency, RuleList};
 use super::start::{any_date, shifted, Start};
 use crate::random::Random;
 use std::collections::BTreeMap;
@@ -43,7 +44,7 @@ pub struct Card {
 }
 
 /// TVR bits that a session can reach.
-const REACH: [u8; 5] = [0x80, 0xE0, 0x00, 0x90, 0x00];
+const REACH: [u8; 5] = [0x80, 0xE0, 0xFC, 0x90, 0x00];
 
 /// A code without any bit that could match.
 fn quiet(r: &mut Random) -> [u8; 5] {
@@ -63,7 +64,10 @@ fn free(r: &mut Random) -> [u8; 5] {
         0 => [0; 5],
         1 => [r.byte(), r.byte(), r.byte(), r.byte(), r.byte()],
         _ => {
-            let at = *r.pick(&[(0, 0x80), (1, 0x80), (1, 0x40), (1, 0x20), (3, 0x80), (3, 0x10)]);
+            let at = match r.below(2) {
+                0 => (2, 0x80 >> r.below(6)),
+                _ => *r.pick(&[(0, 0x80), (1, 0x80), (1, 0x40), (1, 0x20), (3, 0x80), (3, 0x10)]),
+            };
             let mut code = [0; 5];
             code[at.0] = at.1;
             code
@@ -103,7 +107,7 @@ fn set_codes(steer: Steer, start: &mut Start, card: &mut Card, r: &mut Random) {
 }
 
 /// Tags for object lists, with the length their value has.
-pub const LIST_TAGS: [(u16, usize); 30] = [
+pub const LIST_TAGS: [(u16, usize); 33] = [
     (0x9F02, 6),
     (0x9F03, 6),
     (0x9F1A, 2),
@@ -134,6 +138,9 @@ pub const LIST_TAGS: [(u16, usize); 30] = [
     (0x9F00, 2),
     (0xBF0C, 5),
     (0x9F38, 3),
+    (0x9F33, 3),
+    (0x8E, 10),
+    (0x9F42, 2),
 ];
 
 /// One entry of a list in bytes.
@@ -215,7 +222,7 @@ impl Card {
         let mut card = Card {
             name_rest: r.bytes(rest),
             list: r.chance(60).then(|| any_list(None, r)),
-            aip: [*r.pick(&[0x08, 0x08, 0x00, 0xFF, 0xF7, 0x5C]), r.byte()],
+            aip: [*r.pick(&[0x08, 0x18, 0x18, 0x10, 0x00, 0xFF, 0xF7, 0xE7, 0x5C]), r.byte()],
             locator: any_locator(r),
             objects: BTreeMap::new(),
             short: [r.chance(50), r.chance(50), r.chance(50)],
@@ -232,6 +239,12 @@ impl Card {
         if r.chance(60) {
             let version = if r.chance(50) { start.version } else { [r.byte() & 1, r.byte() & 3] };
             card.put(0x9F08, version.to_vec(), r);
+        }
+        if r.chance(75) {
+            card.put(0x8E, RuleList::any(start.amount, r).bytes(), r);
+        }
+        if r.chance(75) {
+            card.put(0x9F42, any_currency(start, r), r);
         }
         set_codes(steer, start, &mut card, r);
         card
@@ -339,7 +352,7 @@ fn any_issuer_data(r: &mut Random) -> Option<Vec<u8>> {
 pub fn meaningless(depth: usize, r: &mut Random) -> Node {
     const LEAVES: [u16; 8] = [0x5F20, 0x9F1F, 0x57, 0xC1, 0x9F00, 0x1F00, 0xDF7F, 0x01];
     const TREES: [u16; 6] = [0x73, 0xBF0C, 0xE1, 0x61, 0x3F00, 0x20];
-    const NAMED: [u16; 8] = [0x5A, 0x84, 0x9F38, 0x82, 0x94, 0x8C, 0x9F27, 0x5F24];
+    const NAMED: [u16; 10] = [0x5A, 0x84, 0x9F38, 0x82, 0x94, 0x8C, 0x9F27, 0x5F24, 0x8E, 0x9F42];
     if depth > 0 && r.chance(40) {
         let inner = (0..r.below(3)).map(|_| meaningless(depth - 1, r)).collect();
         return Node::Tree(*r.pick(&TREES), inner);

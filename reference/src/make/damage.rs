@@ -63,7 +63,7 @@ pub fn break_block(code: usize, block: &mut [u8], r: &mut Random) {
     match code {
         4 => block[r.below(4)] ^= 1 << r.below(8),
         5 => block[4 + r.below(4)] ^= 1 << r.below(8),
-        6 => block[8] = *r.pick(&[0, 7, 8, 128, 255]),
+        6 => block[8] = *r.pick(&[0, 8, 9, 128, 255]),
         7 => block[9] = *r.pick(&[1, 1, 2, 128, 255]),
         8 => set_length(block, *r.pick(&[497, 498, 512, 0x8000, 0xFFFF])),
         _ => behind_payload(block, r),

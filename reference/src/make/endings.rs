@@ -2,9 +2,10 @@
 
 use super::long::filled_up;
 use super::plan::Item;
+use super::results::results;
 use super::start::{any_date, NO_DAYS};
 use crate::random::Random;
-use crate::tape::{ANSWER, COMMAND, DECISION, HOST, MOST_BLOCKS, SILENCE, START};
+use crate::tape::{ANSWER, COMMAND, DECISION, HOST, MOST_BLOCKS, RESULTS, SILENCE, START};
 use std::rc::Rc;
 
 type Change = dyn Fn(&mut Vec<Item>, &mut Random);
@@ -21,14 +22,14 @@ pub fn ending(label: &str, apply: impl Fn(&mut Vec<Item>, &mut Random) + 'static
 }
 
 /// The index of any entry of a kind, if there is one.
-fn any_of(items: &[Item], kind: u8, r: &mut Random) -> Option<usize> {
+pub fn any_of(items: &[Item], kind: u8, r: &mut Random) -> Option<usize> {
     let all: Vec<usize> = (0..items.len()).filter(|&i| items[i].kind == kind).collect();
     (!all.is_empty()).then(|| *r.pick(&all))
 }
 
 /// Changes the payload of any entry of a kind. A DECISION or START that an
 /// earlier ending has brought to another size is left alone.
-fn on_payload(
+pub fn on_payload(
     kind: u8,
     label: &str,
     change: impl Fn(&mut Vec<u8>, &mut Random) + 'static,
@@ -37,7 +38,7 @@ fn on_payload(
         if let Some(at) = any_of(items, kind, r) {
             let payload = &mut items[at].payload;
             let usual = match kind {
-                START => payload.len() == 74,
+                START => [74, 77].contains(&payload.len()),
                 DECISION => payload.len() == 9,
                 _ => true,
             };
@@ -61,8 +62,8 @@ fn any_item(items: &[Item], r: &mut Random) -> Item {
     if !items.is_empty() && r.chance(50) {
         return r.pick(items).clone();
     }
-    let size = *r.pick(&[0, 0, 1, 3, 9, 74, 496]);
-    Item::new(r.between(1, 6) as u8, r.bytes(size))
+    let size = *r.pick(&[0, 0, 1, 3, 9, 74, 77, 496]);
+    Item::new(r.between(1, usize::from(RESULTS)) as u8, r.bytes(size))
 }
 
 fn cuts() -> Vec<Ending> {
@@ -156,7 +157,7 @@ fn additions() -> Vec<Ending> {
         }),
         ending("an entry of another kind", |items, r| {
             let at = r.below(items.len());
-            items[at].kind = items[at].kind % 6 + 1;
+            items[at].kind = items[at].kind % RESULTS + 1;
         }),
     ]
 }
@@ -197,12 +198,13 @@ fn payloads() -> Vec<Ending> {
         }),
         on_payload(DECISION, "DECISION with another TVR bit", |p, r| flip(&mut p[2..7], r)),
         on_payload(DECISION, "DECISION with TVR cleared", |p, _| p[2..7].fill(0)),
+        on_payload(DECISION, "DECISION with TSI b7 other", |p, _| p[7] ^= 0x40),
         on_payload(DECISION, "DECISION with TSI b6 other", |p, _| p[7] ^= 0x20),
         on_payload(DECISION, "DECISION with TSI b4 other", |p, _| p[7] ^= 0x08),
         on_payload(DECISION, "DECISION with 'data missing'", |p, _| p[2] |= 0x20),
         on_payload(DECISION, "DECISION approved", |p, _| p[..2].copy_from_slice(&[1, 0])),
         on_payload(DECISION, "DECISION declined", |p, _| p[..2].copy_from_slice(&[2, 0])),
-        on_payload(DECISION, "DECISION of another reason", |p, r| p[1] = r.below(12) as u8),
+        on_payload(DECISION, "DECISION of another reason", |p, r| p[1] = r.below(13) as u8),
     ];
     for at in 0..9 {
         all.push(on_payload(DECISION, &format!("DECISION byte {at} other"), move |p, r| {
@@ -252,8 +254,6 @@ fn starts() -> Vec<Ending> {
         on_payload(START, "START on any date", |p, r| p[17..20].copy_from_slice(&any_date(r))),
         on_payload(START, "START late in a month", |p, r| p[19] = *r.pick(&[0x29, 0x30, 0x31])),
         on_payload(START, "START empty", |p, _| p.clear()),
-        on_payload(START, "START of 73 bytes", |p, _| p.truncate(73)),
-        on_payload(START, "START of 75 bytes", |p, _| p.push(0)),
         on_payload(START, "START with target above maximum", |p, _| {
             p[32] = 50;
             p[39] = 49;
@@ -273,19 +273,25 @@ fn starts() -> Vec<Ending> {
         on_payload(START, "START with another bit", |p, r| flip(p, r)),
         on_payload(START, "START of another type", |p, r| p[0] = r.below(3) as u8),
     ]);
+    all.extend([72, 73, 74, 75, 76, 77, 78, 80, 151].map(|size| {
+        on_payload(START, &format!("START of {size} bytes"), move |p, _| p.resize(size, 0))
+    }));
     all
 }
 
-/// A cut or a silence half of the time, else any ending.
+/// A cut, a silence or something about RESULTS most of the time, else any
+/// ending.
 pub fn any_ending(r: &mut Random) -> Ending {
-    let table = match r.below(4) {
+    let table = match r.below(5) {
         0 => cuts(),
         1 => silences(),
+        2 => results(),
         _ => endings(),
     };
     r.pick(&table).clone()
 }
 
 pub fn endings() -> Vec<Ending> {
-    [cuts(), silences(), additions(), strangers(), payloads(), starts(), filled_up()].concat()
+    let former = [cuts(), silences(), additions(), strangers(), payloads(), starts()].concat();
+    [former, filled_up(), results()].concat()
 }

@@ -3,9 +3,10 @@
 use super::card::{Card, Steer, STEERS};
 use super::faults::Fault;
 use super::nodes::Answer;
+use super::rules::{any_capabilities, any_results};
 use super::start::Start;
 use super::tweaks::Tweak;
-use crate::kernel::{Event, Reply, Session, LONGEST_COMMAND};
+use crate::kernel::{Event, Reply, Session};
 use crate::random::Random;
 use crate::tape;
 
@@ -43,10 +44,14 @@ pub struct Plan {
     pub first: Option<u8>,
     pub second: Option<u8>,
     pub host: Option<Vec<u8>>,
+    /// The result of every rule of the verification list (02, R-7).
+    pub results: Option<u8>,
     pub tweaks: Vec<Tweak>,
     pub faults: Vec<(Place, Fault)>,
     /// No meaningless objects, zeros or long length forms by chance.
     pub tidy: bool,
+    /// For calls, which take no START of the former size.
+    pub called: bool,
 }
 
 /// Terminal, card and issuer at play.
@@ -71,6 +76,9 @@ impl Players {
         card.noisy &= !plan.tidy;
         for tweak in &plan.tweaks {
             (tweak.apply)(&mut start, &mut card, r);
+        }
+        if plan.called && start.capabilities.is_none() {
+            start.capabilities = Some(any_capabilities(r));
         }
         let any_record = r.below(card.record_count());
         let plan = plan.clone();
@@ -138,6 +146,13 @@ impl Players {
             _ => vec![2, r.byte(), r.byte()],
         })
     }
+
+    pub fn results(&self, count: usize, r: &mut Random) -> Vec<u8> {
+        match self.plan.results {
+            Some(result) => vec![result; count],
+            None => any_results(count, r),
+        }
+    }
 }
 
 /// Plays the session to its end.
@@ -145,19 +160,24 @@ pub fn play(plan: &Plan, r: &mut Random) -> Vec<Item> {
     let mut players = Players::new(plan, r);
     let mut session = Session::default();
     let mut items = vec![Item::new(tape::START, players.start.bytes())];
-    let mut reply = session.step(LONGEST_COMMAND, Event::Start(&items[0].payload));
+    let mut reply = session.retell(Event::Start(&items[0].payload));
     loop {
         match reply {
             Reply::Command(command) => {
                 let answer = players.answer(&command, r);
-                reply = session.step(LONGEST_COMMAND, Event::Answer(&answer));
+                reply = session.retell(Event::Answer(&answer));
                 items.push(Item::new(tape::COMMAND, command));
                 items.push(Item::new(tape::ANSWER, answer));
             }
             Reply::HostDue => {
                 let host = players.host(r);
-                reply = session.step(LONGEST_COMMAND, Event::Host(&host));
+                reply = session.retell(Event::Host(&host));
                 items.push(Item::new(tape::HOST, host));
+            }
+            Reply::ResultsDue(count) => {
+                let results = players.results(count, r);
+                reply = session.retell(Event::Results(&results));
+                items.push(Item::new(tape::RESULTS, results));
             }
             Reply::Decision(decision) => {
                 items.push(Item::new(tape::DECISION, decision));

@@ -1,6 +1,6 @@
 //! What is made: a table that goes through everything once, and free mixes.
 
-use super::asked::{asked, at_every_entry, counted};
+use super::asked::{asked, at_every_entry, counted, counted_verified};
 use super::card::Steer;
 use super::damage::{damages, Damage};
 use super::endings::{any_ending, endings, Ending};
@@ -8,6 +8,7 @@ use super::faults::{anywhere, cryptogram, options, record, select, Fault};
 use super::long::{long_damages, long_locators};
 use super::plan::{Place, Plan};
 use super::tweaks::{bad_records, edges_of_money, good_edges, list_edges, Tweak};
+use super::verified::{good_lists, shapes, unverified, verification_scenarios, verified};
 use crate::random::Random;
 
 /// One kind of tape.
@@ -148,10 +149,13 @@ fn longest() -> Vec<Scenario> {
             .take(4)
             .chain(endings().into_iter().filter(|e| e.label == "an entry too many"))
         {
-            let mut plan = long_plan(1);
-            plan.tweaks.push(tweak.clone());
-            let label = format!("{}, {}", tweak.label, ending.label);
-            all.push(Scenario { label, plan, endings: vec![ending], ..Scenario::default() });
+            for last in [unverified(), verified()] {
+                let mut plan = long_plan(1);
+                let label = format!("{}, {}, {}", tweak.label, last.label, ending.label);
+                plan.tweaks.extend([tweak.clone(), last]);
+                let endings = vec![ending.clone()];
+                all.push(Scenario { label, plan, endings, ..Scenario::default() });
+            }
         }
     }
     all
@@ -199,13 +203,17 @@ fn ended() -> Vec<Scenario> {
 }
 
 /// Sessions in which every list has entries that are filled with zeros, cut
-/// and broken at every entry (02, R-6). Type 0 has no HOST.
+/// and broken at every entry (02, R-6). Type 0 has no HOST; with verification
+/// there is an entry more (02, R-7).
 fn counted_tapes() -> Vec<Scenario> {
     let mut all = Vec::new();
     for (number, ending) in at_every_entry().into_iter().enumerate() {
-        for kind in [(number % 2) as u8 + 1, 0] {
-            let plan = Plan { tweaks: vec![counted()], ..long_plan(kind) };
-            let label = format!("type {kind}, all lists counted, {}", ending.label);
+        let online = (number % 2) as u8 + 1;
+        for (kind, change) in
+            [(online, counted()), (0, counted()), ((number % 3) as u8, counted_verified())]
+        {
+            let label = format!("type {kind}, {}, {}", change.label, ending.label);
+            let plan = Plan { tweaks: vec![change], ..long_plan(kind) };
             let endings = vec![ending.clone()];
             all.push(Scenario { label, plan, endings, ..Scenario::default() });
         }
@@ -248,6 +256,7 @@ pub fn systematic() -> Vec<Scenario> {
         damaged(),
         counted_tapes(),
         long_tapes(),
+        verification_scenarios(),
     ]
     .concat()
 }
@@ -266,12 +275,14 @@ fn any_fault(r: &mut Random) -> (Place, Fault) {
 }
 
 fn any_tweak(r: &mut Random) -> Tweak {
-    let table = match r.below(6) {
+    let table = match r.below(10) {
         0 => edges_of_money(),
         1 => good_edges(),
         2 => list_edges(),
         3 | 4 => asked(),
-        _ => bad_records(),
+        5 => bad_records(),
+        6 => shapes(),
+        _ => good_lists(),
     };
     r.pick(&table).clone()
 }

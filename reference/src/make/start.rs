@@ -1,10 +1,11 @@
 //! Terminal data for made sessions: always valid, often at an edge.
 
+use super::rules::any_capabilities;
 use crate::random::Random;
 
 pub const MOST_AMOUNT: u64 = 999_999_999_999;
 
-/// The fields of START, before they are laid out in its 74 bytes.
+/// The fields of START, before they are laid out in its bytes.
 #[derive(Clone)]
 pub struct Start {
     pub kind: u8,
@@ -25,6 +26,8 @@ pub struct Start {
     pub online: [u8; 5],
     pub default: [u8; 5],
     pub aid: Vec<u8>,
+    /// Without them START has the size that only tapes know (02, R-7).
+    pub capabilities: Option<[u8; 3]>,
 }
 
 /// `size` bytes of decimal digits, the number on the right.
@@ -118,7 +121,7 @@ impl Start {
             country: r.below(10_000) as u64,
             currency: r.below(10_000) as u64,
             date: any_day(r),
-            transaction: r.below(100) as u64,
+            transaction: if r.chance(30) { 1 } else { r.below(100) as u64 },
             number: r.next().to_be_bytes()[..4].try_into().unwrap_or_default(),
             floor,
             random: r.between(1, 99) as u8,
@@ -130,6 +133,7 @@ impl Start {
             online: [0; 5],
             default: [0; 5],
             aid: r.bytes(aid_size),
+            capabilities: r.chance(85).then(|| any_capabilities(r)),
         };
         start.aim_random(r);
         start
@@ -170,6 +174,7 @@ impl Start {
         out.push(self.aid.len() as u8);
         out.extend(&self.aid);
         out.resize(74, 0);
+        out.extend(self.capabilities.iter().flatten());
         out
     }
 }
@@ -214,8 +219,10 @@ mod tests {
     #[test]
     fn made_terminal_data_is_valid() {
         for index in 0..5000 {
-            let start = Start::any(&mut Random::nth(9, index)).bytes();
-            assert!(Terminal::read(&start).is_some(), "{index}");
+            let start = Start::any(&mut Random::nth(9, index));
+            let bytes = start.bytes();
+            assert_eq!(Terminal::read(&bytes).is_some(), start.capabilities.is_some(), "{index}");
+            assert!(Terminal::read_either(&bytes).is_some(), "{index}");
         }
     }
 
@@ -224,7 +231,7 @@ mod tests {
         let mut start = Start::any(&mut Random::nth(9, 1));
         for date in NO_DAYS {
             start.date = date;
-            assert!(Terminal::read(&start.bytes()).is_none(), "{date:?}");
+            assert!(Terminal::read_either(&start.bytes()).is_none(), "{date:?}");
         }
     }
 

@@ -286,7 +286,10 @@ pub fn list_edges() -> Vec<Tweak> {
         });
         all.push(tweak(0, &format!("{tag:X} empty"), move |_, card, r| card.set(tag, vec![], r)));
         all.push(tweak(0, &format!("{tag:X} asks for all that is known"), move |_, card, r| {
-            let list = crate::hex::bytes("9F02069F03069F1A025F2A029A039C019F37049F090295059B028A0282025A0A5F24035F25039F08029F0D059F0E059F0F05");
+            let list = crate::hex::bytes(concat!(
+                "9F02069F03069F1A025F2A029A039C019F37049F090295059B028A02",
+                "82025A0A5F24035F25039F08029F0D059F0E059F0F059F3303",
+            ));
             card.set(tag, list.unwrap_or_default(), r);
         }));
     }
