@@ -28,6 +28,7 @@ use kernel::Session;
 use libc::STDERR_FILENO;
 use line::NO_NUMBER;
 use line::session_number;
+use tape_read::TAPE;
 use tape_write::Writer;
 ghost use Prim.Native.Nat.{_≤_};
 
@@ -86,7 +87,7 @@ fn open_tape() -> i32 {
 
 fn play(file: i32, number: u32) {
     let mut line = [0u8; LONGEST];
-    let mut tape = io::large_buffer();
+    let mut tape = [0u8; TAPE];
     play_lines(file, number, &mut line, &mut tape);
 }
 
