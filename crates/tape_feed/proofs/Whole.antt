@@ -133,7 +133,8 @@ too-long (suc m) u r e on few many =
     subst (λ (f : Reader). blocksMost < f .blocks) (sym x) (goes (passed r) on refl))
 
 -- after a bad block: it stays the first
-kept-after : (m n : ℕ) (u : List ℕ) (r : Reader) → length u / blockSize ≡ m → r .torn ≡ false → r .blocks ≡ n → n + m ≤ blocksMost → (r .code ≡ 0 → ⊥)
+kept-after : (m n : ℕ) (u : List ℕ) (r : Reader) → length u / blockSize ≡ m → r .torn ≡ false → r .blocks ≡ n → n + m ≤ blocksMost
+    → (r .code ≡ 0 → ⊥)
     → Counted (readerAfter r (pieces m u)) n m u × Kept r (readerAfter r (pieces m u))
 unfolding cut readerAfter
 kept-after zero n u r e on b few bad =
@@ -159,7 +160,8 @@ session-next r p q = pick-no _ _ _ (ne-eqb (r .blocks + 1) 0 (λ e. omega arith)
 abbrev Says : Reader → List (List ℕ) → ℕ → ℕ → List ℕ → Type 0
 Says r ps n s u = readingOf (damaged (readerAfter r ps .place) (readerAfter r ps .code)) (entriesRead r ps) ≡ readFrom n s u
 
-read-after : (m n s : ℕ) (u : List ℕ) (r : Reader) → length u / blockSize ≡ m → r .torn ≡ false → r .blocks ≡ n → n + m ≤ blocksMost → r .code ≡ 0
+read-after : (m n s : ℕ) (u : List ℕ) (r : Reader) → length u / blockSize ≡ m → r .torn ≡ false → r .blocks ≡ n → n + m ≤ blocksMost
+    → r .code ≡ 0
     → sessionDue r (take blockSize u) ≡ s → Counted (readerAfter r (pieces m u)) n m u × Says r (pieces m u) n s u
 unfolding cut readerAfter entriesRead
 read-after zero n s u r e on b few clear due =

@@ -27,7 +27,8 @@ returns-3 c =
     let few : a .reader .blocks ≤ blocksMost = omega (arith, c .before .before .before .if2 .left) in
     c .unread3 .ensures
     ∙ (ap unread (c .before .ended .ensures)
-    ∙ sym (next-ended (a .reader) (a .piece .now) (c .before .before .before .before .before .if1 .left) few (c .before .before .if3 .taken)))
+    ∙ sym (next-ended (a .reader) (a .piece .now) (c .before .before .before .before .before .if1 .left) few
+    (c .before .before .if3 .taken)))
 
 returns-4 : tie.Need-returns-4
 returns-4 c =
@@ -36,7 +37,8 @@ returns-4 c =
     let whole = c .before .before .before .before .if3 .left in
     c .unread4 .ensures
     ∙ (ap unread (c .before .passed .ensures)
-    ∙ sym (next-passed (a .reader) (a .piece .now) (c .before .before .before .before .before .before .before .if1 .left) few whole (c .before .before .if4 .taken)))
+    ∙ sym (next-passed (a .reader) (a .piece .now) (c .before .before .before .before .before .before .before .if1 .left) few whole
+    (c .before .before .if4 .taken)))
 
 returns-5 : tie.Need-returns-5
 returns-5 c =
@@ -44,7 +46,8 @@ returns-5 c =
     let few : a .reader .blocks ≤ blocksMost = omega (arith, c .before .before .before .before .if2 .left) in
     let whole = c .before .before .before .if3 .left in
     ap read (c .look .ensures)
-    ∙ sym (next-looked (a .reader) (a .piece .now) (c .before .before .before .before .before .before .if1 .left) few whole (c .before .if4 .left))
+    ∙ sym (next-looked (a .reader) (a .piece .now) (c .before .before .before .before .before .before .if1 .left) few whole
+    (c .before .if4 .left))
 
 pub next-spec : {M : Type 1} → statement M
 next-spec =

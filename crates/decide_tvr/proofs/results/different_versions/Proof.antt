@@ -1,4 +1,5 @@
--- `decide_tvr::results::different_versions` meets its contract: where 9F08 is there it compares the two rows, and otherwise nothing differs.
+-- `decide_tvr::results::different_versions` meets its contract: where 9F08 is there it compares the two rows, and otherwise nothing
+-- differs.
 -- Assumes nothing.
 use mathlib.Core.Path.{_≡_, sym, ap, _∙_}
 use mathlib.Core.Bool.{not}

@@ -1,4 +1,5 @@
--- `decide_tvr::results::risks` meets its contract: without risk management no bit is set, and with it each by the test that the definition names for it.
+-- `decide_tvr::results::risks` meets its contract: without risk management no bit is set, and with it each by the test that the
+-- definition names for it.
 -- Assumes nothing.
 use mathlib.Core.Path.{sym, ap, _∙_}
 use mathlib.Core.Bool.{Bool}

@@ -1,4 +1,5 @@
--- `tape_read::read::is_zero` meets its contract. The loop's invariant: the bytes so far, joined bit by bit, are zero and so is what is left,
+-- `tape_read::read::is_zero` meets its contract. The loop's invariant: the bytes so far, joined bit by bit, are zero and so is what is
+-- left,
 -- exactly where all of it is.
 -- Assumes nothing.
 use mathlib.Core.Path.{_≡_, refl, sym, ap, _∙_}

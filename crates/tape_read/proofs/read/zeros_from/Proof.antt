@@ -1,4 +1,5 @@
--- `tape_read::read::zeros_from` meets its contract: the part of the block that is tested is the window that the contract speaks of, as far as
+-- `tape_read::read::zeros_from` meets its contract: the part of the block that is tested is the window that the contract speaks of, as
+-- far as
 -- it is there.
 -- Assumes nothing.
 use mathlib.Core.Path.{_≡_, ap, _∙_}
