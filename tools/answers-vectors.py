@@ -46,7 +46,7 @@ def start(aid):
     return (
         b"\x02" + hexed("000000007500" + "000000000000" + "0826" + "0826" + "250630" + "00" + "11223344" + "000000010000")
         + bytes([40, 10]) + hexed("000000005000") + bytes([70]) + hexed("0002") + bytes(15)
-        + bytes([len(aid)]) + aid.ljust(16, b"\x00")
+        + bytes([len(aid)]) + aid.ljust(16, b"\x00") + hexed("60E0C8")
     )
 
 
@@ -56,8 +56,8 @@ def text(data):
     return data.hex().upper() or "-"
 
 
-def select(answer, aid=AIDS[0]):
-    return f"SELECT {text(start(aid))} {text(answer)}"
+def select(answer, aid=AIDS[0], size=77):
+    return f"SELECT {text(start(aid)[:size])} {text(answer)}"
 
 
 def gpo(answer):
@@ -66,6 +66,10 @@ def gpo(answer):
 
 def records(*answers):
     return " ".join(["RECORDS", *map(text, answers)])
+
+
+def formerly(*answers):
+    return " ".join(["RECORDS74", *map(text, answers)])
 
 
 def cryptogram(answer, request="TC", turn=1):
@@ -166,6 +170,10 @@ def selects():
     members += [name + a5(pdol(hexed("9500") * n)) for n in (1, 60, 115)]
     for member in members:
         yield select(tlv(0x6F, member) + GOOD)
+    # Terminal Capabilities, where START has them
+    for value in ("9F3303", "9F3300", "9F3302", "9F3305 9F3301", "9F0206 9F3303 8E02 9F4202"):
+        for size in (77, 74):
+            yield select(tlv(0x6F, name + a5(pdol(hexed(value)))) + GOOD, size=size)
     good = {"name": AIDS[0], "a5": True, "list": hexed("9505")}
     faults = [LONG, STATUS, SECOND, TWICE, {"name": AIDS[1][1:]}, {"name": None}, {"a5": False}, {"list": b"\x95"}, {"list": hexed("95FD")}]
     yield from together(select, faults, built_select, good)
@@ -220,6 +228,7 @@ def options():
 NUMBER, EXPIRY = tlv(0x5A, hexed("123456789F")), tlv(0x5F24, hexed("271231"))
 MANDATORY = {0x5A: hexed("12345F"), 0x5F24: hexed("271231"), 0x8C: hexed("9F02069505"), 0x8D: hexed("8A02")}
 OTHERS = {0x5F25: hexed("200101"), 0x9F08: hexed("0002"), 0x9F0D: bytes(5), 0x9F0E: counting(5), 0x9F0F: b"\xFF" * 5}
+VERIFYING = {0x8E: hexed("00000000 000003E8 4103 1E00"), 0x9F42: hexed("0826")}
 
 VALUES = {
     0x5A: ["", "12", "1F", "F1", "FF", "0F", "1A", "A1", "1E", "19", "12FF", "12F3", "12FFFF", "1FF1", "1F12", "1FF2", "123F", "12FE", "9" * 20, "9" * 22,
@@ -233,6 +242,8 @@ VALUES = {
 }
 VALUES[0x5F25] = VALUES[0x5F24]
 VALUES[0x9F0E] = VALUES[0x9F0F] = VALUES[0x9F0D]
+VALUES[0x8E] = ["00" * n for n in (0, 1, 2, 6, 7, 8, 9, 10, 11, 12, 50, 51)]
+VALUES[0x9F42] = ["", "08", "0826", "082600", "FFFF", "00000826"]
 
 
 def record(*members):
@@ -249,9 +260,21 @@ def built_record(parts):
     return framed(0x70, parts, b"".join(tlv(tag, value) for tag, value in values.items() if value is not None) + twice)
 
 
+def former_records(whole):
+    """Under a START of 74 bytes: 8E and 9F42 have no name."""
+    yield formerly(all_of(whole))
+    for tag, value in VERIFYING.items():
+        one = tlv(tag, value)
+        yield formerly(all_of(MANDATORY), record(one, one), record(one))
+        yield formerly(record(tlv(tag, b"\x01")), all_of(whole))
+    yield formerly(all_of({**whole, 0x9F08: b""}))
+    yield formerly(all_of(whole), all_of(OTHERS))
+    yield formerly(all_of({tag: value for tag, value in whole.items() if tag != 0x8D}))
+
+
 def all_records():
     yield from frames(records, 0x70, NUMBER + EXPIRY)
-    whole = {**MANDATORY, **OTHERS}
+    whole = {**MANDATORY, **OTHERS, **VERIFYING}
     yield records(all_of(whole))
     yield records(all_of(MANDATORY), all_of(OTHERS))
     yield records(all_of(OTHERS), all_of(MANDATORY))
@@ -269,7 +292,10 @@ def all_records():
         yield records(record(one), record(), record(tlv(tag, b"\xFF" * 40)))
         yield records(record(tlv(0x72, one)), record(one), record(tlv(0x72, one + one)))
         yield records(record(tlv(tag, value, 1)), record(tlv(tag, value, 2)))
+    yield from former_records(whole)
     # the longest list that an answer can hold, and one over the total
+    for n in (248, 249, 250):
+        yield records(all_of(MANDATORY), record(tlv(0x8E, counting(n))))
     yield records(all_of({t: v for t, v in MANDATORY.items() if t != 0x8C}), record(tlv(0x8C, hexed("9500") * 125)))
     yield records(all_of({t: v for t, v in MANDATORY.items() if t != 0x8D}), record(tlv(0x8D, hexed("9501") * 125)))
     yield records(all_of({t: v for t, v in MANDATORY.items() if t != 0x8C}), record(tlv(0x8C, hexed("9502") * 125)))

@@ -1,16 +1,22 @@
 #!/usr/bin/env python3
-"""Lines for crates/play: writes its stdin, the stdout that it must give, and the tapes of samples/.
+"""Lines for crates/play and crates/bench_samples: writes their stdin, the stdout that they must give, and the tapes of samples/.
 
-Replies and tapes come from `reference play`, a program that was written from the scope paper and shares nothing with the proved
-code; what an ERROR line says is written here by hand. Build the reference first (cd reference && cargo build --release
---offline), then run this in the repository's root. Afterwards `play SCRIPT.tape 7 < SCRIPT.script` must give the same tape.
+Replies and tapes come from `reference play`, verdicts from `reference judge`, the scripts of SAMPLES from `reference sample`: a program
+that was written from the scope paper and shares nothing with the proved code. What an ERROR line says is written here by hand. Build the
+reference first (cd reference && cargo build --release --offline), then run this in the repository's root. Afterwards
+`play SCRIPT.tape 7 < SCRIPT.script` must give the same tape.
 """
 import glob
 import subprocess
+import zlib
 
 FOLDER = "crates/play/"
+RECORDED = "crates/bench_samples/"
 REFERENCE = "reference/target/release/reference"
 SESSION = "7"
+SAMPLES = {"offline-pin": "offline-pin", "signature": "signature", "verification-failed": "failed"}
+PLAYED = "samples/online-pin.script"
+BLOCK = 512
 
 # What is put before the line of a script with this number, and the reply by hand; None: the reference gives it.
 EXTRA = {
@@ -23,6 +29,7 @@ EXTRA = {
         ("START", None),
         ("START ", None),
         ("HOST", None),
+        ("RESULTS", None),
         ("START 0", "ERROR odd number of digits"),
         ("START 0G", "ERROR not hexadecimal"),
         ("START 00 00", "ERROR not hexadecimal"),
@@ -34,18 +41,34 @@ EXTRA = {
         ("ANSWER 6F0", "ERROR odd number of digits"),
         ("ANSWER " + "5A" * 497, None),
         ("ANSWER " + "5A" * 4096, None),
-        ("ANSWER " + "5A" * 4096 + "0", "ERROR line too long"),
+        ("ANSWER " + "5A" * 4096 + "0", "ERROR odd number of digits"),
+        ("RESULTS " + "00" * 4096, None),
+        ("RESULTS " + "00" * 4096 + "0", "ERROR line too long"),
         ("X" * 20000, "ERROR line too long"),
         ("HOST 013030", None),
     ],
+    5: [
+        ("RESULT 010000", "ERROR unknown word"),
+        ("RESULTS", None),
+        ("RESULTS 0100", None),
+        ("RESULTS 01000000", None),
+        ("RESULTS 010500", None),
+        ("RESULTS 01000", "ERROR odd number of digits"),
+        ("ANSWER 9000", None),
+        ("SILENCE", None),
+        ("HOST 013030", None),
+    ],
     6: [
+        ("RESULTS 010000", None),
+    ],
+    7: [
         ("HOST", None),
         ("HOST 0130", None),
         ("HOST 030001", None),
         ("ANSWER", None),
         ("SILENCE", None),
     ],
-    8: [
+    9: [
         ("SILENCE", None),
     ],
 }
@@ -61,12 +84,66 @@ def lines_of(script):
         return lines.read().splitlines()
 
 
+def judged(tape):
+    return subprocess.run([REFERENCE, "judge"], input=tape, capture_output=True, check=True).stdout.decode().rstrip("\n")
+
+
+def write(name, lines):
+    with open(name, "w") as out:
+        out.write("".join(line + "\n" for line in lines))
+
+
+def bytes_of(name):
+    with open(name, "rb") as tape:
+        return tape.read()
+
+
+def with_start(tape, start):
+    """A tape with another START, the check of its block made good."""
+    body = tape[:10] + len(start).to_bytes(2, "big") + start.ljust(496, b"\x00")
+    return body + zlib.crc32(body).to_bytes(4, "big") + tape[BLOCK:]
+
+
+def tapes_alone():
+    """Of approved-offline: START's date is 260230; START is without the three bytes of Terminal Capabilities."""
+    tape = bytes_of("samples/approved-offline.tape")
+    start = tape[12:12 + 77]
+    yield "no-such-day", with_start(tape, start[:17] + bytes.fromhex("260230") + start[20:])
+    yield "without-capabilities", with_start(tape, start[:74])
+
+
+def longest():
+    """The script with 500 records, most of which tell nothing: as many entries as there can be."""
+    lines = lines_of(PLAYED)
+    lines[2] = "ANSWER 800E1800080102001001FF001801F3009000"
+    journeys = [f"ANSWER 7009DF20062606300{i:03d}{(37 * i + 11) % 256:02X}9000" for i in range(498)]
+    return lines[:5] + journeys + lines[5:]
+
+
+def record_samples():
+    asked, expected = [], []
+    for lines in [*map(lines_of, sorted(glob.glob("samples/*.script"))), longest()]:
+        played(lines, "--tape", "target/recorded.tape")
+        asked += ["SESSION", *lines, "JUDGE"]
+        expected.append(judged(bytes_of("target/recorded.tape")))
+    write(RECORDED + "stdin", asked)
+    write(RECORDED + "stdout", expected)
+    print(f"{len(expected)} sessions recorded and judged")
+
+
 def main():
+    for name, known in SAMPLES.items():
+        lines = subprocess.run([REFERENCE, "sample", known], capture_output=True, text=True, check=True).stdout.splitlines()
+        write(f"samples/{name}.script", lines)
     for script in sorted(glob.glob("samples/*.script")):
         played(lines_of(script), "--tape", script.replace(".script", ".tape"), "--session", SESSION)
+    for name, tape in tapes_alone():
+        with open(f"samples/{name}.tape", "wb") as out:
+            out.write(tape)
+    record_samples()
     # digits of either case
     calls = [(f"{word} {digits.lower() if i % 2 else digits}", None)
-             for i, (word, digits) in enumerate(line.split() for line in lines_of("samples/online-approved.script"))]
+             for i, (word, digits) in enumerate(line.split() for line in lines_of(PLAYED))]
     asked = []
     for i in range(len(calls) + 1):
         asked += EXTRA.get(i, []) + calls[i:i + 1]
@@ -75,8 +152,7 @@ def main():
     # the last line has no line feed
     with open(FOLDER + "stdin", "w") as out:
         out.write("\n".join(line for line, _ in asked))
-    with open(FOLDER + "stdout", "w") as out:
-        out.write("".join(line + "\n" for line in expected))
+    write(FOLDER + "stdout", expected)
     print(f"{len(expected)} lines")
 
 

@@ -11,3 +11,4 @@ pub mod Present
 mod Pinned
 pub mod Absent
 pub mod Opened
+pub mod Names

@@ -1,17 +1,20 @@
--- What the value of each named object must be: 01, "What the card must answer", all four kinds of answer in one table. No
+-- What the value of each named object must be: 01, "What the card must answer", all four kinds of answer in one table; 02, R-7. No
 -- tag is named at two places with two rules.
 -- Assumes nothing.
-use mathlib.Core.Bool.{Bool, true, false}
+use mathlib.Core.Bool.{Bool, true, false, _&&_}
 use mathlib.Core.List.{List, [], _∷_, _++_, map}
-use Prim.Native.Nat.{ℕ}
+use Prim.Native.Nat.{ℕ, _%_}
+use lib.Dec.{leb, eqb}
 use lib.ListN.{length}
-use Rattle.slices.specs.Tests.{between}
+use Rattle.slices.specs.Choice.{pick}
+use Rattle.slices.specs.Tests.{between, isSome}
 use Rattle.decimal_dates.specs.Dates.{validCardDate}
+use Rattle.start_fields.specs.Reading.{Terminal}
 use Rattle.answer_afl.specs.Entries.{wholeEntries}
 use Rattle.slices.specs.Tables.{beside}
 use Rattle.answer_common.specs.CardNumber.{cardNumber}
 use Rattle.answer_common.specs.declared.content.Rule.{Rule}
-use Rattle.answer_common.specs.declared.content.Rule.the-variants.{Sizes, Entries, Number, Date, Anything}
+use Rattle.answer_common.specs.declared.content.Rule.the-variants.{Sizes, Entries, Number, Date, Verification, Anything}
 use Rattle.answer_common.specs.declared.content.Format.{Format}
 use Rattle.answer_common.specs.declared.content.Format.the-variants.{Numeric, CardNumber, Other, Unknown}
 
@@ -20,6 +23,7 @@ meets (Sizes fewest most) v = between fewest most (length v)
 meets Entries v = wholeEntries v
 meets Number v = cardNumber v
 meets Date v = validCardDate v
+meets Verification v = leb 8 (length v) && eqb (length v % 2) 0
 meets Anything v = true
 
 -- the tag of a record's one object
@@ -41,10 +45,10 @@ listMost = 252
 abbrev row : ℕ → Rule → Bool → Format → Row
 row tag rule mandatory format = record { tag = tag; rule = rule; mandatory = mandatory; format = format }
 
--- the one table of what records name: card number, expiry, effective date, version, the object lists for the first and the
+-- what records name for every terminal: card number, expiry, effective date, version, the object lists for the first and the
 -- second GENERATE AC, and the action codes default, denial and online
-abbrev pub recordTable : List Row
-recordTable =
+abbrev baseRows : List Row
+baseRows =
     row 0x5A Number true CardNumber
     ∷ row 0x5F24 Date true Numeric
     ∷ row 0x5F25 Date false Numeric
@@ -55,6 +59,25 @@ recordTable =
     ∷ row 0x9F0E (Sizes 5 5) false Other
     ∷ row 0x9F0F (Sizes 5 5) false Other
     ∷ []
+
+-- and for one with Terminal Capabilities: the verification list and the application's currency (02, R-7)
+abbrev verificationRows : List Row
+verificationRows =
+    row 0x8E Verification false Unknown
+    ∷ row 0x9F42 (Sizes 2 2) false Unknown
+    ∷ []
+
+-- the one table of what records name
+abbrev pub recordTable : List Row
+recordTable = baseRows ++ verificationRows
+
+-- those rows of it that hold for a terminal
+unfoldable pub rowsFor : Terminal → List Row
+rowsFor t = pick (isSome (t .capabilities)) recordTable baseRows
+
+-- the names that count in its records
+unfoldable pub namesFor : Terminal → List ℕ
+namesFor t = map (λ r. r .tag) (rowsFor t)
 
 -- its tags
 abbrev pub recordNames : List ℕ

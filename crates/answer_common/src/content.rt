@@ -2,14 +2,23 @@
 use crate::number::is_card_number;
 use answer_afl::entries::are_whole;
 use decimal_dates::dates::valid_card_date;
+use start_fields::fields::has_capabilities;
 ghost use mathlib.Core.Path.{_≡_};
-ghost use Rattle.answer_common.specs.Content.{ruleFor, rightValue};
+ghost use Prim.Native.Nat.{_≤_};
+ghost use lib.ListN.{length, take};
+ghost use Rattle.start_fields.specs.Reading.{readingOf};
+ghost use Rattle.answer_common.specs.Content.{recordNames, namesFor, ruleFor, rightValue};
 
 // The tag of a record's one object.
 pub const RECORD: usize = 0x70;
 
+// How many names there are in records, and how many of them count for every terminal.
+const ALL_NAMES: usize = 11;
+
+const BASE_NAMES: usize = 9;
+
 // The names in records, and those of them that some record must tell: the rows of the definitions' table, in its order.
-pub const NAMES: [usize; 9] = [
+pub const NAMES: [usize; ALL_NAMES] = [
     0x5A,
     0x5F24,
     0x5F25,
@@ -19,6 +28,8 @@ pub const NAMES: [usize; 9] = [
     0x9F0D,
     0x9F0E,
     0x9F0F,
+    0x8E,
+    0x9F42,
 ];
 
 pub const MANDATORY: [usize; 4] = [0x5A, 0x5F24, 0x8C, 0x8D];
@@ -41,6 +52,8 @@ pub enum Rule {
     Number,
     // A date YYMMDD.
     Date,
+    // Two amounts of four bytes, then rules of two bytes each.
+    Verification,
     Anything,
 }
 
@@ -64,6 +77,8 @@ pub fn rule_for(tag: usize) -> Rule
         0x9F0D => Rule::Sizes(5, 5),
         0x9F0E => Rule::Sizes(5, 5),
         0x9F0F => Rule::Sizes(5, 5),
+        0x8E => Rule::Verification,
+        0x9F42 => Rule::Sizes(2, 2),
         0x9F27 => Rule::Sizes(1, 1),
         0x9F36 => Rule::Sizes(2, 2),
         0x9F26 => Rule::Sizes(8, 8),
@@ -80,6 +95,19 @@ pub fn is_right(tag: usize, v: &[u8]) -> bool
         Rule::Entries => are_whole(v),
         Rule::Number => is_card_number(v),
         Rule::Date => valid_card_date(v),
+        Rule::Verification => 8 <= v.len() && v.len() % 2 == 0,
         Rule::Anything => true,
+    }
+}
+
+// How many of the names count with a START.
+pub fn names_for(start: &[u8]) -> usize
+    ensures { λ r. ⌜ (r ≡ length (namesFor (readingOf (now (start .entry)))))
+        × (take r recordNames ≡ namesFor (readingOf (now (start .entry)))) × (r ≤ 11) ⌝ }
+{
+    if has_capabilities(start) {
+        ALL_NAMES
+    } else {
+        BASE_NAMES
     }
 }

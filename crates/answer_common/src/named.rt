@@ -5,7 +5,21 @@ use tlv_list::Found;
 use tlv_list::lookup::find_in_checked;
 use tlv_list::place::value;
 ghost use mathlib.Core.Path.{_≡_};
-ghost use Rattle.answer_common.specs.Named.{standing, times as timesOf, valueOf, wrongValue, anyTimes, anyWrong};
+ghost use Rattle.answer_common.specs.Named.{listed, standing, times as timesOf, valueOf, wrongValue, anyTimes, anyWrong};
+
+// Whether a name is one of some names.
+pub fn is_listed(name: usize, names: &[usize]) -> bool
+    ensures { λ r. ⌜ r ≡ listed name (now (names .entry)) ⌝ }
+{
+    let mut i = 0;
+    while i < names.len() {
+        if name == names[i] {
+            return true;
+        }
+        i += 1;
+    }
+    false
+}
 
 // How often a name stands there; 2 for twice and more.
 pub fn times_in_checked(s: &[u8], name: usize) -> usize

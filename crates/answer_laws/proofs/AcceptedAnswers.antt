@@ -16,7 +16,7 @@ use Rattle.slices.proofs.Tests.{first-held}
 use Rattle.dol_wanted.specs.Wanted.{fillable}
 use Rattle.answer_afl.specs.Entries.{mostRecords, wholeEntries, entriesRight, recordCount, tooMany}
 use Rattle.slices.specs.Tables.{anyOf, beside}
-use Rattle.answer_common.specs.Content.{rules, ruleFor, rightValue, meets, recordTag, recordNames, mandatory}
+use Rattle.answer_common.specs.Content.{rules, ruleFor, rightValue, meets, recordTag, mandatory}
 use Rattle.answer_common.specs.Answer.{valueMost, isOne, inside, frame}
 use Rattle.answer_common.specs.Right.{Framed}
 use Rattle.answer_common.specs.Named.{listed, direct, times, told, valueOf, anyTimes, anyWrong}
@@ -160,25 +160,25 @@ unfolding again times
 not-again true v l f e = absurd (false≢true (sym e ∙ ap (λ (x : Lookup). again true x) f))
 not-again false v l f e = refl
 
-module _ (before : ℕ → Bool) (a : List ℕ) (e : recordReason before a ≡ 0) where
-  pub record-clear : AllClear (frame (recordTag ∷ []) a) × AllClear (recordLines before a)
+module _ (names : List ℕ) (before : ℕ → Bool) (a : List ℕ) (e : recordReason names before a ≡ 0) where
+  pub record-clear : AllClear (frame (recordTag ∷ []) a) × AllClear (recordLines names before a)
   unfolding recordReason recordLines
-  record-clear = both-clear (recordTag ∷ []) a (recordLines before a) ((λ z. omega arith), ((λ z. omega arith), tt)) e
+  record-clear = both-clear (recordTag ∷ []) a (recordLines names before a) ((λ z. omega arith), ((λ z. omega arith), tt)) e
 
   pub record-framed : Framed (recordTag ∷ []) a
   record-framed = frame-accepted (recordTag ∷ []) a (record-clear .0)
 
   -- each value that the record tells is right, and was not told before
-  pub record-told : (name : ℕ) (v : List ℕ) → listed name recordNames ≡ true → valueIn name a ≡ some v
+  pub record-told : (name : ℕ) (v : List ℕ) → listed name names ≡ true → valueIn name a ≡ some v
       → (rightValue name v ≡ true) × (before name ≡ false)
   unfolding recordLines recordTwice anyAgain valueIn
   record-told name v l f =
       let lines = record-clear .1 in
       let found = told-some (direct recordTag a name) v f in
       let new =
-      any-clear (λ name. again (before name) (direct recordTag a name)) recordNames
-      (or-clear (anyTimes 2 recordNames (direct recordTag a)) _ (lines .0) .1) name l in (
-        named-right recordNames (direct recordTag a) (lines .1 .0) name v l found,
+      any-clear (λ name. again (before name) (direct recordTag a name)) names
+      (or-clear (anyTimes 2 names (direct recordTag a)) _ (lines .0) .1) name l in (
+        named-right names (direct recordTag a) (lines .1 .0) name v l found,
         not-again (before name) v
             (direct recordTag a name) found new,
       )

@@ -17,7 +17,8 @@ use Rattle.slices.specs.Tests.{between}
 use Rattle.dol_wanted.specs.Wanted.{fillable}
 use Rattle.answer_afl.specs.Entries.{wholeEntries, entriesRight, tooMany}
 use Rattle.slices.specs.Tables.{anyOf, beside}
-use Rattle.answer_common.specs.Content.{meets, rules, ruleFor, rightValue, recordTag, recordNames}
+use Rattle.answer_common.proofs.Names.{listed-more}
+use Rattle.answer_common.specs.Content.{meets, rules, ruleFor, rightValue, recordTag}
 use Rattle.answer_common.specs.Answer.{isOne, inside}
 use Rattle.answer_common.specs.Right.{Alike}
 use Rattle.answer_common.specs.Named.{membersIn, listed, named, among, direct, times, told, valueOf, wrongValue, anyTimes, anyWrong}
@@ -43,36 +44,30 @@ free absent = refl
 free (once v) = refl
 free twice = refl
 
-listed-more : (name : ℕ) (x y : List ℕ) → listed name x ≡ true → listed name (x ++ y) ≡ true
-unfolding listed anyOf
-listed-more name [] y l = absurd (false≢true l)
-listed-more name (n ∷ x) y l =
-    either (eqb name n) (λ e. pick-yes _ _ _ e) (λ e. pick-no _ _ _ e ∙ listed-more name x y (sym (pick-no _ _ _ e) ∙ l))
-
 named-too : (name : ℕ) → listed name mandatoryNames ≡ true → listed name cryptogramNames ≡ true
 named-too name l = listed-more name mandatoryNames (0x9F10 ∷ []) l
 
 -- records
-module _ (before : ℕ → Bool) (a b : List ℕ) (alike : Alike (recordTag ∷ []) a b)
-    (same : SameNamed recordNames (inside recordTag a) (inside recordTag b)) where
-  under : (name : ℕ) → listed name recordNames ≡ true → direct recordTag a name ≡ direct recordTag b name
+module _ (names : List ℕ) (before : ℕ → Bool) (a b : List ℕ) (alike : Alike (recordTag ∷ []) a b)
+    (same : SameNamed names (inside recordTag a) (inside recordTag b)) where
+  under : (name : ℕ) → listed name names ≡ true → direct recordTag a name ≡ direct recordTag b name
   unfolding direct
-  under name l = named-alike recordNames (inside recordTag a) (inside recordTag b) same name l
+  under name l = named-alike names (inside recordTag a) (inside recordTag b) same name l
 
-  twice-same : recordTwice before a ≡ recordTwice before b
+  twice-same : recordTwice names before a ≡ recordTwice names before b
   unfolding recordTwice anyAgain
   twice-same =
       ap₂ _||_
-      (times-alike recordNames (direct recordTag a) (direct recordTag b) 2 (λ name l. ap times (under name l)))
-      (any-alike _ _ recordNames (λ name l. ap (again (before name)) (under name l)))
+      (times-alike names (direct recordTag a) (direct recordTag b) 2 (λ name l. ap times (under name l)))
+      (any-alike _ _ names (λ name l. ap (again (before name)) (under name l)))
 
-  pub record-alike : recordReason before a ≡ recordReason before b
+  pub record-alike : recordReason names before a ≡ recordReason names before b
   unfolding recordReason recordLines
   record-alike =
       frame-alike (recordTag ∷ []) a b alike _ _
-      (one-more 4 _ _ twice-same (one-more 5 [] [] (wrong-alike recordNames (direct recordTag a) (direct recordTag b) under) refl))
+      (one-more 4 _ _ twice-same (one-more 5 [] [] (wrong-alike names (direct recordTag a) (direct recordTag b) under) refl))
 
-  pub record-facts : (name : ℕ) → listed name recordNames ≡ true → valueIn name a ≡ valueIn name b
+  pub record-facts : (name : ℕ) → listed name names ≡ true → valueIn name a ≡ valueIn name b
   unfolding valueIn
   record-facts name l = ap told (under name l)
 

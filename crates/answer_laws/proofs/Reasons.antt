@@ -37,9 +37,9 @@ pub options-small : (a : List ℕ) → optionsReason a < 256
 unfolding optionsReason frame optionsLines anyOf pick
 options-small a = small _ refl
 
-pub record-small : (before : ℕ → Bool) (a : List ℕ) → recordReason before a < 256
+pub record-small : (names : List ℕ) (before : ℕ → Bool) (a : List ℕ) → recordReason names before a < 256
 unfolding recordReason frame recordLines anyOf pick
-record-small before a = small _ refl
+record-small names before a = small _ refl
 
 pub cryptogram-small : (allowed : ℕ → Bool) (a : List ℕ) → cryptogramReason allowed a < 256
 unfolding cryptogramReason frame cryptogramLines anyOf pick

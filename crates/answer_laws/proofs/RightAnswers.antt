@@ -12,7 +12,7 @@ use Rattle.tlv_list.specs.Lookup.{Lookup, once}
 use Rattle.start_fields.specs.Reading.{Terminal}
 use Rattle.dol_wanted.specs.Wanted.{wantedStep, entriesOf, total, fits, fillable}
 use Rattle.slices.specs.Tables.{anyOf, beside}
-use Rattle.answer_common.specs.Content.{listMost, meets, rules, ruleFor, rightValue, recordTag, recordNames, mandatory}
+use Rattle.answer_common.specs.Content.{listMost, meets, rules, ruleFor, rightValue, recordTag, mandatory}
 use Rattle.answer_common.specs.Answer.{frame}
 use Rattle.answer_common.specs.Right.{Framed, There, MayBe, Right, Sized}
 use Rattle.answer_common.specs.Named.{listed, direct, times, told, valueOf, anyTimes, anyWrong}
@@ -79,18 +79,18 @@ module _ (t : Terminal) (a : List ℕ) where
   pub select-exactly : (selectReason t a ≡ 0) ↔ RightSelect (t .aid) a
   select-exactly = (select-right, right-select)
 
-module _ (before : ℕ → Bool) (a : List ℕ) where
-  record-right : recordReason before a ≡ 0 → RightRecord before a
+module _ (names : List ℕ) (before : ℕ → Bool) (a : List ℕ) where
+  record-right : recordReason names before a ≡ 0 → RightRecord names before a
   unfolding recordLines recordTwice valueIn told
   record-right e =
-      let lines = record-clear before a e .1 in
-      let twice′ = or-clear (anyTimes 2 recordNames (direct recordTag a)) _ (lines .0) in
+      let lines = record-clear names before a e .1 in
+      let twice′ = or-clear (anyTimes 2 names (direct recordTag a)) _ (lines .0) in
       record {
-        framed = record-framed before a e;
+        framed = record-framed names before a e;
         told = λ name l.
             may-be-so
-            (λ v f r. (r, record-told before a e name v l (ap told f) .1))
-            (may-be recordNames (direct recordTag a) (twice′ .0) (lines .1 .0) name l);
+            (λ v f r. (r, record-told names before a e name v l (ap told f) .1))
+            (may-be names (direct recordTag a) (twice′ .0) (lines .1 .0) name l);
       }
 
   not-again : (name : ℕ) (l : Lookup) → MayBe (λ v. Right name v × (before name ≡ false)) l → again (before name) l ≡ false
@@ -98,19 +98,19 @@ module _ (before : ℕ → Bool) (a : List ℕ) where
   not-again name l (inl e) = ap (again (before name)) e ∙ and-false (before name)
   not-again name l (inr h) = and-no refl _ (h .2 .1) ∙ h .2 .1
 
-  right-record : RightRecord before a → recordReason before a ≡ 0
+  right-record : RightRecord names before a → recordReason names before a ≡ 0
   unfolding recordReason recordLines recordTwice anyAgain
   right-record r =
-      let right : (name : ℕ) → listed name recordNames ≡ true → MayBe (Right name) (direct recordTag a name) =
+      let right : (name : ℕ) → listed name names ≡ true → MayBe (Right name) (direct recordTag a name) =
       λ name l. may-be-so (λ v f s. s .0) (r .told name l) in
-      no-line (recordTag ∷ []) a (recordLines before a) (r .framed) (
-        or-no refl _ (none-twice recordNames (direct recordTag a) right)
-            ∙ any-none (λ name. again (before name) (direct recordTag a name)) recordNames
+      no-line (recordTag ∷ []) a (recordLines names before a) (r .framed) (
+        or-no refl _ (none-twice names (direct recordTag a) right)
+            ∙ any-none (λ name. again (before name) (direct recordTag a name)) names
             (λ name l. not-again name (direct recordTag a name) (r .told name l)),
-        (none-wrong recordNames (direct recordTag a) right, tt),
+        (none-wrong names (direct recordTag a) right, tt),
       )
 
-  pub record-exactly : (recordReason before a ≡ 0) ↔ RightRecord before a
+  pub record-exactly : (recordReason names before a ≡ 0) ↔ RightRecord names before a
   record-exactly = (record-right, right-record)
 
 pub complete-exactly : (there : ℕ → Bool) (list : List ℕ) → (completeReason there list ≡ 0) ↔ RightRecords there list

@@ -6,7 +6,7 @@ use mathlib.Core.Bool.{Bool, true, false}
 use mathlib.Core.List.{List, [], _∷_}
 use Prim.Native.Nat.{ℕ}
 use Rattle.dol_wanted.specs.Wanted.{fillable}
-use Rattle.answer_common.specs.Content.{listMost, recordTag, recordNames, mandatory}
+use Rattle.answer_common.specs.Content.{listMost, recordTag, mandatory}
 use Rattle.answer_common.specs.Named.{listed, direct}
 use Rattle.answer_common.specs.Right.{Framed, There, MayBe, Right, Sized}
 use Rattle.answer_select.specs.Select.{selectTag, inner, begins}
@@ -18,10 +18,10 @@ pub record RightSelect (aid a : List ℕ) : Type 0 where
   pub proprietary : There (λ v. Unit {0}) (direct selectTag a 0xA5)
   pub list : MayBe (λ v. Sized 0 listMost v × (fillable v ≡ true)) (inner a 0x9F38)
 
--- Record: 70, in which each named object that stands there does so once, rightly, and was not told before
-pub record RightRecord (before : ℕ → Bool) (a : List ℕ) : Type 0 where
+-- Record: 70, in which each object that is named there stands once, rightly, and was not told before
+pub record RightRecord (names : List ℕ) (before : ℕ → Bool) (a : List ℕ) : Type 0 where
   pub framed : Framed (recordTag ∷ []) a
-  pub told : (name : ℕ) → listed name recordNames ≡ true → MayBe (λ v. Right name v × (before name ≡ false)) (direct recordTag a name)
+  pub told : (name : ℕ) → listed name names ≡ true → MayBe (λ v. Right name v × (before name ≡ false)) (direct recordTag a name)
 
 -- After the last record: all that is mandatory was told, and the first object list can be filled
 pub record RightRecords (there : ℕ → Bool) (list : List ℕ) : Type 0 where

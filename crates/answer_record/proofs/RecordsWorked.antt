@@ -6,7 +6,7 @@ use mathlib.Core.List.{List, [], _∷_, _++_, map}
 use mathlib.Core.Option.{Option, none, some}
 use Prim.Native.Nat.{ℕ}
 use lib.Dec.{eqb}
-use lib.ListN.{replicate}
+use lib.ListN.{take, replicate}
 use Rattle.decimal_dates.specs.Decimal.{digitsOnly, decimalByte}
 use Rattle.decimal_dates.specs.Dates.{monthAndDay, validCardDate}
 use Rattle.dol_wanted.specs.Wanted.{andThen, sizeAt, firstWanted, asks, wantedStep, entriesOf, total, fits, fillable}
@@ -16,9 +16,14 @@ use Rattle.answer_record.specs.Records.{again, anyAgain, recordTwice, re
 use Rattle.answer_common.specs.Content.{recordNames}
 use Rattle.answer_common.proofs.Opened.{one, two, good, joinedAll, opened}
 
+-- with all the names; and with those of a terminal without Terminal Capabilities, the first nine
 judge : (ℕ → Bool) → List ℕ → ℕ
 unfolding opened halves digits onlyF cardNumber digitsOnly decimalByte monthAndDay validCardDate again anyAgain recordTwice recordLines recordReason
-judge before a = recordReason before a
+judge before a = recordReason recordNames before a
+
+judgeBase : (ℕ → Bool) → List ℕ → ℕ
+unfolding opened halves digits onlyF cardNumber digitsOnly decimalByte monthAndDay validCardDate again anyAgain recordTwice recordLines recordReason
+judgeBase before a = recordReason (take 9 recordNames) before a
 
 -- nothing was told before
 nothing : ℕ → Bool
@@ -59,18 +64,39 @@ judged : map (λ row. judge nothing (good (one 0x70 (joinedAll (row .0))))) rows
 unfolding judge nothing
 judged = refl
 
--- a record with all nine names
+-- a record with all eleven names
 abbrev full : List ℕ
 full = number ++ expiry ++ two 0x5F 0x25 (0x20 ∷ 0x01 ∷ 0x01 ∷ []) ++ two 0x9F 0x08
     (0x00 ∷ 0x02 ∷ []) ++ one 0x8C [] ++ one 0x8D [] ++ two 0x9F 0x0D (replicate 5 0) ++ two 0x9F 0x0E (replicate 5 0) ++ two 0x9F 0x0F
-    (replicate 5 0)
+    (replicate 5 0) ++ one 0x8E (replicate 8 0) ++ two 0x9F 0x42 (0x08 ∷ 0x26 ∷ [])
 
 -- each of them told by an earlier record; nothing told, or another name; a name told, and not there again
-told-again : (map (λ name. judge (eqb name) (good (one 0x70 full))) recordNames ≡ replicate 9 4)
+told-again : (map (λ name. judge (eqb name) (good (one 0x70 full))) recordNames ≡ replicate 11 4)
     × (judge nothing (good (one 0x70 full)) ≡ 0) × (judge (eqb 0x57) (good (one 0x70 full)) ≡ 0)
     × (judge (eqb 0x5A) (good (one 0x70 expiry)) ≡ 0)
 unfolding judge nothing
 told-again = (refl, refl, refl, refl)
+
+-- the verification list, 8 bytes or more and an even number, and the application's currency of two: named for a terminal with Terminal
+-- Capabilities, and nothing to another
+abbrev verification : List (List (List ℕ) × (ℕ × ℕ))
+verification =
+    (one 0x8E (replicate 8 0) ∷ two 0x9F 0x42 (0x08 ∷ 0x26 ∷ []) ∷ [], (0, 0))
+    ∷ (one 0x8E (replicate 10 0) ∷ [], (0, 0))
+    ∷ (one 0x8E (replicate 9 0) ∷ [], (5, 0))
+    ∷ (one 0x8E (replicate 6 0) ∷ [], (5, 0))
+    ∷ (one 0x8E [] ∷ [], (5, 0))
+    ∷ (two 0x9F 0x42 (0x08 ∷ []) ∷ [], (5, 0))
+    ∷ (two 0x9F 0x42 (replicate 3 0) ∷ [], (5, 0))
+    ∷ (one 0x8E (replicate 8 0) ∷ one 0x8E (replicate 8 0) ∷ [], (4, 0))
+    ∷ (two 0x9F 0x42 [] ∷ two 0x9F 0x42 [] ∷ [], (4, 0))
+    ∷ []
+
+verification-judged :
+    (map (λ row. judge nothing (good (one 0x70 (joinedAll (row .0))))) verification ≡ map (λ row. row .1 .0) verification)
+    × (map (λ row. judgeBase nothing (good (one 0x70 (joinedAll (row .0))))) verification ≡ map (λ row. row .1 .1) verification)
+unfolding judge judgeBase nothing
+verification-judged = (refl, refl)
 
 -- another object; told before and wrong
 others : (judge nothing (good (one 0x77 number)) ≡ 3) × (judge (eqb 0x5A) (good (one 0x70 (one 0x5A []))) ≡ 4)

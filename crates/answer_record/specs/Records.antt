@@ -11,7 +11,7 @@ use Rattle.tlv_list.specs.Lookup.{Lookup}
 use Rattle.dol_wanted.specs.Wanted.{fillable}
 use Rattle.slices.specs.Tables.{anyOf}
 use Rattle.answer_common.specs.Answer.{frame}
-use Rattle.answer_common.specs.Content.{recordTag, recordNames, mandatory}
+use Rattle.answer_common.specs.Content.{recordTag, mandatory}
 use Rattle.answer_common.specs.Named.{listed, direct, times, told, anyTwice, anyWrong}
 
 -- a name is there, and earlier records told it
@@ -22,23 +22,23 @@ unfoldable pub anyAgain : (ℕ → Bool) → List ℕ → (ℕ → Lookup) → B
 anyAgain before names look = anyOf (map (λ name. again (before name) (look name)) names)
 
 -- twice in this record, or in this one and an earlier one
-unfoldable pub recordTwice : (ℕ → Bool) → List ℕ → Bool
-recordTwice before a = anyTwice recordNames (direct recordTag a) || anyAgain before recordNames (direct recordTag a)
+unfoldable pub recordTwice : List ℕ → (ℕ → Bool) → List ℕ → Bool
+recordTwice names before a = anyTwice names (direct recordTag a) || anyAgain before names (direct recordTag a)
 
-unfoldable pub recordLines : (ℕ → Bool) → List ℕ → List (Bool × ℕ)
-recordLines before a = (recordTwice before a, 4) ∷ (anyWrong recordNames (direct recordTag a), 5) ∷ []
+unfoldable pub recordLines : List ℕ → (ℕ → Bool) → List ℕ → List (Bool × ℕ)
+recordLines names before a = (recordTwice names before a, 4) ∷ (anyWrong names (direct recordTag a), 5) ∷ []
 
--- `before` are the names that earlier records told
-unfoldable pub recordReason : (ℕ → Bool) → List ℕ → ℕ
-recordReason before a = firstOf (frame (recordTag ∷ []) a ++ recordLines before a)
+-- `names` are those that count in a record, and `before` tells which of them earlier records told
+unfoldable pub recordReason : List ℕ → (ℕ → Bool) → List ℕ → ℕ
+recordReason names before a = firstOf (frame (recordTag ∷ []) a ++ recordLines names before a)
 
 -- what a record tells of a name
 unfoldable pub valueIn : ℕ → List ℕ → Option (List ℕ)
 valueIn name a = told (direct recordTag a name)
 
 -- the same of a name that counts; objects not named for a record are ignored there
-unfoldable pub namedIn : ℕ → List ℕ → Option (List ℕ)
-namedIn name a = pick (listed name recordNames) (valueIn name a) none
+unfoldable pub namedIn : List ℕ → ℕ → List ℕ → Option (List ℕ)
+namedIn names name a = pick (listed name names) (valueIn name a) none
 
 unfoldable pub incomplete : (ℕ → Bool) → Bool
 incomplete there = anyOf (map (λ name. not (there name)) mandatory)

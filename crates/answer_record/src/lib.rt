@@ -2,7 +2,6 @@
 use answer_common::answer::frame_reason;
 use answer_common::answer::inside;
 use answer_common::content::MANDATORY;
-use answer_common::content::NAMES;
 use answer_common::content::RECORD;
 use answer_common::named::any_times_in_checked;
 use answer_common::named::any_wrong_in_checked;
@@ -42,41 +41,42 @@ fn any_again(told: &[u8], s: &[u8], names: &[usize]) -> bool
     false
 }
 
-fn is_twice(told: &[u8], answer: &[u8]) -> bool
-    ensures { λ r. ⌜ r ≡ recordTwice (λ name. isSome (toldIn (now (told .entry)) name)) (now (answer .entry)) ⌝ }
+fn is_twice(told: &[u8], names: &[usize], answer: &[u8]) -> bool
+    ensures { λ r. ⌜ r
+        ≡ recordTwice (now (names .entry)) (λ name. isSome (toldIn (now (told .entry)) name)) (now (answer .entry)) ⌝ }
 {
-    let names = NAMES;
     let s = inside(answer, RECORD);
-    if any_times_in_checked(s, 2, &names) {
+    if any_times_in_checked(s, 2, names) {
         return true;
     }
-    any_again(told, s, &names)
+    any_again(told, s, names)
 }
 
 // Reasons 4 and 5; 0 where neither applies.
-fn content_reason(told: &[u8], answer: &[u8]) -> usize
-    ensures { λ r. ⌜ r ≡ firstOf (recordLines (λ name. isSome (toldIn (now (told .entry)) name)) (now (answer .entry))) ⌝ }
+fn content_reason(told: &[u8], names: &[usize], answer: &[u8]) -> usize
+    ensures { λ r. ⌜ r
+        ≡ firstOf (recordLines (now (names .entry)) (λ name. isSome (toldIn (now (told .entry)) name)) (now (answer .entry))) ⌝ }
 {
-    if is_twice(told, answer) {
+    if is_twice(told, names, answer) {
         return 4;
     }
-    let names = NAMES;
-    if any_wrong_in_checked(inside(answer, RECORD), &names) {
+    if any_wrong_in_checked(inside(answer, RECORD), names) {
         return 5;
     }
     0
 }
 
-// The lowest reason that applies to one record; 0 where none does.
-pub fn record_reason(told: &[u8], answer: &[u8]) -> usize
-    ensures { λ r. ⌜ r ≡ recordReason (λ name. isSome (toldIn (now (told .entry)) name)) (now (answer .entry)) ⌝ }
+// The lowest reason that applies to one record, given what was told before and the names that count; 0 where none does.
+pub fn record_reason(told: &[u8], names: &[usize], answer: &[u8]) -> usize
+    ensures { λ r. ⌜ r
+        ≡ recordReason (now (names .entry)) (λ name. isSome (toldIn (now (told .entry)) name)) (now (answer .entry)) ⌝ }
 {
     let expected = [RECORD];
     let why = frame_reason(answer, &expected);
     if why != 0 {
         return why;
     }
-    content_reason(told, answer)
+    content_reason(told, names, answer)
 }
 
 // Whether a record tells a name's value.

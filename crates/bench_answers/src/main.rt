@@ -5,6 +5,7 @@
 //     GPO answer              82, and P1 and P2 of each READ RECORD
 //     RECORDS answer ..       each record's reason and the values that it tells, up to the first with a reason; then the
 //                             reason found after the last
+//     RECORDS74 answer ..     the same for a START of 74 bytes
 //     AC1 request answer      the cryptogram's type, to a first request of AAC, TC or ARQC
 //     AC2 request answer      the same to a second
 mod cryptogram;
@@ -38,7 +39,7 @@ fn answer(question: &[u8]) {
     match byte(question, 0) as u8 {
         b'S' => select::answer(words),
         b'G' => options::answer(words),
-        b'R' => records::answer(words),
+        b'R' => records::answer(byte(question, 7) as u8, words),
         b'A' => cryptogram::answer(byte(question, 2) as u8, words),
         _ => text_print::text(b"?"),
     }

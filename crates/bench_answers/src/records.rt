@@ -11,43 +11,55 @@ use session_records::records::with_record;
 use text_hex::unhex;
 use text_lines::after_word;
 
+// How many names count for a terminal without Terminal Capabilities.
+const BASE: usize = 9;
+
+// The letter behind RECORDS tells which names count.
+pub fn answer(letter: u8, words: &[u8]) {
+    let names = NAMES;
+    if letter == b'7' {
+        answer_each(&names[0..BASE], words);
+    } else {
+        answer_each(&names, words);
+    }
+}
+
 // Each word is one answer.
-pub fn answer(words: &[u8]) {
+fn answer_each(names: &[usize], words: &[u8]) {
     let mut store = nothing();
     let mut left = words;
     while 0 < left.len() {
-        if print_word(store, left) != 0 {
+        if print_word(store, names, left) != 0 {
             return;
         }
-        store = store_after(store, left);
+        store = store_after(store, names, left);
         let others = after_word(left);
         left = others;
     }
     print_last(store);
 }
 
-fn print_word(store: Store, word: &[u8]) -> usize {
+fn print_word(store: Store, names: &[usize], word: &[u8]) -> usize {
     let mut bytes = [0u8; 500];
     let n = unhex(word, &mut bytes);
-    print_answer(store, &bytes[0..n])
+    print_answer(store, names, &bytes[0..n])
 }
 
 // Prints one record's reason and values, and answers the reason.
-fn print_answer(store: Store, answer: &[u8]) -> usize {
+fn print_answer(store: Store, names: &[usize], answer: &[u8]) -> usize {
     let told = bytes_of(store);
-    let why = record_reason(&told, answer);
+    let why = record_reason(&told, names, answer);
     text_print::number(why);
     if why == 0 {
-        print_values(answer);
+        print_values(names, answer);
         text_print::text(b" | ");
     }
     why
 }
 
-fn print_values(answer: &[u8]) {
-    let names = NAMES;
+fn print_values(names: &[usize], answer: &[u8]) {
     let mut i = 0;
-    while i < 9 {
+    while i < names.len() {
         print_value(answer, names[i]);
         i += 1;
     }
@@ -68,8 +80,8 @@ fn print_last(store: Store) {
     text_print::number(complete_reason(&told));
 }
 
-fn store_after(store: Store, word: &[u8]) -> Store {
+fn store_after(store: Store, names: &[usize], word: &[u8]) -> Store {
     let mut bytes = [0u8; 500];
     let n = unhex(word, &mut bytes);
-    with_record(store, &bytes[0..n])
+    with_record(store, names, &bytes[0..n])
 }

@@ -6,12 +6,12 @@ use commands::write::options;
 use session_records::END;
 use session_records::slots::keep;
 use slices::part;
-use start_fields::fields::LENGTH;
+use start_fields::fields::FULL;
 use text_hex::unhex;
 use text_lines::after_word;
 
 pub fn answer(words: &[u8]) {
-    let mut start = [0u8; LENGTH];
+    let mut start = [0u8; FULL];
     let n = unhex(words, &mut start);
     let mut bytes = [0u8; 500];
     let m = unhex(after_word(words), &mut bytes);

@@ -4,8 +4,8 @@
 //
 // START's first 21 bytes, the values of the tags and the bytes handed in are in hexadecimal, `-` for none. Each line of standard
 // output has the number of rules, and TVR byte 3 in hexadecimal, or that the bytes handed in are refused.
+use cvm::list::are_results;
 use cvm::list::in_application_currency;
-use cvm::list::results_right;
 use cvm::list::rules_in;
 use cvm::verify::verify;
 use cvm_rules::Circumstances;
@@ -73,7 +73,7 @@ fn print_verified(c: Circumstances, words: &[u8]) {
 
 fn print_line(c: Circumstances, list: &[u8], results: &[u8]) {
     text_print::number(rules_in(list));
-    if results_right(list, results) {
+    if are_results(rules_in(list), results) {
         let bits = [verify(list, results, c)];
         text_print::text(b" ");
         text_print::bytes(&bits);

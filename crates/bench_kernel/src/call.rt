@@ -4,6 +4,7 @@ use kernel::Step;
 use session_phase::Reply;
 use session_state::result::decision;
 use slices::part;
+use tape_read::RESULTS;
 use text_hex::unhex;
 ghost use Prim.Native.Nat.{_≤_};
 
@@ -42,7 +43,18 @@ fn stepped(s: Session, event: u8, payload: &[u8], command: &mut [u8]) -> Step {
         b'R' => s.start(payload, command),
         b'W' => s.answer(payload, command),
         b'T' => s.host(payload, command),
+        b'U' => s.results(payload, command),
         _ => s.silence(command),
+    }
+}
+
+// Whose word is due; of the results of cardholder verification, how many.
+fn print_due(s: Session, kind: u8) {
+    if kind == RESULTS {
+        text_print::text(b"RESULTS ");
+        text_print::number(s.results_due());
+    } else {
+        text_print::text(b"HOST");
     }
 }
 
@@ -54,8 +66,8 @@ fn print_reply(s: Session, reply: Reply, buf: &[u8]) -> usize {
             text_print::bytes(part(buf, 0, n));
             n
         }
-        Reply::Due(_) => {
-            text_print::text(b"HOST");
+        Reply::Due(kind) => {
+            print_due(s, kind);
             0
         }
         Reply::Decided => {

@@ -5,6 +5,7 @@
 //     START bytes    the calls: terminal data,
 //     ANSWER bytes   the card's answer,
 //     HOST bytes     the issuer's reply,
+//     RESULTS bytes  the results of cardholder verification,
 //     SILENCE        the card says nothing
 //     ZEROS          how many list entries were filled with zeros so far is printed
 mod call;

@@ -4,6 +4,7 @@
 //     START bytes    the calls, as in the scripts of samples/
 //     ANSWER bytes
 //     HOST bytes
+//     RESULTS bytes
 //     SILENCE
 //     JUDGE          the verdict of the tape is printed
 use commands::write::LONGEST;
@@ -18,6 +19,7 @@ use tape_read::ANSWER;
 use tape_read::BLOCK;
 use tape_read::BLOCKS;
 use tape_read::HOST;
+use tape_read::RESULTS;
 use tape_read::SILENCE;
 use tape_read::START;
 use tape_read::TAPE;
@@ -122,6 +124,7 @@ fn kind_of(event: u8) -> u8 {
         b'R' => START,
         b'W' => ANSWER,
         b'T' => HOST,
+        b'U' => RESULTS,
         _ => SILENCE,
     }
 }
@@ -131,6 +134,7 @@ fn stepped(s: Session, event: u8, payload: &[u8], command: &mut [u8]) -> Step {
         b'R' => s.start(payload, command),
         b'W' => s.answer(payload, command),
         b'T' => s.host(payload, command),
+        b'U' => s.results(payload, command),
         _ => s.silence(command),
     }
 }

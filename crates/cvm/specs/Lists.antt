@@ -31,9 +31,9 @@ rulesIn list = (length list - 8) / 2
 unfoldable pub isResult : ℕ → Bool
 isResult b = leb b 4
 
--- a byte for each rule, in order (02, R-7: any other payload is refused)
-unfoldable pub resultsRight : List ℕ → List ℕ → Bool
-resultsRight list payload = every (eqb (length payload) (rulesIn list) ∷ map isResult payload)
+-- so many results, a byte for each rule in order (02, R-7: any other payload is refused)
+unfoldable pub areResults : ℕ → List ℕ → Bool
+areResults count payload = every (eqb (length payload) count ∷ map isResult payload)
 
 -- 9F42 is there and is the transaction's currency, byte for byte (003, Table A-4, note 15)
 unfoldable pub inApplicationCurrency : Option (List ℕ) → List ℕ → Bool

@@ -3,7 +3,7 @@ use slices::byte;
 ghost use mathlib.Core.Path.{_≡_};
 ghost use mathlib.Core.Option.{some, none};
 ghost use Rattle.slices.specs.Choice.{pick};
-ghost use Rattle.cvm.specs.Lists.{limitOf, rulesIn, resultsRight, inApplicationCurrency};
+ghost use Rattle.cvm.specs.Lists.{limitOf, rulesIn, areResults, inApplicationCurrency};
 
 // Where the rules begin, behind the amounts X and Y.
 const RULES_AT: usize = 8;
@@ -27,11 +27,11 @@ pub fn rules_in(list: &[u8]) -> usize
     (list.len() - RULES_AT) / 2
 }
 
-// Whether a payload has a byte from 0 to 4 for every rule, and no more.
-pub fn results_right(list: &[u8], payload: &[u8]) -> bool
-    ensures { λ r. ⌜ r ≡ resultsRight (now (list .entry)) (now (payload .entry)) ⌝ }
+// Whether a payload has so many bytes from 0 to 4, and no more.
+pub fn are_results(count: usize, payload: &[u8]) -> bool
+    ensures { λ r. ⌜ r ≡ areResults count (now (payload .entry)) ⌝ }
 {
-    if payload.len() != rules_in(list) {
+    if payload.len() != count {
         return false;
     }
     let mut i = 0;

@@ -65,6 +65,7 @@ at kind amount =
       online = 0 ∷ 0 ∷ 0 ∷ 0 ∷ 0 ∷ [];
       default = 0 ∷ 0 ∷ 0 ∷ 0 ∷ 0 ∷ [];
       aid = [];
+      capabilities = none;
     }
 
 -- a card with or without risk management, a version, an expiry day in June 2025, and a first day in June 2025

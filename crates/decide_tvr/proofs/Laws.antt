@@ -1,11 +1,12 @@
--- What holds of the TVR and the TSI whatever the card sends: no bit is ever cleared, neither changes its length, and their
--- bytes stay bytes. Each follows from their being joined to what stood there.
+-- What holds of the TVR and the TSI whatever the card sends: no bit is ever cleared, neither changes its length, their bytes
+-- stay bytes, and what cardholder verification sets is not touched here: TVR byte 3, and TSI byte 1 b7. Each follows from their
+-- being joined to what stood there.
 -- Assumes nothing.
-use mathlib.Core.Path.{_≡_, _∙_}
+use mathlib.Core.Path.{_≡_, refl, _∙_}
 use mathlib.Core.Bool.{Bool}
 use mathlib.Core.List.{List, [], _∷_}
 use mathlib.Core.Option.{Option·getD}
-use Prim.Native.Nat.{ℕ, zero, suc, _+_, _≤_, _<_}
+use Prim.Native.Nat.{ℕ, zero, suc, _+_, _/_, _%_, _≤_, _<_}
 use native.Mathlib.Omega.{arith}
 use lib.Bits.{or-lt}
 use lib.ListN.{length, getD}
@@ -14,7 +15,7 @@ use Rattle.start_fields.specs.Reading.{Terminal}
 use Rattle.decide_tvr.specs.Bits.{joined, flag}
 use Rattle.session_records.specs.Slots.{Facts}
 use Rattle.decide_tvr.specs.Results.{riskManaged, atFloorLimit, drawn, differentVersions, expired, notYetEffective, restrictions, risks, tvrAfterRecords, tsiAfterRecords, tsiAfterFirstAnswer}
-use Rattle.decide_tvr.proofs.Rows.{kept, joined-length}
+use Rattle.decide_tvr.proofs.Rows.{kept, joined-length, stays-at, bit-stays}
 
 flag-small : (t : Bool) (bit : ℕ) → flag t bit ≤ bit
 unfolding flag
@@ -39,6 +40,10 @@ module _ (t : Terminal) (aip : List ℕ) (f : Facts) (tvr : List ℕ) where
   pub tvr-length : length tvr ≡ 5 → length (tvrAfterRecords t aip f tvr) ≡ 5
   unfolding tvrAfterRecords
   tvr-length e = joined-length tvr _ e ∙ e
+
+  pub byte-3-stays : getD (tvrAfterRecords t aip f tvr) 2 0 ≡ getD tvr 2 0
+  unfolding tvrAfterRecords
+  byte-3-stays = stays-at tvr _ 2 refl
 
   restrictions-byte : restrictions t f < 256
   unfolding restrictions
@@ -90,6 +95,14 @@ module _ (tsi : List ℕ) where
   pub tsi-length-on : length tsi ≡ 2 → length (tsiAfterFirstAnswer tsi) ≡ 2
   unfolding tsiAfterFirstAnswer
   tsi-length-on e = joined-length tsi _ e ∙ e
+
+  pub b7-stays : (aip : List ℕ) → getD (tsiAfterRecords aip tsi) 0 0 / 64 % 2 ≡ getD tsi 0 0 / 64 % 2
+  unfolding tsiAfterRecords
+  b7-stays aip = bit-stays 6 tsi _ 0 (omega (arith, flag-small (riskManaged aip) 0x08))
+
+  pub b7-stays-on : getD (tsiAfterFirstAnswer tsi) 0 0 / 64 % 2 ≡ getD tsi 0 0 / 64 % 2
+  unfolding tsiAfterFirstAnswer
+  b7-stays-on = bit-stays 6 tsi _ 0 refl
 
   two-bytes : (b : ℕ) → b < 256 → Bytes (b ∷ 0 ∷ [])
   two-bytes b h zero = h

@@ -3,10 +3,10 @@
 use mathlib.Core.Path.{_≡_, refl, sym, ap, ap₂, _∙_}
 use mathlib.Core.Bool.{Bool, true, false, _&&_, _||_, or-true, or-false}
 use mathlib.Core.List.{List, [], _∷_}
-use Prim.Native.Nat.{ℕ, zero, suc, _+_, _<_, _≤_}
+use Prim.Native.Nat.{ℕ, zero, suc, _+_, _/_, _%_, _^_, _<_, _≤_}
 use native.Mathlib.Numerals.{add-one}
 use native.Mathlib.Omega.{arith}
-use lib.Bits.{bitAnd, bitOr, or-self}
+use lib.Bits.{bitAnd, bitOr, or-self, or-zero-l, or-zero-r, or-shr, or-mod}
 use lib.Dec.{eqb}
 use lib.ListN.{length, drop, getD, drop-of-length-le}
 use lib.Seq.{drop-cons}
@@ -47,6 +47,28 @@ joined-length [] [] e = refl
 joined-length [] (y ∷ b) e = sym e
 joined-length (x ∷ a) [] e = refl
 joined-length (x ∷ a) (y ∷ b) e = ap suc (joined-length a b (omega arith))
+
+-- each byte of two joined rows, and each bit of one
+pub joined-at : (a b : List ℕ) (i : ℕ) → getD (joined a b) i 0 ≡ bitOr (getD a i 0) (getD b i 0)
+unfolding joined
+joined-at [] b i = sym (or-zero-l (getD b i 0))
+joined-at (x ∷ a) [] i = sym (or-zero-r (getD (x ∷ a) i 0))
+joined-at (x ∷ a) (y ∷ b) zero = refl
+joined-at (x ∷ a) (y ∷ b) (suc i) = joined-at a b i
+
+pub bit-joined : (k : ℕ) (a b : List ℕ) (i : ℕ)
+    → getD (joined a b) i 0 / 2 ^ k % 2 ≡ bitOr (getD a i 0 / 2 ^ k % 2) (getD b i 0 / 2 ^ k % 2)
+bit-joined k a b i =
+    let x = getD a i 0 in
+    let y = getD b i 0 in
+    ap (λ (n : ℕ). n / 2 ^ k % 2) (joined-at a b i) ∙ (ap (λ (n : ℕ). n % 2) (or-shr x y k) ∙ or-mod (x / 2 ^ k) (y / 2 ^ k) 1)
+
+-- where nothing is joined, a byte stays as it is
+pub stays-at : (a b : List ℕ) (i : ℕ) → getD b i 0 ≡ 0 → getD (joined a b) i 0 ≡ getD a i 0
+stays-at a b i e = joined-at a b i ∙ (ap (bitOr (getD a i 0)) e ∙ or-zero-r (getD a i 0))
+
+pub bit-stays : (k : ℕ) (a b : List ℕ) (i : ℕ) → getD b i 0 / 2 ^ k % 2 ≡ 0 → getD (joined a b) i 0 / 2 ^ k % 2 ≡ getD a i 0 / 2 ^ k % 2
+bit-stays k a b i e = let n = getD a i 0 / 2 ^ k % 2 in bit-joined k a b i ∙ (ap (bitOr n) e ∙ or-zero-r n)
 
 -- n joined bytes of two rows from a place on
 abbrev pub listed : ℕ → ℕ → List ℕ → List ℕ → List ℕ

@@ -18,7 +18,7 @@ use Rattle.slices.specs.Tests.{isSome}
 use Rattle.start_fields.specs.Reading.{Terminal}
 use Rattle.dol_wanted.specs.Wanted.{Wanted, andThen, sizeAt, firstWanted, entriesOf, total, totalBy, totalOf, most, fillable, tally}
 use Rattle.dol_fill.specs.Filled.{entryBytes, firstBytes, filled, filledBy, filledList, filling}
-use Rattle.dol_values.specs.Known.{supplied}
+use Rattle.dol_values.specs.Known.{withFormat, supplied}
 use Rattle.dol_values.specs.Shape.{shaped}
 use Rattle.session_records.specs.Slots.{Facts}
 use Rattle.answer_common.specs.declared.content.Format.{Format}
@@ -38,6 +38,18 @@ unfolding firstWanted firstBytes
 turn-filled r some-bytes right t k =
     ap (filledBy t k) (entries-more r some-bytes (asked r some-bytes right))
     ∙ filled-then (firstWanted r) t k (entriesOf (drop (tagSize r + 1) r)) (turn-some r some-bytes right)
+
+-- a value that is there, shaped: all zeros in a format that lists do not know, as where nothing is supplied
+pub shaped-entry : (f : Format) (n : ℕ) (v : List ℕ) → entryBytes n (withFormat f (some v)) ≡ shaped f n v
+unfolding entryBytes withFormat shaped
+shaped-entry Numeric n v = refl
+shaped-entry CardNumber n v = refl
+shaped-entry Other n v = refl
+shaped-entry Unknown n v = refl
+
+pub blank-entry : (f : Format) (n : ℕ) → entryBytes n (withFormat f none) ≡ zeros n
+unfolding entryBytes withFormat
+blank-entry f n = refl
 
 -- an entry's bytes are as many as it asks for, and the list's as many as all of them do
 pub shaped-length : (f : Format) (n : ℕ) (v : List ℕ) → length (shaped f n v) ≡ n

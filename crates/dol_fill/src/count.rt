@@ -5,6 +5,7 @@ use dol_values::supply::format_of;
 use dol_values::supply::own_field;
 use dol_wanted::is_fillable;
 use session_records::slots::has;
+use start_fields::fields::bytes;
 use std::num::wrapping_add_usize;
 use tlv_head::tag::tag_of;
 use tlv_head::tag::tag_size;
@@ -24,7 +25,7 @@ fn is_there(start: &[u8], known: &[u8], tag: usize) -> bool
     ensures { λ r. ⌜ r ≡ isSome (valueFor (readingOf (now (start .entry))) (toldIn (now (known .entry))) tag) ⌝ }
 {
     match own_field(tag) {
-        Own::Of(_) => true,
+        Own::Of(field) => bytes(start, field).len() != 0,
         Own::Nothing => has(known, tag),
     }
 }

@@ -1,8 +1,10 @@
 // Filling an object list.
+use answer_common::content::Format;
 use dol_values::Own;
 use dol_values::shape::shape;
 use dol_values::supply::format_of;
 use dol_values::supply::own_field;
+use dol_wanted::MOST;
 use dol_wanted::size_at;
 use dol_wanted::total;
 use session_records::slots::has;
@@ -15,12 +17,25 @@ ghost use mathlib.Core.Path.{_≡_};
 ghost use mathlib.Core.Bool.{true};
 ghost use Prim.Native.Nat.{_+_, _≤_};
 ghost use lib.ListN.{length};
+ghost use Rattle.slices.specs.Choice.{unlessEmpty};
 ghost use Rattle.slices.specs.Writing.{put, laid};
 ghost use Rattle.start_fields.specs.Reading.{readingOf};
 ghost use Rattle.dol_wanted.specs.Wanted.{sizeAt, fillable, totalOf};
 ghost use Rattle.session_records.specs.Slots.{toldIn};
-ghost use Rattle.dol_values.specs.Known.{supplied};
+ghost use Rattle.dol_values.specs.Known.{withFormat, supplied};
 ghost use Rattle.dol_fill.specs.Filled.{entryBytes, firstBytes, filledList, filling};
+
+// A field of START in its entry's place, or zeros where START does not have it.
+fn fill_own(part: &mut [u8], format: Format, v: &[u8])
+    ensures { λ _. ⌜ now (part .exit)
+        ≡ entryBytes (length (now (part .entry))) (withFormat format (unlessEmpty (now (v .entry)))) ⌝ }
+{
+    if v.len() == 0 {
+        blank(part, 0);
+    } else {
+        shape(part, format, v);
+    }
+}
 
 // One entry's place, filled with the value of its tag, or with zeros where there is none.
 fn fill_entry(part: &mut [u8], start: &[u8], known: &[u8], tag: usize)
@@ -29,7 +44,7 @@ fn fill_entry(part: &mut [u8], start: &[u8], known: &[u8], tag: usize)
 {
     let format = format_of(tag);
     match own_field(tag) {
-        Own::Of(field) => shape(part, format, bytes(start, field)),
+        Own::Of(field) => fill_own(part, format, bytes(start, field)),
         Own::Nothing => {
             if has(known, tag) {
                 shape(part, format, value(known, tag));
@@ -73,7 +88,7 @@ pub fn fill(list: &[u8], start: &[u8], known: &[u8], buf: &mut [u8], at: usize)
         ≡ laid (filling (readingOf (now (start .entry))) (toldIn (now (known .entry))) (now (list .entry))) at (now (buf .entry)) ⌝ }
 {
     let n = total(list);
-    if 252 < n {
+    if MOST < n {
         return;
     }
     if buf.len() < at {

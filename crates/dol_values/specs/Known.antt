@@ -4,6 +4,7 @@
 use mathlib.Core.List.{List, [], _∷_, map}
 use mathlib.Core.Option.{Option, none, some}
 use Prim.Native.Nat.{ℕ}
+use Rattle.slices.specs.Choice.{unlessEmpty}
 use Rattle.slices.specs.Tables.{beside}
 use Rattle.start_fields.specs.Reading.{Terminal, bytesOf}
 use Rattle.answer_common.specs.declared.content.Format.{Format}
@@ -17,10 +18,10 @@ use Rattle.dol_values.specs.declared.Own.the-variants.{Of, Nothing}
 unfoldable pub ownField : ℕ → Own
 ownField tag = beside Nothing tag (map (λ row. (row .0, Of (row .1 .0))) ownTable)
 
--- START's own, and else what is known beside it: TVR and TSI at any time, the response code from the second request on, and the
--- rest once it was read
+-- START's own, where START has it, and else what is known beside it: TVR and TSI at any time, the response code from the second
+-- request on, and the rest once it was read
 unfoldable pub valueBy : Terminal → Option (List ℕ) → Own → Option (List ℕ)
-valueBy t other (Of field) = some (bytesOf field t)
+valueBy t other (Of field) = unlessEmpty (bytesOf field t)
 valueBy t other Nothing = other
 
 unfoldable pub valueFor : Terminal → Facts → ℕ → Option (List ℕ)

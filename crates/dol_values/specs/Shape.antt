@@ -6,7 +6,7 @@ use lib.ListN.{length, take, drop, replicate}
 use Rattle.slices.specs.Tables.{beside}
 use Rattle.slices.specs.Writing.{zeros}
 use Rattle.start_fields.specs.declared.fields.Field.{Field}
-use Rattle.start_fields.specs.declared.fields.Field.the-variants.{Amount, OtherAmount, Country, Currency, Date, TransactionType, Unpredictable, Version}
+use Rattle.start_fields.specs.declared.fields.Field.the-variants.{Amount, OtherAmount, Country, Currency, Date, TransactionType, Unpredictable, Version, Capabilities}
 use Rattle.answer_common.specs.Content.{recordFormats}
 use Rattle.answer_common.specs.declared.content.Format.{Format}
 use Rattle.answer_common.specs.declared.content.Format.the-variants.{Numeric, CardNumber, Other, Unknown}
@@ -30,6 +30,8 @@ ownTable =
     ∷ (0x9C, (TransactionType, Numeric))
     ∷ (0x9F37, (Unpredictable, Other))
     ∷ (0x9F09, (Version, Other))
+    -- 02, R-7
+    ∷ (0x9F33, (Capabilities, Other))
     ∷ []
 
 -- TVR, TSI, response code and profile

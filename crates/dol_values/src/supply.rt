@@ -18,6 +18,7 @@ pub fn format_of(tag: usize) -> Format
         0x9C => Format::Numeric,
         0x9F37 => Format::Other,
         0x9F09 => Format::Other,
+        0x9F33 => Format::Other,
         0x95 => Format::Other,
         0x9B => Format::Other,
         0x8A => Format::Other,
@@ -31,6 +32,8 @@ pub fn format_of(tag: usize) -> Format
         0x9F0D => Format::Other,
         0x9F0E => Format::Other,
         0x9F0F => Format::Other,
+        0x8E => Format::Unknown,
+        0x9F42 => Format::Unknown,
         _ => Format::Unknown,
     }
 }
@@ -47,6 +50,7 @@ pub fn own_field(tag: usize) -> Own
         0x9C => Own::Of(Field::TransactionType),
         0x9F37 => Own::Of(Field::Unpredictable),
         0x9F09 => Own::Of(Field::Version),
+        0x9F33 => Own::Of(Field::Capabilities),
         _ => Own::Nothing,
     }
 }

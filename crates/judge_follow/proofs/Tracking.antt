@@ -33,7 +33,7 @@ use Rattle.session_state.specs.Results.{decisionIn}
 use Rattle.session_state.specs.declared.State.{State}
 use Rattle.session_moves.specs.Moves.{Moved, speakerOf, keptAs, replyIn, bufferIn}
 use Rattle.session_events.specs.Events.{allowedBy, step}
-use Rattle.session_laws.specs.Agreeing.{Knows, StandsAt}
+use Rattle.session_laws.specs.Agreeing.{StandsAt}
 use Rattle.session_laws.specs.Logging.{Follows}
 use Rattle.session_laws.proofs.Words.{allowed-by}
 use Rattle.session_laws.proofs.Telling.{kind-due}
@@ -211,8 +211,7 @@ module _ (k total : ℕ) (j : Judgement) (kind : ℕ) (p : List ℕ) (ok : isPay
   -- somebody else's word: the speaker that the state waits for is the machine's
   module _ (h : Heard) (s : StandsAt (j .state) (hears h)) where
     may-say : allowedBy (speakerOf h) p ≡ allowed h p
-    unfolding Knows
-    may-say = sym (allowed-by (speakerOf h) (j .state) p) ∙ ap (λ (x : Heard). allowed x p) (s .knows)
+    may-say = allowed-by h p
 
     abbrev standing : Progress
     standing = reached (at (hears h)) k

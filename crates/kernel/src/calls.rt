@@ -8,15 +8,18 @@ use session_events::event;
 use session_moves::Step as Move;
 use session_phase::Reply;
 use session_phase::Waiting;
+use session_phase::results_due;
 use session_state::State;
 use session_state::change;
 use tape_read::ANSWER;
 use tape_read::HOST;
+use tape_read::RESULTS;
 use tape_read::SILENCE;
 use tape_read::START;
 ghost use mathlib.Core.Path.{_≡_};
 ghost use mathlib.Core.List.{List, []};
-ghost use Rattle.tape_read.specs.Entries.{entry, start as startKind, answer as answerKind, silence as silenceKind, host as hostKind};
+ghost use Rattle.tape_read.specs.Entries.{entry, start as startKind, answer as answerKind, silence as silenceKind, host as hostKind, results as resultsKind};
+ghost use Rattle.session_phase.specs.Waiting.{resultsIn};
 ghost use Rattle.session_phase.specs.declared.Reply.the-variants.{Refused, Closed as ClosedReply};
 ghost use Rattle.dol_fill.specs.Filled.{summed};
 ghost use Rattle.kernel.specs.Calls.{called, call, closedState, freshSession};
@@ -108,6 +111,22 @@ impl Session {
         ensures { λ r. ⌜ called r (now (command .exit)) ≡ call self (entry hostKind (now (h .entry))) (now (command .entry)) ⌝ }
     {
         self.event(HOST, h, command)
+    }
+
+    // The results of cardholder verification.
+    pub fn results(self, r: &[u8], command: &mut [u8]) -> Step
+        ensures { λ s. ⌜ called s (now (command .exit)) ≡ call self (entry resultsKind (now (r .entry))) (now (command .entry)) ⌝ }
+    {
+        self.event(RESULTS, r, command)
+    }
+
+    // How many of them are due; 0 where none are.
+    pub fn results_due(self) -> usize
+        ensures { λ r. ⌜ r ≡ resultsIn (self .state .waiting) ⌝ }
+    {
+        let state = self.state;
+        let waiting = state.waiting;
+        results_due(waiting)
     }
 
     pub fn silence(self, command: &mut [u8]) -> Step

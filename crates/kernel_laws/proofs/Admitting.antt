@@ -17,11 +17,10 @@ use Rattle.session_phase.specs.declared.Question.{Question}
 use Rattle.session_phase.specs.declared.Speaker.{Speaker}
 use Rattle.session_phase.specs.declared.Waiting.{Waiting}
 use Rattle.session_phase.specs.declared.Waiting.the-variants.{ForCard, ForWord}
-use Rattle.session_events.specs.Events.{allowedBy}
 use Rattle.session_laws.proofs.Words.{no-silence, some-kind}
-use Rattle.kernel_refusals.specs.Refusals.{isDue, startBad, answerBad, replyBad, refusalLines, callRefusal}
+use Rattle.kernel_refusals.specs.Refusals.{isDue, startBad, answerBad, replyBad, resultsBad, refusalLines, callRefusal}
 use Rattle.kernel.specs.declared.Session.{Session}
-use Rattle.kernel_laws.proofs.Words.{word-passes}
+use Rattle.kernel_laws.proofs.Words.{takenBy, word-passes}
 
 -- an event of the kind that is waited for, which is no silence, is due
 kind-due : (x : Waiting) (e : Entry) → (e .kind ≡ silence → ⊥) → e .kind ≡ awaited x → isDue x e ≡ true
@@ -34,23 +33,24 @@ goes-on x h = ne-eqb (awaited x) 0 h
 
 module _ (s : Session) (buf : List ℕ) (room : longest ≤ length buf) where
   free : (e : Entry) → (awaited (s .state .waiting) ≡ 0 → ⊥) → startBad e ≡ false → isDue (s .state .waiting) e ≡ true → answerBad e ≡ false
-      → replyBad e ≡ false
+      → replyBad e ≡ false → resultsBad (s .state .waiting) e ≡ false
       → callRefusal (s .state .waiting) e buf ≡ 0
   unfolding callRefusal refusalLines
-  free e over start due long reply =
+  free e over start due long reply results =
       line-no refl 1 _ (le-ltb (length buf) longest room)
       ∙ (line-no refl 2 _ (goes-on (s .state .waiting) over)
-      ∙ (line-no refl 3 _ start ∙ (line-no refl 4 _ (ap not due) ∙ (line-no refl 5 _ long ∙ last-no refl 6 reply))))
+      ∙ (line-no refl 3 _ start ∙ (line-no refl 4 _ (ap not due) ∙ (line-no refl 5 _ long ∙ (line-no refl 6 _ reply
+      ∙ last-no refl 12 results)))))
 
   pub answer-free : (question : Question) → s .state .waiting ≡ ForCard question → (a : List ℕ) → length a ≤ payloadMost
       → callRefusal (s .state .waiting) (entry answer a) buf ≡ 0
-  unfolding awaited startBad answerBad replyBad
+  unfolding awaited startBad answerBad replyBad resultsBad
   answer-free question k a most =
       let waits : awaited (s .state .waiting) ≡ answer = ap awaited k in
       free (entry answer a) (λ z. let none : answer ≡ 0 = sym waits ∙ z in omega arith) refl
-      (kind-due (s .state .waiting) (entry answer a) (λ e. omega arith) (sym waits)) (le-ltb payloadMost (length a) most) refl
+      (kind-due (s .state .waiting) (entry answer a) (λ e. omega arith) (sym waits)) (le-ltb payloadMost (length a) most) refl refl
 
-  pub word-free : (speaker : Speaker) → s .state .waiting ≡ ForWord speaker → (p : List ℕ) → allowedBy speaker p ≡ true
+  pub word-free : (speaker : Speaker) → s .state .waiting ≡ ForWord speaker → (p : List ℕ) → takenBy speaker p ≡ true
       → callRefusal (s .state .waiting) (entry (kindOf speaker) p) buf ≡ 0
   unfolding awaited
   word-free speaker k p fits =
@@ -58,3 +58,4 @@ module _ (s : Session) (buf : List ℕ) (room : longest ≤ length buf) where
       let own = word-passes p speaker fits in
       free (entry (kindOf speaker) p) (λ z. some-kind speaker (sym waits ∙ z)) (own .0)
       (kind-due (s .state .waiting) (entry (kindOf speaker) p) (no-silence speaker) (sym waits)) (own .1) (own .2)
+      (ap (λ (x : Waiting). resultsBad x (entry (kindOf speaker) p)) k ∙ own .3)

@@ -1,5 +1,5 @@
--- Every session of the rulebook is the log of a kernel session, decided at its end: its events are bytes that the kernel takes one
--- after the other. And the kernel, as a function of the entries so far, gives what the rulebook asks of one.
+-- Every session of the rulebook that can be begun is the log of a kernel session, decided at its end: its events are bytes that the
+-- kernel takes one after the other. And the kernel, as a function of the entries so far, gives what the rulebook asks of one.
 -- Assumes nothing.
 use mathlib.Core.Path.{_≡_, refl, sym, ap, _∙_, subst}
 use mathlib.Core.Bool.{true, false}
@@ -21,7 +21,7 @@ use Rattle.rulebook.specs.Session.{Plays, exchanged, heard, decided, Session as
 use Rattle.rulebook.specs.Machine.{at, done, run}
 use Rattle.rulebook.proofs.Running.{taken, session-run}
 use Rattle.rulebook.proofs.Reading.{run-append}
-use Rattle.rulebook.specs.Roles.{given, RightKernel}
+use Rattle.rulebook.specs.Roles.{given, begins, RightKernel}
 use Rattle.kernel_laws.specs.Log.{Call, plays, allBytes}
 use Rattle.kernel_laws.specs.Replay.{callsIn, firstEntry, givenAfter}
 use Rattle.kernel_laws.specs.Ending.{Reproduces}
@@ -50,17 +50,17 @@ plays-bytes buf (decided {d} f) = own-bytes buf (entry decision d) [] refl refl
 
 -- ---- the kernel plays every session
 -- with any buffer that is long enough
-pub session-logged : (buf : List ℕ) → longest ≤ length buf → (es : List Entry) → WholeSession es → Reproduces buf es
+pub session-logged : (buf : List ℕ) → longest ≤ length buf → (es : List Entry) → WholeSession es → begins es ≡ true → Reproduces buf es
 unfolding WholeSession
-session-logged buf room es whole =
+session-logged buf room es whole begun =
     let bytes = plays-bytes buf whole in
-    let log = session-played buf room es whole in
+    let log = session-played buf room es whole begun in
     record { bytes = bytes; log = log; decides = any-calls (callsIn buf es) bytes .decided (subst WholeSession (sym log) whole) }
 
-pub every-session : (es : List Entry) → WholeSession es → (cs : List Call) × (plays cs .log ≡ es)
-every-session es whole =
+pub every-session : (es : List Entry) → WholeSession es → begins es ≡ true → (cs : List Call) × (plays cs .log ≡ es)
+every-session es whole begun =
     let size = zeros-length longest in
-    (callsIn (zeros longest) es, session-logged (zeros longest) (omega arith) es whole .log)
+    (callsIn (zeros longest) es, session-logged (zeros longest) (omega arith) es whole begun .log)
 
 -- ---- and is right, in the rulebook's sense
 module _ (buf : List ℕ) where
@@ -75,9 +75,15 @@ module _ (buf : List ℕ) where
   unfolding callsIn
   no-call e g = own-entry buf e [] g
 
+  -- it is the first entry that begins a session, however many follow
+  front-begins : (es : List Entry) (e : Entry) (rest : List Entry) → begins (es ++ (e ∷ rest)) ≡ begins (es ++ (e ∷ []))
+  unfolding begins
+  front-begins [] e rest = refl
+  front-begins (x ∷ es) e rest = refl
+
   pub right : longest ≤ length buf → RightKernel (givenAfter buf)
   unfolding RightKernel givenAfter firstEntry
-  right room es e rest whole g =
+  right room es e rest whole begun g =
       let split = append-assoc es (e ∷ []) rest in
       let read = session-run (es ++ (e ∷ rest)) whole in
       let t =
@@ -86,6 +92,7 @@ module _ (buf : List ℕ) where
       in
       let log : plays (callsIn buf es) .log ≡ es ++ (e ∷ pending (t .0)) =
       ap (λ (cs : List Call). plays cs .log) (sym (calls-append es (e ∷ []) (no-call e g)))
-      ∙ (read-played buf room (es ++ (e ∷ [])) (t .0) (t .1 .0) ∙ append-assoc es (e ∷ []) (pending (t .0)))
+      ∙ (read-played buf room (es ++ (e ∷ [])) (t .0) (t .1 .0) (sym (front-begins es e rest) ∙ begun)
+      ∙ append-assoc es (e ∷ []) (pending (t .0)))
       in
       ap (λ (l : List Entry). firstEntry (drop (length es) l)) log ∙ ap firstEntry (drop-at es (e ∷ pending (t .0)) (length es) refl)

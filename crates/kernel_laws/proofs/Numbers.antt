@@ -1,31 +1,23 @@
 -- The number of a call that is turned away is that of the first line of 01's table that applies to it, and a call is taken exactly
 -- where no line does.
 -- Assumes nothing.
-use mathlib.Core.Path.{_≡_, refl, sym, ap, _∙_, subst}
+use mathlib.Core.Path.{_≡_, refl, sym, ap, _∙_}
 use mathlib.Core.Bool.{Bool, true, false, false≢true}
-use mathlib.Core.List.{List, [], _∷_}
+use mathlib.Core.List.{List, [], _∷_, map}
 use mathlib.Core.Logic.{_⊎_, inl, inr, ⊎-elim}
-use Prim.Native.Nat.{ℕ, zero, suc, _+_, _<_}
+use Prim.Native.Nat.{ℕ, zero, suc, _<_}
 use native.Mathlib.Omega.{arith}
 use lib.ListN.{getD}
-use Rattle.slices.specs.Choice.{pick, firstOf}
+use Rattle.slices.specs.Choice.{firstOf}
 use Rattle.slices.proofs.Choice.{pick-yes, pick-no}
 use Rattle.kernel.specs.declared.Session.{Session}
 use Rattle.session_phase.specs.declared.Reply.the-variants.{Refused}
 use Rattle.kernel_refusals.specs.Refusals.{refusalLines, callRefusal}
 use Rattle.kernel.specs.Calls.{Called, refused}
 use Rattle.kernel_laws.specs.Log.{Call, made}
-use Rattle.kernel_laws.specs.Table.{tableOf, FirstLine, NoLine}
+use Rattle.kernel_laws.specs.Table.{tableOf, numbersOf, FirstLine, NoLine}
 use Rattle.kernel_laws.proofs.Turning.{call-refused}
 use Rattle.kernel_laws.proofs.Refusing.{number-of}
-
-unfoldable numbered : ℕ → List Bool → List (Bool × ℕ)
-numbered k [] = []
-numbered k (t ∷ table) = (t, k) ∷ numbered (suc k) table
-
-table-first : (s : Session) (c : Call) → callRefusal (s .state .waiting) (c .event) (c .buffer) ≡ firstOf (numbered 1 (tableOf s c))
-unfolding callRefusal refusalLines numbered tableOf
-table-first s c = refl
 
 -- ---- any table
 deeper : (t : Bool) (table : List Bool) (line : ℕ) → t ≡ false → FirstLine table line → FirstLine (t ∷ table) (suc line)
@@ -46,43 +38,85 @@ found (true ∷ table) = inl (0, record { applies = refl; alone = λ n l. absurd
 found (false ∷ table) =
     ⊎-elim (λ h. inl (suc (h .0), deeper false table (h .0) refl (h .1))) (λ h. inr (none-deeper false table refl h)) (found table)
 
-first-number : (table : List Bool) (k line : ℕ) → FirstLine table line → firstOf (numbered k table) ≡ k + line
-unfolding firstOf numbered
-first-number [] k line h = absurd (false≢true (h .applies))
-first-number (t ∷ table) k zero h = pick-yes _ _ _ (h .applies) ∙ omega arith
-first-number (t ∷ table) k (suc line) h =
-    let rest = first-number table (suc k) line (record { applies = h .applies; alone = λ n l. h .alone (suc n) (omega arith) }) in
-    pick-no _ _ _ (h .alone 0 (omega arith)) ∙ (rest ∙ omega arith)
+-- the tests of some lines, and their numbers
+abbrev tests : List (Bool × ℕ) → List Bool
+tests lines = map (λ line. line .0) lines
 
-none-number : (table : List Bool) (k : ℕ) → NoLine table → firstOf (numbered k table) ≡ 0
-unfolding firstOf numbered
-none-number [] k h = refl
-none-number (t ∷ table) k h = pick-no _ _ _ (h 0) ∙ none-number table (suc k) (λ n. h (suc n))
+abbrev numbers : List (Bool × ℕ) → List ℕ
+numbers lines = map (λ line. line .1) lines
 
-number-first : (table : List Bool) (line : ℕ) → firstOf (numbered 1 table) ≡ 1 + line → FirstLine table line
-number-first table line e =
-    ⊎-elim
-    (λ h. let n = first-number table 1 (h .0) (h .1) in let same : h .0 ≡ line = omega arith in subst (FirstLine table) same (h .1))
-    (λ h. absurd (let n = none-number table 1 h in omega arith))
-    (found table)
+-- each number is another than 0
+abbrev Numbered : List (Bool × ℕ) → Type 0
+Numbered [] = Unit {0}
+Numbered (line ∷ lines) = (line .1 ≡ 0 → ⊥) × Numbered lines
+
+next-line : (t : Bool) (table : List Bool) (line : ℕ) → FirstLine (t ∷ table) (suc line) → FirstLine table line
+next-line t table line h = record { applies = h .applies; alone = λ n l. h .alone (suc n) (omega arith) }
+
+first-number : (lines : List (Bool × ℕ)) (line : ℕ) → FirstLine (tests lines) line → firstOf lines ≡ getD (numbers lines) line 0
+unfolding firstOf
+first-number [] line h = absurd (false≢true (h .applies))
+first-number (l ∷ lines) zero h = pick-yes _ _ _ (h .applies)
+first-number (l ∷ lines) (suc line) h =
+    pick-no _ _ _ (h .alone 0 (omega arith)) ∙ first-number lines line (next-line (l .0) (tests lines) line h)
+
+some-number : (lines : List (Bool × ℕ)) → Numbered lines → (line : ℕ) → FirstLine (tests lines) line → getD (numbers lines) line 0 ≡ 0 → ⊥
+some-number [] ns line h = absurd (false≢true (h .applies))
+some-number (l ∷ lines) ns zero h = ns .0
+some-number (l ∷ lines) ns (suc line) h = some-number lines (ns .1) line (next-line (l .0) (tests lines) line h)
+
+none-number : (lines : List (Bool × ℕ)) → NoLine (tests lines) → firstOf lines ≡ 0
+unfolding firstOf
+none-number [] h = refl
+none-number (l ∷ lines) h = pick-no _ _ _ (h 0) ∙ none-number lines (λ n. h (suc n))
 
 -- ---- the kernel's
 module _ (s : Session) (c : Call) where
-  -- a number, and the first line of the table that applies; lines are counted from 0, numbers from 1
-  pub number-line : (line : ℕ) → made s c .reply ≡ Refused (1 + line) → FirstLine (tableOf s c) line
-  unfolding made
-  number-line line h = number-first (tableOf s c) line (sym (table-first s c) ∙ number-of s (c .event) (c .buffer) (1 + line) h .0)
+  abbrev lines : List (Bool × ℕ)
+  lines = refusalLines (s .state .waiting) (c .event) (c .buffer)
 
-  pub line-number : (line : ℕ) → FirstLine (tableOf s c) line → made s c .reply ≡ Refused (1 + line)
-  unfolding made refused
+  all-numbered : Numbered lines
+  unfolding refusalLines
+  all-numbered = (
+    (λ z. omega arith),
+    (
+      (λ z. omega arith),
+      (
+        (λ z. omega arith),
+        (
+          (λ z. omega arith),
+          (
+            (λ z. omega arith),
+            (
+              (λ z. omega arith),
+              ((λ z. omega arith), tt),
+            ),
+          ),
+        ),
+      ),
+    ),
+  )
+
+  -- a number, and the first line of the table that applies
+  pub number-line : (n : ℕ) → made s c .reply ≡ Refused n
+      → (line : ℕ) × ((n ≡ getD (numbersOf s c) line 0) × FirstLine (tableOf s c) line)
+  unfolding made callRefusal numbersOf tableOf
+  number-line n h =
+      let it = number-of s (c .event) (c .buffer) n h in
+      ⊎-elim (λ f. (f .0, (sym (it .0) ∙ first-number lines (f .0) (f .1), f .1))) (λ none′. absurd (it .1 (none-number lines none′)))
+      (found (tests lines))
+
+  pub line-number : (line : ℕ) → FirstLine (tableOf s c) line → made s c .reply ≡ Refused (getD (numbersOf s c) line 0)
+  unfolding made refused callRefusal numbersOf tableOf
   line-number line h =
-      let n : callRefusal (s .state .waiting) (c .event) (c .buffer) ≡ 1 + line = table-first s c ∙ first-number (tableOf s c) 1 line h in
-      ap (λ (r : Called). r .reply) (call-refused s (c .event) (c .buffer) (λ z. omega arith)) ∙ ap Refused n
+      let n = first-number lines line h in
+      ap (λ (r : Called). r .reply) (call-refused s (c .event) (c .buffer) (λ z. some-number lines all-numbered line h (sym n ∙ z)))
+      ∙ ap Refused n
 
   -- and taken exactly where none applies
   pub none-taken : NoLine (tableOf s c) → (n : ℕ) → made s c .reply ≡ Refused n → ⊥
-  unfolding made
-  none-taken h n e = number-of s (c .event) (c .buffer) n e .1 (table-first s c ∙ none-number (tableOf s c) 1 h)
+  unfolding made callRefusal tableOf
+  none-taken h n e = number-of s (c .event) (c .buffer) n e .1 (none-number lines h)
 
   pub taken-none : ((n : ℕ) → made s c .reply ≡ Refused n → ⊥) → NoLine (tableOf s c)
-  taken-none h = ⊎-elim (λ f. absurd (h (1 + f .0) (line-number (f .0) (f .1)))) (λ none′. none′) (found (tableOf s c))
+  taken-none h = ⊎-elim (λ f. absurd (h _ (line-number (f .0) (f .1)))) (λ none′. none′) (found (tableOf s c))

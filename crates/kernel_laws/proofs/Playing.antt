@@ -1,6 +1,6 @@
 -- Whatever the rulebook's machine reads, the kernel plays: the events, handed to it one after the other with any buffers of 261 bytes,
 -- are all taken, and the commands and the decision between them are the ones that the kernel gives. So every session of the rulebook
--- is the log of a kernel session.
+-- whose START the kernel takes is the log of a kernel session.
 -- Assumes nothing.
 use mathlib.Core.Path.{_≡_, refl, sym, ap, _∙_, subst}
 use mathlib.Core.Bool.{Bool, true, false}
@@ -15,24 +15,25 @@ use Rattle.slices.proofs.Choice.{pick-yes, pick-no}
 use Rattle.slices.proofs.Comparing.{alike-same}
 use Rattle.tape_read.specs.Entries.{Entry, entry, command, answer, silence, decision}
 use Rattle.commands.specs.Commands.{longest}
+use Rattle.answer_record.specs.Records.{afterRecords}
+use Rattle.decide_requests.specs.Replies.{codeIn, replyOf}
 use Rattle.rulebook.specs.Situation.{Situation}
-use Rattle.rulebook.specs.Phase.{Asked, Heard, Phase, opens, asks, hears, decides, commandOf, dueKind, decisionOf}
-use Rattle.rulebook.specs.Turn.{turn, allowed, after as afterWord}
+use Rattle.rulebook.specs.Phase.{Asked, Heard, terminal, issuer, attendant, Phase, opens, asks, hears, decides, commandOf, dueKind, decisionOf}
+use Rattle.rulebook.specs.Turn.{opened, turn, allowed, replyMade, heard, verifiedBy, after as afterWord}
 use Rattle.rulebook.specs.Session.{isPayload, Session as WholeSession}
 use Rattle.rulebook.specs.Machine.{Machine, at, owes, done, due, sayable, next, run}
-use Rattle.rulebook.specs.Roles.{given}
+use Rattle.rulebook.specs.Roles.{given, begins}
+use Rattle.rulebook.proofs.Passing.{Holds, requested-holds, replied-holds, turn-holds}
 use Rattle.rulebook.proofs.Payloads.{payload-most}
 use Rattle.rulebook.proofs.Running.{due-entry, due-test, said-allowed, said-payload, chosen, taken, no-state, session-run}
 use Rattle.session_phase.specs.Waiting.{kindOf}
 use Rattle.session_phase.specs.declared.Speaker.{Speaker}
 use Rattle.dol_fill.specs.Filled.{summed}
-use Rattle.session_state.specs.Reading.{heardBy}
-use Rattle.session_state.specs.declared.State.{State}
 use Rattle.session_moves.specs.Moves.{Moved, questionOf, speakerOf, keptAs}
-use Rattle.session_events.specs.Events.{step}
-use Rattle.session_laws.specs.Agreeing.{Knows, StandsAt, Agrees}
+use Rattle.session_events.specs.Events.{allowedBy, step}
+use Rattle.session_laws.specs.Agreeing.{Agrees}
 use Rattle.session_laws.specs.Logging.{logged as ruled, landing, Follows as Steps}
-use Rattle.session_laws.proofs.Words.{no-silence, not-given, allowed-by}
+use Rattle.session_laws.proofs.Words.{no-silence, not-given}
 use Rattle.session_laws.proofs.Telling.{kind-due}
 use Rattle.session_laws.proofs.Stepping.{fresh-stands, lands-at, answer-step, word-step}
 use Rattle.kernel_refusals.specs.Refusals.{callRefusal}
@@ -43,6 +44,7 @@ use Rattle.kernel_laws.specs.Replay.{callsIn}
 use Rattle.kernel_laws.proofs.Turning.{call-taken, taken-step}
 use Rattle.kernel_laws.proofs.Giving.{step-gives, gives-logged}
 use Rattle.kernel_laws.proofs.Admitting.{answer-free, word-free}
+use Rattle.kernel_laws.proofs.Words.{takenBy}
 
 -- what the kernel has logged before the machine has read it
 unfoldable pub pending : Machine → List Entry
@@ -65,9 +67,45 @@ module _ (buf : List ℕ) where
 pub word-event : (h : Heard) (p : List ℕ) → given (entry (dueKind h) p) ≡ false
 word-event h p = ap (λ (k : ℕ). given (entry k p)) (sym (kind-due h)) ∙ not-given (speakerOf h) p
 
-word-spoken : (h : Heard) (s : State) (p : List ℕ) → StandsAt s (hears h) → allowed h p ≡ true → allowed (heardBy (speakerOf h) s) p ≡ true
-unfolding Knows
-word-spoken h s p stands fits = ap (λ (x : Heard). allowed x p) (stands .knows) ∙ fits
+-- a START that is still to come is one that the kernel takes; nowhere later does the machine wait for one
+abbrev pub Willing : Machine → List Entry → Type 0
+Willing (at (asks w)) es = Unit {0}
+Willing (at (hears terminal)) es = begins es ≡ true
+Willing (at (hears (issuer z))) es = Unit {0}
+Willing (at (hears (attendant z))) es = Unit {0}
+Willing (at (decides outcome reason z)) es = Unit {0}
+Willing (owes w) es = Unit {0}
+Willing done es = Unit {0}
+
+abbrev Anything : Situation → Type 0
+Anything z = Unit {0}
+
+later : (p : Phase) → Holds Anything p → (es : List Entry) → Willing (at p) es
+unfolding Holds
+later (asks w) h es = tt
+later (hears terminal) h es = absurd h
+later (hears (issuer z)) h es = tt
+later (hears (attendant z)) h es = tt
+later (decides outcome reason z) h es = tt
+
+turn-willing : (w : Asked) (a : List ℕ) (es : List Entry) → Willing (at (turn w a)) es
+turn-willing w a es =
+    later (turn w a)
+    (turn-holds Anything (record { profile = λ z v h. tt; told = λ z r h. tt; read = λ z h. tt; first = λ z h. tt }) w a tt) es
+
+word-willing : (h : Heard) (p : List ℕ) (es : List Entry) → Willing (at (afterWord h p)) es
+unfolding afterWord opened heard
+word-willing terminal p es = tt
+word-willing (issuer z) p es = later _ (replied-holds Anything z tt (replyMade (replyOf p)) (codeIn p)) es
+word-willing (attendant z) p es = later _ (requested-holds Anything (verifiedBy z p) tt (afterRecords (z .facts))) es
+
+-- what may be said there, the kernel takes
+word-taken : (h : Heard) (e : Entry) (es : List Entry) → allowed h (e .payload) ≡ true → Willing (at (hears h)) (e ∷ es)
+    → takenBy (speakerOf h) (e .payload) ≡ true
+unfolding takenBy speakerOf begins allowed allowedBy
+word-taken terminal e es fits w = w
+word-taken (issuer z) e es fits w = fits
+word-taken (attendant z) e es fits w = fits
 
 module _ (buf : List ℕ) (room : longest ≤ length buf) where
   -- the kernel plays entries from a state of the machine to another: its log grows by them, and by what is pending at the end
@@ -122,16 +160,15 @@ module _ (buf : List ℕ) (room : longest ≤ length buf) where
       (answer-step (s .state) w a buf h ok) refl
       es τ rest log
 
-  word-goes : (h : Heard) (p : List ℕ) (es : List Entry) (τ : Machine) → allowed h p ≡ true → isPayload p ≡ true
-      → Goes (at (afterWord h p)) es τ
+  word-goes : (h : Heard) (p : List ℕ) (es : List Entry) (τ : Machine) → allowed h p ≡ true → takenBy (speakerOf h) p ≡ true
+      → isPayload p ≡ true → Goes (at (afterWord h p)) es τ
       → Goes (at (hears h)) (entry (dueKind h) p ∷ es) τ
   unfolding pending ruled Agrees keptAs
-  word-goes h p es τ fits ok rest s stands log =
+  word-goes h p es τ fits takes ok rest s stands log =
       let e = entry (dueKind h) p in
-      let may = sym (allowed-by (speakerOf h) (s .state) p) ∙ word-spoken h (s .state) p stands fits in
       let free : callRefusal (s .state .waiting) e buf ≡ 0 =
       ap (λ (k : ℕ). callRefusal (s .state .waiting) (entry k p) buf) (sym (kind-due h))
-      ∙ word-free s buf room (speakerOf h) (stands .waits) p may
+      ∙ word-free s buf room (speakerOf h) (stands .waits) p takes
       in
       goes-one s e (at (hears h)) (afterWord h p) (step (s .state) p buf) free
       (steps-as s e free (λ k. no-silence (speakerOf h) (kind-due h ∙ k)))
@@ -160,53 +197,56 @@ module _ (buf : List ℕ) (room : longest ≤ length buf) where
 
   -- ---- whatever the machine takes
   abbrev Onward : List Entry → Machine → Type 0
-  Onward es τ = (σ : Machine) → run es σ ≡ some τ → Goes σ es τ
+  Onward es τ = (σ : Machine) → run es σ ≡ some τ → Willing σ es → Goes σ es τ
 
   module _ (es : List Entry) (τ : Machine) (on : Onward es τ) where
     -- the machine's next state is known
-    settled : (σ σ′ : Machine) (o : Option Machine) → o ≡ some σ → o ≡ some σ′ → run es σ ≡ some τ → Goes σ′ es τ
-    settled σ σ′ o a b r = let same : some σ ≡ some σ′ = sym a ∙ b in on σ′ (subst (λ (x : Machine). run es x ≡ some τ) (cc same) r)
+    settled : (σ σ′ : Machine) (o : Option Machine) → o ≡ some σ → o ≡ some σ′ → run es σ ≡ some τ → Willing σ′ es → Goes σ′ es τ
+    settled σ σ′ o a b r w = let same : some σ ≡ some σ′ = sym a ∙ b in on σ′ (subst (λ (x : Machine). run es x ≡ some τ) (cc same) r) w
 
-    by-state : (e : Entry) (σ ρ : Machine) → next σ e ≡ some ρ → run es ρ ≡ some τ → Goes σ (e ∷ es) τ
+    by-state : (e : Entry) (σ ρ : Machine) → next σ e ≡ some ρ → run es ρ ≡ some τ → Willing σ (e ∷ es) → Goes σ (e ∷ es) τ
     unfolding next
-    by-state e (at (asks w)) ρ h r =
+    by-state e (at (asks w)) ρ h r will =
         let c = chosen (due command (alike (e .payload) (commandOf w)) e) (some (owes w)) ρ h in
         let same = alike-same (e .payload) (commandOf w) (due-test command _ e (c .0)) in
         subst (λ (x : Entry). Goes (at (asks w)) (x ∷ es) τ) (sym (due-entry command _ e (c .0) ∙ ap (entry command) same))
-        (command-goes w es τ (settled ρ (owes w) _ (c .1) refl r))
-    by-state e (at (hears h)) ρ n r =
+        (command-goes w es τ (settled ρ (owes w) _ (c .1) refl r tt))
+    by-state e (at (hears h)) ρ n r will =
         let p = e .payload in
         let c = chosen (due (dueKind h) (sayable h p) e) (some (at (afterWord h p))) ρ n in
         let said = due-test (dueKind h) _ e (c .0) in
         subst (λ (x : Entry). Goes (at (hears h)) (x ∷ es) τ) (sym (due-entry (dueKind h) _ e (c .0)))
-        (word-goes h p es τ (said-allowed h p said) (said-payload h p said) (settled ρ (at (afterWord h p)) _ (c .1) refl r))
-    by-state e (at (decides outcome reason z)) ρ h r =
+        (word-goes h p es τ (said-allowed h p said) (word-taken h e es (said-allowed h p said) will) (said-payload h p said)
+        (settled ρ (at (afterWord h p)) _ (c .1) refl r (word-willing h p es)))
+    by-state e (at (decides outcome reason z)) ρ h r will =
         let c = chosen (due decision (alike (e .payload) (decisionOf outcome reason z)) e) (some done) ρ h in
         let same = alike-same (e .payload) (decisionOf outcome reason z) (due-test decision _ e (c .0)) in
         subst (λ (x : Entry). Goes (at (decides outcome reason z)) (x ∷ es) τ)
         (sym (due-entry decision _ e (c .0) ∙ ap (entry decision) same))
-        (decision-goes outcome reason z es τ (settled ρ done _ (c .1) refl r))
-    by-state e (owes w) ρ h r =
+        (decision-goes outcome reason z es τ (settled ρ done _ (c .1) refl r tt))
+    by-state e (owes w) ρ h r will =
         let c = chosen (due answer (isPayload (e .payload)) e) (some (at (turn w (e .payload)))) ρ h in
         subst (λ (x : Entry). Goes (owes w) (x ∷ es) τ) (sym (due-entry answer _ e (c .0)))
-        (answer-goes w (e .payload) es τ (due-test answer _ e (c .0)) (settled ρ (at (turn w (e .payload))) _ (c .1) refl r))
-    by-state e done ρ h r = no-state ρ h
+        (answer-goes w (e .payload) es τ (due-test answer _ e (c .0)) (settled ρ (at (turn w (e .payload))) _ (c .1) refl r
+        (turn-willing w (e .payload) es)))
+    by-state e done ρ h r will = no-state ρ h
 
   goes : (es : List Entry) (τ : Machine) → Onward es τ
   unfolding run callsIn playsFrom
-  goes [] τ σ h =
+  goes [] τ σ h will =
       let same : σ ≡ τ = cc h in
       λ s a log. ap (λ (x : Machine). log ++ pending x) same ∙ ap (λ (l : List Entry). l ++ pending τ) (sym (append-nil log))
-  goes (e ∷ es) τ σ h =
+  goes (e ∷ es) τ σ h will =
       let t = taken (run es) (next σ e) τ h in
-      by-state es τ (goes es τ) e σ (t .0) (t .1 .0) (t .1 .1)
+      by-state es τ (goes es τ) e σ (t .0) (t .1 .0) (t .1 .1) will
 
   -- from fresh: the entries that were read, and what is pending
-  pub read-played : (es : List Entry) (τ : Machine) → run es (at opens) ≡ some τ → plays (callsIn buf es) .log ≡ es ++ pending τ
+  pub read-played : (es : List Entry) (τ : Machine) → run es (at opens) ≡ some τ → begins es ≡ true
+      → plays (callsIn buf es) .log ≡ es ++ pending τ
   unfolding plays freshSession Agrees pending ruled
-  read-played es τ h = goes es τ (at opens) h freshSession fresh-stands []
+  read-played es τ h begun = goes es τ (at opens) h begun freshSession fresh-stands []
 
   -- a whole session leaves nothing pending
-  pub session-played : (es : List Entry) → WholeSession es → plays (callsIn buf es) .log ≡ es
+  pub session-played : (es : List Entry) → WholeSession es → begins es ≡ true → plays (callsIn buf es) .log ≡ es
   unfolding pending
-  session-played es whole = read-played es done (session-run es whole) ∙ append-nil es
+  session-played es whole begun = read-played es done (session-run es whole) begun ∙ append-nil es

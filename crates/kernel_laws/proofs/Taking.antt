@@ -15,7 +15,7 @@ use Rattle.slices.proofs.Choice.{pick-yes, pick-no, and-left, and-right}
 use Rattle.slices.proofs.Cutting.{none-left}
 use Rattle.tape_read.specs.Entries.{Entry, entry, answer, silence, payloadMost}
 use Rattle.commands.specs.Commands.{longest}
-use Rattle.rulebook.specs.Phase.{Asked, Heard, Phase, opens, asks, hears, dueKind, tvrOf, tsiOf}
+use Rattle.rulebook.specs.Phase.{Asked, Phase, opens, asks, hears, dueKind, tvrOf, tsiOf}
 use Rattle.rulebook.specs.Turn.{turn, allowed, after}
 use Rattle.rulebook.proofs.Payloads.{payload}
 use Rattle.rulebook.specs.Machine.{Machine, at, owes, run}
@@ -25,25 +25,24 @@ use Rattle.session_phase.specs.declared.Question.{Question}
 use Rattle.session_phase.specs.declared.Speaker.{Speaker}
 use Rattle.session_phase.specs.declared.Waiting.{Waiting}
 use Rattle.session_phase.specs.declared.Waiting.the-variants.{ForCard, ForWord, Decided, Closed}
-use Rattle.session_state.specs.Reading.{heardBy}
 use Rattle.session_state.specs.Keeping.{changed}
 use Rattle.session_state.specs.declared.State.{State}
 use Rattle.session_moves.specs.Moves.{Moved, speakerOf}
 use Rattle.session_events.specs.Events.{allowedBy, step}
-use Rattle.session_laws.specs.Agreeing.{Knows, StandsAt}
+use Rattle.session_laws.specs.Agreeing.{StandsAt}
 use Rattle.session_laws.specs.Logging.{logged as ruled, Follows as Steps, Reached}
 use Rattle.session_laws.proofs.Words.{no-answer, allowed-by, allowed-short}
 use Rattle.session_laws.proofs.Telling.{kind-due}
 use Rattle.session_laws.proofs.Stepping.{answer-step, word-step}
 use Rattle.session_laws.proofs.Reaching.{reached-on, reached-asked, reached-word}
-use Rattle.kernel_refusals.specs.Refusals.{isDue, startBad, answerBad, replyBad}
+use Rattle.kernel_refusals.specs.Refusals.{isDue, startBad, answerBad, replyBad, resultsBad}
 use Rattle.kernel_refusals.proofs.OwnTests.{of-kind}
 use Rattle.kernel.specs.declared.Session.{Session}
 use Rattle.kernel.specs.Calls.{Called, accepted, closedState, closedAfter}
 use Rattle.kernel_laws.specs.Log.{loggedBy}
 use Rattle.kernel_laws.specs.Saying.{Gives, Follows, Silenced}
 use Rattle.kernel_laws.proofs.Turning.{Passed}
-use Rattle.kernel_laws.proofs.Words.{passed-word}
+use Rattle.kernel_laws.proofs.Words.{passed-word, taken-allowed}
 use Rattle.kernel_laws.proofs.Giving.{step-gives, gives-logged}
 
 -- ---- what it means that an event is due
@@ -109,16 +108,17 @@ module _ (s : Session) (es : List Entry) (buf : List ℕ) (there : Reached (s .s
         }
 
     on-word : (speaker : Speaker) → s .state .waiting ≡ ForWord speaker → Taken es e buf (s .zeros) (accepted (s .zeros) stepped)
-    unfolding awaited Knows
+    unfolding awaited
     on-word speaker k =
         let there′ = reached-word (s .state) es there speaker k in
         let h = there′ .0 in
         let stands = there′ .1 .1 .1 in
         let kind : e .kind ≡ kindOf speaker = due-kind (s .state .waiting) e (passed .due) n ∙ ap awaited k in
         let same = as-entry e (kindOf speaker) kind in
-        let fits = passed-word p speaker (ap startBad (sym same) ∙ passed .start) (ap replyBad (sym same) ∙ passed .reply) in
-        let known : heardBy speaker (s .state) ≡ h = ap (λ (x : Speaker). heardBy x (s .state)) (sym (there′ .1 .0)) ∙ stands .knows in
-        let may : allowed h p ≡ true = ap (λ (x : Heard). allowed x p) (sym known) ∙ (allowed-by speaker (s .state) p ∙ fits) in
+        let fits = passed-word p speaker (ap startBad (sym same) ∙ passed .start) (ap replyBad (sym same) ∙ passed .reply)
+        (ap (resultsBad (ForWord speaker)) (sym same) ∙ (ap (λ (x : Waiting). resultsBad x e) (sym k) ∙ passed .results)) in
+        let may : allowed h p ≡ true =
+        sym (allowed-by h p) ∙ (ap (λ (x : Speaker). allowedBy x p) (there′ .1 .0) ∙ taken-allowed p speaker fits) in
         let due : e .kind ≡ dueKind h = kind ∙ (ap kindOf (sym (there′ .1 .0)) ∙ kind-due h) in
         record {
           from = at (hears h);
@@ -127,7 +127,7 @@ module _ (s : Session) (es : List Entry) (buf : List ℕ) (there : Reached (s .s
           moved = stepped;
           steps =
               subst (λ (x : Entry). Steps (at (hears h)) x (after h p) buf stepped) (sym (as-entry e (dueKind h) due))
-              (word-step (s .state) h p buf stands may (payload p (allowed-short speaker p fits) bytes));
+              (word-step (s .state) h p buf stands may (payload p (allowed-short h p may) bytes));
           same = refl;
         }
 

@@ -3,13 +3,13 @@
 use mathlib.Core.Path.{_≡_}
 use mathlib.Core.Bool.{true}
 use mathlib.Core.List.{List, _++_}
-use Prim.Native.Nat.{ℕ, _+_, _≤_}
-use lib.ListN.{length}
+use Prim.Native.Nat.{ℕ, _≤_}
+use lib.ListN.{length, getD}
 use lib.Pow.{areBytes}
 use Rattle.commands.specs.Commands.{longest}
 use Rattle.tape_read.specs.Entries.{Entry}
 use Rattle.rulebook.specs.Session.{Session as WholeSession, Open}
-use Rattle.rulebook.specs.Roles.{RightKernel}
+use Rattle.rulebook.specs.Roles.{begins, RightKernel}
 use Rattle.rulebook_zeros.specs.Zeros.{Zeros}
 use Rattle.session_laws.specs.Bits.{Keeps}
 use Rattle.session_phase.specs.Waiting.{isDecided, isClosed}
@@ -17,7 +17,7 @@ use Rattle.kernel.specs.declared.Session.{Session}
 use Rattle.session_phase.specs.declared.Reply.the-variants.{Refused}
 use Rattle.kernel_laws.specs.Log.{Call, made, plays, allBytes}
 use Rattle.kernel_laws.specs.Replay.{givenAfter}
-use Rattle.kernel_laws.specs.Table.{tableOf, FirstLine, NoLine}
+use Rattle.kernel_laws.specs.Table.{tableOf, numbersOf, FirstLine, NoLine}
 use Rattle.kernel_laws.specs.Ending.{EndsDecided, Ended, Reproduces}
 use Rattle.kernel_laws.specs.Saying.{Lawfully, Says, Replies, Unchanged}
 use Rattle.kernel_laws.proofs.Lawful.{any-calls}
@@ -35,7 +35,7 @@ pub record Kernel : Type 0 where
   pub says : (cs : List Call) → allBytes cs ≡ true → Says (plays cs .session) (plays cs .log)
   pub replies : (cs : List Call) (c : Call) → allBytes cs ≡ true → areBytes (c .event .payload) ≡ true → Replies (plays cs) c
   pub ends : (cs : List Call) → allBytes cs ≡ true → EndsDecided (plays cs .session) (plays cs .log)
-  pub complete : (buf : List ℕ) → longest ≤ length buf → (es : List Entry) → WholeSession es → Reproduces buf es
+  pub complete : (buf : List ℕ) → longest ≤ length buf → (es : List Entry) → WholeSession es → begins es ≡ true → Reproduces buf es
   pub rightly : (buf : List ℕ) → longest ≤ length buf → RightKernel (givenAfter buf)
   pub zeros : (cs : List Call) → allBytes cs ≡ true → Zeros (plays cs .log) (plays cs .session .zeros)
   pub keeps : (cs more : List Call) → allBytes cs ≡ true → allBytes more ≡ true
@@ -46,8 +46,9 @@ pub record Kernel : Type 0 where
   pub no-session : (cs : List Call) → allBytes cs ≡ true → isClosed (plays cs .session .state .waiting) ≡ true
       → WholeSession (plays cs .log) → ⊥
   pub unchanged : (s : Session) (c : Call) (n : ℕ) → made s c .reply ≡ Refused n → Unchanged s c
-  pub number : (s : Session) (c : Call) (line : ℕ) → made s c .reply ≡ Refused (1 + line) → FirstLine (tableOf s c) line
-  pub line : (s : Session) (c : Call) (line : ℕ) → FirstLine (tableOf s c) line → made s c .reply ≡ Refused (1 + line)
+  pub number : (s : Session) (c : Call) (n : ℕ) → made s c .reply ≡ Refused n
+      → (line : ℕ) × ((n ≡ getD (numbersOf s c) line 0) × FirstLine (tableOf s c) line)
+  pub line : (s : Session) (c : Call) (line : ℕ) → FirstLine (tableOf s c) line → made s c .reply ≡ Refused (getD (numbersOf s c) line 0)
   pub free : (s : Session) (c : Call) → NoLine (tableOf s c) → (n : ℕ) → made s c .reply ≡ Refused n → ⊥
   pub taken : (s : Session) (c : Call) → ((n : ℕ) → made s c .reply ≡ Refused n → ⊥) → NoLine (tableOf s c)
 

@@ -1,27 +1,45 @@
--- The lines of 01's table at each word: a word that may be taken passes them, and one that passes them may be taken. A line each.
+-- The lines of 01's table at each word: a word that the kernel takes passes them, and one that passes them is taken; and what is taken
+-- may be said. A line each.
 -- Assumes nothing.
 use mathlib.Core.Path.{_≡_, refl, ap}
-use mathlib.Core.Bool.{true, false, not}
+use mathlib.Core.Bool.{Bool, true, false, not}
 use mathlib.Core.List.{List}
 use Prim.Native.Nat.{ℕ}
 use borrow.Author.Tests.{not-false}
+use Rattle.start_valid.specs.Start.{beginsSession}
+use Rattle.start_valid.proofs.Laws.{begins-valid}
 use Rattle.tape_read.specs.Entries.{entry}
-use Rattle.session_phase.specs.Waiting.{kindOf}
+use Rattle.session_phase.specs.Waiting.{kindOf, wantedOf, resultsIn}
 use Rattle.session_phase.specs.declared.Speaker.{Speaker}
-use Rattle.session_phase.specs.declared.Speaker.the-variants.{Terminal, Issuer}
+use Rattle.session_phase.specs.declared.Speaker.the-variants.{Terminal, Issuer, Attendant}
+use Rattle.session_phase.specs.declared.Waiting.the-variants.{ForWord}
 use Rattle.session_events.specs.Events.{allowedBy}
-use Rattle.kernel_refusals.specs.Refusals.{startBad, answerBad, replyBad}
+use Rattle.kernel_refusals.specs.Refusals.{startBad, answerBad, replyBad, resultsBad}
+
+-- what the kernel takes: of the STARTs only those that a session can be begun with
+unfoldable pub takenBy : Speaker → List ℕ → Bool
+takenBy Terminal p = beginsSession p
+takenBy Issuer p = allowedBy Issuer p
+takenBy (Attendant count) p = allowedBy (Attendant count) p
 
 module _ (p : List ℕ) where
-  pub word-passes : (speaker : Speaker) → allowedBy speaker p ≡ true
+  pub word-passes : (speaker : Speaker) → takenBy speaker p ≡ true
       → (startBad (entry (kindOf speaker) p) ≡ false) × (answerBad (entry (kindOf speaker) p) ≡ false)
-      × (replyBad (entry (kindOf speaker) p) ≡ false)
-  unfolding kindOf allowedBy startBad answerBad replyBad
-  word-passes Terminal fits = (ap not fits, refl, refl)
-  word-passes Issuer fits = (refl, refl, ap not fits)
+      × (replyBad (entry (kindOf speaker) p) ≡ false) × (resultsBad (ForWord speaker) (entry (kindOf speaker) p) ≡ false)
+  unfolding kindOf takenBy allowedBy startBad answerBad replyBad resultsBad resultsIn wantedOf
+  word-passes Terminal fits = (ap not fits, refl, refl, refl)
+  word-passes Issuer fits = (refl, refl, ap not fits, refl)
+  word-passes (Attendant count) fits = (refl, refl, refl, ap not fits)
 
   pub passed-word : (speaker : Speaker) → startBad (entry (kindOf speaker) p) ≡ false → replyBad (entry (kindOf speaker) p) ≡ false
-      → allowedBy speaker p ≡ true
-  unfolding kindOf allowedBy startBad replyBad
-  passed-word Terminal s r = not-false _ s
-  passed-word Issuer s r = not-false _ r
+      → resultsBad (ForWord speaker) (entry (kindOf speaker) p) ≡ false → takenBy speaker p ≡ true
+  unfolding kindOf takenBy allowedBy startBad replyBad resultsBad resultsIn wantedOf
+  passed-word Terminal s r v = not-false _ s
+  passed-word Issuer s r v = not-false _ r
+  passed-word (Attendant count) s r v = not-false _ v
+
+  pub taken-allowed : (speaker : Speaker) → takenBy speaker p ≡ true → allowedBy speaker p ≡ true
+  unfolding takenBy allowedBy
+  taken-allowed Terminal fits = begins-valid p fits
+  taken-allowed Issuer fits = fits
+  taken-allowed (Attendant count) fits = fits

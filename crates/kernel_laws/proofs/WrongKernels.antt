@@ -11,7 +11,8 @@ use Rattle.slices.specs.Choice.{pick}
 use Rattle.slices.specs.Writing.{zeros}
 use Rattle.slices.proofs.Writing.{zeros-length}
 use Rattle.start_fields.specs.Reading.{readingOf}
-use Rattle.start_valid.specs.Start.{validKind, validDigits, validRandom, validPercentages, validThreshold, validAid, validStart}
+use Rattle.start_valid.specs.Start.{validKind, validDigits, validRandom, validPercentages, validThreshold, validAid, validLength, validStart, beginsSession}
+use Rattle.start_valid.proofs.Laws.{begins-valid}
 use Rattle.slices.specs.Tests.{every, between}
 use Rattle.decimal_dates.specs.Decimal.{decimalFrom, decimal, decimalByte, digitsOnly, zerosOnly}
 use Rattle.decimal_dates.specs.Dates.{monthAndDay, validStartDate}
@@ -25,13 +26,13 @@ use Rattle.rulebook.specs.Machine.{at}
 use Rattle.rulebook.proofs.Made.{startOf, tc, aac, given as cryptogram, opening, exchange, firstAsked}
 use Rattle.rulebook.proofs.Offline.{offline, approved-offline}
 use Rattle.rulebook.proofs.Trichotomy.{snoc-same}
-use Rattle.rulebook_worked.proofs.ShutOut.{Parts, not-terminating, not-always-aac, not-idle, not-settled}
+use Rattle.rulebook_worked.proofs.ShutOut.{Parts, begun as offlineBegins, not-terminating, not-always-aac, not-idle, not-settled}
 use Rattle.session_phase.specs.Waiting.{kindOf, isDecided, outcomeOf}
 use Rattle.session_phase.specs.declared.Speaker.the-variants.{Terminal}
 use Rattle.session_state.specs.Results.{decisionIn}
 use Rattle.session_state.specs.Keeping.{stateAt, fresh}
 use Rattle.session_moves.specs.Moves.{speakerOf}
-use Rattle.session_events.specs.Events.{allowedBy, step}
+use Rattle.session_events.specs.Events.{step}
 use Rattle.session_laws.proofs.Stepping.{fresh-stands, word-step}
 use Rattle.kernel.specs.declared.Session.{Session}
 use Rattle.kernel.specs.Calls.{Called, accepted, freshSession}
@@ -41,6 +42,7 @@ use Rattle.kernel_laws.specs.Saying.{Gives}
 use Rattle.kernel_laws.proofs.Turning.{call-taken, taken-step}
 use Rattle.kernel_laws.proofs.Giving.{step-gives}
 use Rattle.kernel_laws.proofs.Admitting.{word-free}
+use Rattle.kernel_laws.proofs.Words.{takenBy}
 use Rattle.kernel_laws.proofs.Complete.{session-logged, right}
 use Rattle.kernel_laws.proofs.Deciding.{decision-last}
 
@@ -79,7 +81,7 @@ approvedCalls = callsIn (zeros longest) (offline 2 tc 1)
 approved : outcomeOf (plays approvedCalls .session .state .waiting) ≡ 1
 unfolding decisionIn
 approved =
-    let it = session-logged (zeros longest) room (offline 2 tc 1) (approved-offline .0) in
+    let it = session-logged (zeros longest) room (offline 2 tc 1) (approved-offline .0) offlineBegins in
     let last = decision-last approvedCalls (it .bytes) (it .decides) in
     let bytes : List ℕ = 1 ∷ 0 ∷ 0x80 ∷ 0 ∷ 0 ∷ 0 ∷ 0 ∷ 0x20 ∷ 0 ∷ [] in
     let same =
@@ -92,7 +94,7 @@ approved =
 pub not-every-outcome-3 : ((cs : List Call) → allBytes cs ≡ true → isDecided (plays cs .session .state .waiting) ≡ true
     → outcomeOf (plays cs .session .state .waiting) ≡ 3) → ⊥
 not-every-outcome-3 wrong =
-    let it = session-logged (zeros longest) room (offline 2 tc 1) (approved-offline .0) in
+    let it = session-logged (zeros longest) room (offline 2 tc 1) (approved-offline .0) offlineBegins in
     let said = wrong approvedCalls (it .bytes) (it .decides) in
     let due = approved in
     omega arith
@@ -101,8 +103,8 @@ not-every-outcome-3 wrong =
 abbrev begin : List ℕ
 begin = startOf 2
 
-valid : validStart begin ≡ true
-unfolding validStart every pick between validKind validDigits digitsOnly decimalByte validStartDate monthAndDay validRandom validPercentages validThreshold validAid zerosOnly readingOf decimal decimalFrom
+valid : beginsSession begin ≡ true
+unfolding beginsSession validStart validLength every pick between validKind validDigits digitsOnly decimalByte validStartDate monthAndDay validRandom validPercentages validThreshold validAid zerosOnly readingOf decimal decimalFrom
 valid = refl
 
 held : isPayload begin ≡ true
@@ -117,7 +119,7 @@ also-room = let size = zeros-length 260 in omega arith
 
 -- it writes the command into the buffer: SELECT stands there after START
 pub not-left-alone : ((s : Session) (c : Call) → made s c .buffer ≡ c .buffer) → ⊥
-unfolding made freshSession fresh stateAt accepted opened after dueKind Gives commandOf selectCommand speakerOf kindOf allowedBy allowed
+unfolding made freshSession fresh stateAt accepted opened after dueKind Gives commandOf selectCommand speakerOf kindOf takenBy allowed
 not-left-alone wrong =
     let e = entry (dueKind terminal) begin in
     let free = word-free freshSession lent also-room Terminal refl begin valid in
@@ -125,7 +127,7 @@ not-left-alone wrong =
     let same : made freshSession (record { event = e; buffer = lent }) ≡ accepted 0 m =
     call-taken freshSession e lent free ∙ taken-step freshSession e lent (λ k. omega arith)
     in
-    let steps = word-step (freshSession .state) terminal begin lent fresh-stands valid held in
+    let steps = word-step (freshSession .state) terminal begin lent fresh-stands (begins-valid begin valid) held in
     let gives = step-gives (at opens) e lent m also-room 0 (opened (readingOf begin)) steps in
     let left : m .buffer ≡ lent = ap (λ (r : Called). r .buffer) (sym same) ∙ wrong freshSession (record { event = e; buffer = lent }) in
     let select = commandOf (selecting (begun (readingOf begin))) in

@@ -9,13 +9,13 @@ use lib.ListN.{length}
 use borrow.Author.Tests.{eq-eqb, lt-ltb, le-ltb}
 use Rattle.slices.specs.Choice.{pick, firstOf}
 use Rattle.slices.proofs.Choice.{pick-yes, pick-no}
-use Rattle.start_valid.specs.Start.{validStart}
+use Rattle.start_valid.specs.Start.{beginsSession}
 use Rattle.tape_read.specs.Entries.{Entry, entry, start, answer, silence, host, payloadMost}
 use Rattle.commands.specs.Commands.{longest}
 use Rattle.decide_requests.specs.Replies.{replyOf, isReply}
 use Rattle.session_phase.specs.Waiting.{awaited, isOver}
 use Rattle.session_phase.specs.declared.Waiting.{Waiting}
-use Rattle.kernel_refusals.specs.Refusals.{isDue, startBad, answerBad, replyBad, refusalLines, callRefusal}
+use Rattle.kernel_refusals.specs.Refusals.{isDue, startBad, answerBad, replyBad, resultsBad, refusalLines, callRefusal}
 
 module _ (waiting : Waiting) (buf : List ℕ) where
   -- 1, whatever the session and the event
@@ -31,7 +31,7 @@ module _ (waiting : Waiting) (buf : List ℕ) where
 
     module _ (goes : isOver waiting ≡ false) where
       -- 3, in turn or not; then 4
-      pub start-invalid : (b : List ℕ) → validStart b ≡ false → callRefusal waiting (entry start b) buf ≡ 3
+      pub start-invalid : (b : List ℕ) → beginsSession b ≡ false → callRefusal waiting (entry start b) buf ≡ 3
       unfolding callRefusal refusalLines firstOf startBad
       start-invalid b h = pick-no _ _ _ (le-ltb (length buf) longest room) ∙ (pick-no _ _ _ goes ∙ pick-yes _ _ _ (ap not h))
 
@@ -53,6 +53,13 @@ module _ (waiting : Waiting) (buf : List ℕ) where
         no-reply a h =
             pick-no _ _ _ (le-ltb (length buf) longest room)
             ∙ (pick-no _ _ _ goes ∙ (pick-no _ _ _ s ∙ (pick-no _ _ _ (ap not d) ∙ (pick-no _ _ _ a ∙ pick-yes _ _ _ h))))
+
+        pub no-results : answerBad e ≡ false → replyBad e ≡ false → resultsBad waiting e ≡ true → callRefusal waiting e buf ≡ 12
+        unfolding callRefusal refusalLines firstOf
+        no-results a r h =
+            pick-no _ _ _ (le-ltb (length buf) longest room)
+            ∙ (pick-no _ _ _ goes
+            ∙ (pick-no _ _ _ s ∙ (pick-no _ _ _ (ap not d) ∙ (pick-no _ _ _ a ∙ (pick-no _ _ _ r ∙ pick-yes _ _ _ h)))))
 
 -- a silence is turned away wherever no answer is due
 pub silence-not-due : (waiting : Waiting) (p : List ℕ) → eqb (awaited waiting) answer ≡ false → isDue waiting (entry silence p) ≡ false

@@ -1,5 +1,5 @@
--- When a call is turned away: 01, the table of that name, lines 1 to 6. What is handed in is an entry, by its kind and payload, and the
--- first line that applies gives the number.
+-- When a call is turned away: 01, the table of that name, lines 1 to 6, and 02, R-7. What is handed in is an entry, by its kind and
+-- payload, and the first line that applies gives the number.
 -- Assumes nothing.
 use mathlib.Core.Bool.{Bool, not, _&&_}
 use mathlib.Core.List.{List, [], _∷_}
@@ -7,11 +7,12 @@ use Prim.Native.Nat.{ℕ}
 use lib.Dec.{eqb, ltb}
 use lib.ListN.{length}
 use Rattle.slices.specs.Choice.{pick, firstOf}
-use Rattle.tape_read.specs.Entries.{Entry, start, answer, silence, host, payloadMost}
-use Rattle.start_valid.specs.Start.{validStart}
+use Rattle.tape_read.specs.Entries.{Entry, start, answer, silence, host, results, payloadMost}
+use Rattle.start_valid.specs.Start.{beginsSession}
+use Rattle.cvm.specs.Lists.{areResults}
 use Rattle.decide_requests.specs.Replies.{replyOf, isReply}
 use Rattle.commands.specs.Commands.{longest}
-use Rattle.session_phase.specs.Waiting.{awaited, isOver}
+use Rattle.session_phase.specs.Waiting.{awaited, isOver, resultsIn}
 use Rattle.session_phase.specs.declared.Waiting.{Waiting}
 
 -- the event is the one due; a silence, which has no payload, is accepted only where an answer is due
@@ -21,13 +22,17 @@ isDue waiting e =
 
 -- what an event of each kind must be
 unfoldable pub startBad : Entry → Bool
-startBad e = eqb (e .kind) start && not (validStart (e .payload))
+startBad e = eqb (e .kind) start && not (beginsSession (e .payload))
 
 unfoldable pub answerBad : Entry → Bool
 answerBad e = eqb (e .kind) answer && ltb payloadMost (length (e .payload))
 
 unfoldable pub replyBad : Entry → Bool
 replyBad e = eqb (e .kind) host && not (isReply (replyOf (e .payload)))
+
+-- as many results as the session waits for, each 0 to 4
+unfoldable pub resultsBad : Waiting → Entry → Bool
+resultsBad waiting e = eqb (e .kind) results && not (areResults (resultsIn waiting) (e .payload))
 
 -- the table: on a session that waits for something, an event, and the command buffer that is lent for it
 unfoldable pub refusalLines : Waiting → Entry → List ℕ → List (Bool × ℕ)
@@ -36,7 +41,7 @@ refusalLines waiting e buf =
     (ltb (length buf) longest, 1)
     -- session decided, or closed by silence
     ∷ (isOver waiting, 2)
-    -- START invalid or not 74 bytes
+    -- START invalid or not 77 bytes
     ∷ (startBad e, 3)
     -- event not the one due
     ∷ (not (isDue waiting e), 4)
@@ -44,6 +49,8 @@ refusalLines waiting e buf =
     ∷ (answerBad e, 5)
     -- HOST not 3 bytes, or not one of the replies
     ∷ (replyBad e, 6)
+    -- the results of cardholder verification: not one for each rule, or not 0 to 4
+    ∷ (resultsBad waiting e, 12)
     ∷ []
 
 -- the number; 0 where no line applies, and the call is taken

@@ -1,12 +1,15 @@
 // When a call of a session is turned away. The event is handed in as the entry that it would be on a tape, by its kind and payload.
 use commands::write::LONGEST;
+use cvm::list::are_results;
 use decide_requests::reply::is_reply;
 use session_phase::Waiting;
 use session_phase::awaits;
-use start_valid::valid_start;
+use session_phase::results_due;
+use start_valid::begins_session;
 use tape_read::ANSWER;
 use tape_read::HOST;
 use tape_read::PAYLOAD;
+use tape_read::RESULTS;
 use tape_read::SILENCE;
 use tape_read::START;
 ghost use mathlib.Core.Path.{_≡_};
@@ -14,9 +17,9 @@ ghost use mathlib.Core.Bool.{not};
 ghost use lib.ListN.{length};
 ghost use lib.Dec.{ltb};
 ghost use Rattle.tape_read.specs.Entries.{entry, payloadMost};
-ghost use Rattle.start_valid.specs.Start.{validStart};
+ghost use Rattle.start_valid.specs.Start.{beginsSession};
 ghost use Rattle.decide_requests.specs.Replies.{replyOf, isReply};
-ghost use Rattle.kernel_refusals.specs.Refusals.{isDue, startBad, answerBad, replyBad, callRefusal};
+ghost use Rattle.kernel_refusals.specs.Refusals.{isDue, startBad, answerBad, replyBad, resultsBad, callRefusal};
 
 // Whether the event is the one due.
 fn is_due(waiting: Waiting, kind: u8, payload: &[u8]) -> bool
@@ -32,7 +35,7 @@ fn is_due(waiting: Waiting, kind: u8, payload: &[u8]) -> bool
 fn is_start_bad(kind: u8, payload: &[u8]) -> bool
     ensures { λ r. ⌜ r ≡ startBad (entry kind (now (payload .entry))) ⌝ }
 {
-    kind == START && !valid_start(payload)
+    kind == START && !begins_session(payload)
 }
 
 fn is_answer_bad(kind: u8, payload: &[u8]) -> bool
@@ -45,6 +48,12 @@ fn is_reply_bad(kind: u8, payload: &[u8]) -> bool
     ensures { λ r. ⌜ r ≡ replyBad (entry kind (now (payload .entry))) ⌝ }
 {
     kind == HOST && !is_reply(payload)
+}
+
+fn is_results_bad(waiting: Waiting, kind: u8, payload: &[u8]) -> bool
+    ensures { λ r. ⌜ r ≡ resultsBad waiting (entry kind (now (payload .entry))) ⌝ }
+{
+    kind == RESULTS && !are_results(results_due(waiting), payload)
 }
 
 // The number of the first line of 01's table that applies; 0 where none does, and the call is taken.
@@ -68,6 +77,9 @@ pub fn refusal(waiting: Waiting, kind: u8, payload: &[u8], command: &[u8]) -> us
     }
     if is_reply_bad(kind, payload) {
         return 6;
+    }
+    if is_results_bad(waiting, kind, payload) {
+        return 12;
     }
     0
 }

@@ -19,6 +19,7 @@ use session_state::result::decision;
 use slices::part;
 use tape_read::ANSWER;
 use tape_read::HOST;
+use tape_read::RESULTS;
 use tape_read::START;
 use tape_write::Writer;
 use text_hex::unhex;
@@ -114,6 +115,7 @@ fn stepped(s: Session, kind: u8, payload: &[u8], command: &mut [u8]) -> Step {
         START => s.start(payload, command),
         ANSWER => s.answer(payload, command),
         HOST => s.host(payload, command),
+        RESULTS => s.results(payload, command),
         _ => s.silence(command),
     }
 }
@@ -123,10 +125,18 @@ fn decision_in(s: Session) -> [u8; 9] {
     decision(state)
 }
 
+// Whose word is due; of the results of cardholder verification, how many.
+fn print_due(s: Session, kind: u8) -> bool {
+    if kind == RESULTS {
+        return say::with_number(b"RESULTS ", s.results_due());
+    }
+    say::text(b"HOST\n")
+}
+
 fn print_reply(s: Session, reply: Reply, command: &[u8]) -> bool {
     match reply {
         Reply::Command(n) => say::with_bytes(b"COMMAND ", part(command, 0, n)),
-        Reply::Due(_) => say::text(b"HOST\n"),
+        Reply::Due(kind) => print_due(s, kind),
         Reply::Decided => say::with_bytes(b"DECISION ", &decision_in(s)),
         Reply::Closed => say::text(b"CLOSED\n"),
         Reply::Refused(n) => say::with_number(b"REFUSED ", n),

@@ -2,6 +2,7 @@
 use slices::byte;
 use tape_read::ANSWER;
 use tape_read::HOST;
+use tape_read::RESULTS;
 use tape_read::SILENCE;
 use tape_read::START;
 use text_hex::digit_of;
@@ -36,7 +37,14 @@ pub fn kind_of(line: &[u8]) -> u8
     if is_named(line, b"SILENCE") {
         return SILENCE;
     }
-    if is_named(line, b"HOST") { HOST } else { 0 }
+    if is_named(line, b"HOST") {
+        return HOST;
+    }
+    if is_named(line, b"RESULTS") {
+        RESULTS
+    } else {
+        0
+    }
 }
 
 // Whether this is a line's first word.

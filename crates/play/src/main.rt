@@ -4,6 +4,7 @@
 //     ANSWER bytes     the card's answer, status bytes included
 //     SILENCE          the card says nothing
 //     HOST bytes       the issuer's reply
+//     RESULTS bytes    the results of cardholder verification, a byte for each rule of the card's list
 //
 // No bytes are an empty payload.
 //
@@ -11,6 +12,7 @@
 //
 //     COMMAND bytes    the card's next command
 //     HOST             the issuer's reply is due
+//     RESULTS n        so many results of cardholder verification are due
 //     DECISION bytes   the nine bytes of DECISION
 //     CLOSED           the session was closed by silence
 //     REFUSED n        the call was turned away
@@ -32,8 +34,8 @@ use tape_read::TAPE;
 use tape_write::Writer;
 ghost use Prim.Native.Nat.{_≤_};
 
-// A line of the longest word and the longest payload: seven bytes, and the digits of 4,096.
-const LONGEST: usize = 8199;
+// A line of the longest word and the longest payload: eight bytes, and the digits of 4,096.
+const LONGEST: usize = 8200;
 
 fn main() {
     if !streams::are_open() {

@@ -1,5 +1,6 @@
--- No session has more entries than 01 says, "The tape": START, two for SELECT, two for GPO, two for each record, two for each
--- GENERATE AC, HOST and DECISION. From each phase on there is a most that can still come; every exchange takes its two entries
+-- No session has more entries than 01 says, "The tape": START, two for SELECT, two for GPO, two for each record, one for the results of
+-- cardholder verification, two for each GENERATE AC, HOST and DECISION. From each phase on there is a most that can still come; every
+-- exchange takes its two entries
 -- off it, and all that is heard its one; the records are at most as many as reason 7 lets pass.
 -- Assumes nothing.
 use mathlib.Core.Path.{_≡_}
@@ -18,15 +19,16 @@ use Rattle.answer_gpo.specs.Options.{profileOf, locatorOf}
 use Rattle.answer_record.specs.Records.{afterRecords}
 use Rattle.answer_cryptogram.specs.Cryptogram.{cryptogramOf}
 use Rattle.answer_laws.proofs.AcceptedAnswers.{options-entries}
+use Rattle.decide_verification.specs.Verification.{resultsDue}
 use Rattle.decide_requests.specs.Replies.{codeIn, replyOf}
 use Rattle.decide_requests.specs.declared.reply.HostReply.{HostReply}
 use Rattle.decide_requests.specs.declared.reply.HostReply.the-variants.{Unable}
 use Rattle.rulebook.specs.Situation.{Situation, listIn}
-use Rattle.rulebook.specs.Phase.{Asked, selecting, optioning, reading, first, second, Heard, terminal, issuer, Phase, asks, hears}
+use Rattle.rulebook.specs.Phase.{Asked, selecting, optioning, reading, first, second, Heard, terminal, issuer, attendant, Phase, asks, hears}
 use Rattle.rulebook.specs.Phase.{decides, decided as settled, ended}
-use Rattle.rulebook.specs.Turn.{goesOn, opened, selected, requested, allRead, readOn, withProfile, optioned, withRecord, recorded}
+use Rattle.rulebook.specs.Turn.{goesOn, opened, selected, managed, requested, verifying, allRead, readOn, withProfile, optioned, withRecord, recorded}
 use Rattle.rulebook.specs.Turn.{answered, replied, online, byFirst, firstAnswered, secondAnswered, replyMade, turn}
-use Rattle.rulebook.specs.Turn.{heard as issuerHeard, after}
+use Rattle.rulebook.specs.Turn.{heard as issuerHeard, verifiedBy, after}
 use Rattle.rulebook.specs.Session.{longest, Plays, exchanged, heard, decided, Session}
 
 -- the most that can still come: from the first request on; after the last record
@@ -34,7 +36,7 @@ abbrev fromFirst : ℕ
 fromFirst = 6
 
 abbrev afterLast : ℕ
-afterLast = fromFirst
+afterLast = 1 + fromFirst
 
 -- from a question on, and from a phase on
 unfoldable pub afterAsking : Asked → ℕ
@@ -48,6 +50,7 @@ unfoldable pub toCome : Phase → ℕ
 toCome (asks w) = afterAsking w
 toCome (hears terminal) = longest
 toCome (hears (issuer s)) = 4
+toCome (hears (attendant s)) = afterLast
 toCome (decides outcome reason s) = 1
 
 module _ (s : Situation) where
@@ -64,6 +67,12 @@ module _ (s : Situation) where
   requested-few : (reason : ℕ) → toCome (requested reason s) ≤ fromFirst
   unfolding requested toCome afterAsking
   requested-few reason = goes-few fromFirst reason _ (omega arith) (λ e. omega arith)
+
+  verifying-few : toCome (verifying s) ≤ afterLast
+  unfolding verifying toCome
+  verifying-few =
+      picked (λ (p : Phase). toCome p ≤ afterLast) (resultsDue (s .terminal) (s .profile) (s .facts)) _ _ (λ e. omega arith)
+      (λ e. omega (arith, requested-few (afterRecords (s .facts))))
 
   replied-few : (reply : HostReply) (code : List ℕ) → toCome (replied s reply code) ≤ 3
   unfolding replied ended toCome afterAsking
@@ -84,7 +93,7 @@ all-read-few : (s : Situation) → toCome (allRead s) ≤ afterLast
 unfolding allRead ended toCome
 all-read-few s =
     picked (λ (p : Phase). toCome p ≤ afterLast) (eqb (afterRecords (s .facts)) 8) _ _ (λ e. omega arith)
-    (λ e. requested-few _ (afterRecords (s .facts)))
+    (λ e. verifying-few (managed s))
 
 -- two for each record that is left, and what comes after the last
 read-few : (s : Situation) (rest : List (ℕ × ℕ)) → toCome (readOn s rest) ≤ 2 * length rest + afterLast
@@ -111,6 +120,7 @@ pub after-fewer : (h : Heard) (p : List ℕ) → 1 + toCome (after h p) ≤ toCo
 unfolding after issuerHeard toCome afterAsking opened
 after-fewer terminal p = omega arith
 after-fewer (issuer s) p = omega (arith, replied-few s (replyMade (replyOf p)) (codeIn p))
+after-fewer (attendant s) p = omega (arith, requested-few (verifiedBy s p) (afterRecords (s .facts)))
 
 -- each phase leaves something to come
 pub some-come : (p : Phase) → 1 ≤ toCome p

@@ -1,5 +1,7 @@
 pub mod Single
+pub mod Passing
 pub mod Growing
+pub mod Verifying
 pub mod Bound
 pub mod Said
 pub mod Running

@@ -1,27 +1,28 @@
 -- One session has as many entries as the bound allows: a card whose AFL names the most records, half of them in each of two files,
--- all that is mandatory in the first record, nothing in the others, and which asks to go online. What comes before the records and
+-- all that is mandatory and a verification list in the first record, nothing in the others, and which asks to go online. What comes
+-- before the records and
 -- after them is computed; the records are read by induction, however many there are.
 -- Assumes nothing.
-use mathlib.Core.Path.{_≡_, refl, sym, ap, _∙_, subst}
-use mathlib.Core.Bool.{Bool, true, false, not, _&&_, _||_}
+use mathlib.Core.Path.{_≡_, refl, sym, ap, ap₂, _∙_, subst}
+use mathlib.Core.Bool.{Bool, true, false, _||_}
 use mathlib.Core.List.{List, [], _∷_, _++_}
 use mathlib.Core.Option.{Option, none, some}
 use Prim.Native.Nat.{ℕ, _+_, _*_, _-_, _/_, _≤_}
 use native.Mathlib.Omega.{arith}
 use lib.Dec.{eqb}
-use lib.ListN.{length, length-append}
+use lib.ListN.{length, drop, length-append}
 use Rattle.slices.specs.Choice.{pick, firstOf}
-use Rattle.slices.specs.Tables.{anyOf}
-use Rattle.slices.proofs.Choice.{pick-yes, pick-no, pick-same}
+use Rattle.slices.proofs.Choice.{pick-yes, pick-same}
 use Rattle.tlv_list.specs.Objects.{isSome}
 use Rattle.tlv_list.specs.Lookup.{Lookup, absent}
-use Rattle.tape_read.specs.Entries.{Entry, entry, start, host}
+use Rattle.tape_read.specs.Entries.{Entry, entry, start, host, results}
 use Rattle.start_fields.specs.Reading.{readingOf}
 use Rattle.answer_afl.specs.Entries.{mostRecords, recordCount, toRead}
 use Rattle.answer_afl.proofs.Counting.{read-length}
 use Rattle.answer_common.specs.Answer.{frame}
-use Rattle.answer_common.specs.Content.{recordTag, recordNames}
-use Rattle.answer_common.specs.Named.{listed, direct, told, anyTwice, anyWrong}
+use Rattle.answer_common.proofs.Accepted.{any-none}
+use Rattle.answer_common.specs.Content.{recordTag, namesFor}
+use Rattle.answer_common.specs.Named.{listed, direct, times, told, wrongValue, anyTimes, anyTwice, anyWrong}
 use Rattle.answer_record.specs.Records.{again, anyAgain, recordTwice, recordLines, recordReason, valueIn, namedIn}
 use Rattle.session_records.specs.Slots.{orElse}
 use Rattle.commands.specs.Commands.{recordCommand}
@@ -50,33 +51,42 @@ unfolding reached
 not-again true name = refl
 not-again false name = refl
 
-none-again : (before : ℕ → Bool) (names : List ℕ) → anyAgain before names (direct recordTag empty) ≡ false
-unfolding anyAgain anyOf
-none-again before [] = refl
-none-again before (name ∷ names) = pick-no _ _ _ (not-again (before name) name) ∙ none-again before names
-
-first-told : firstOf (frame (recordTag ∷ []) empty
-    ++ ((anyTwice recordNames (direct recordTag empty) || false, 4) ∷ (anyWrong recordNames (direct recordTag empty), 5) ∷ [])) ≡ 0
+first-told : firstOf (frame (recordTag ∷ []) empty ++ ((false, 4) ∷ (false, 5) ∷ [])) ≡ 0
 unfolding reached
 first-told = refl
-
--- it is right whatever was told before
-empty-right : (before : ℕ → Bool) → recordReason before empty ≡ 0
-unfolding recordReason recordLines recordTwice
-empty-right before =
-    ap (λ (b : Bool). firstOf (frame (recordTag ∷ []) empty
-    ++ ((anyTwice recordNames (direct recordTag empty) || b, 4) ∷ (anyWrong recordNames (direct recordTag empty), 5) ∷ [])))
-    (none-again before recordNames)
-    ∙ first-told
 
 or-none : (o : Option (List ℕ)) → orElse o none ≡ o
 unfolding orElse
 or-none none = refl
 or-none (some v) = refl
 
-none-named : (tag : ℕ) → namedIn tag empty ≡ none
-unfolding namedIn valueIn told
-none-named tag = ap (λ (l : Lookup). pick (listed tag recordNames) (told l) none) (not-there tag) ∙ pick-same _ _
+-- whichever names count
+module _ (names : List ℕ) where
+  none-again : (before : ℕ → Bool) → anyAgain before names (direct recordTag empty) ≡ false
+  unfolding anyAgain
+  none-again before = any-none (λ name. again (before name) (direct recordTag empty name)) names (λ name l. not-again (before name) name)
+
+  none-twice : anyTwice names (direct recordTag empty) ≡ false
+  unfolding anyTimes times
+  none-twice =
+      any-none (λ name. eqb (times (direct recordTag empty name)) 2) names
+      (λ name l. ap (λ (x : Lookup). eqb (times x) 2) (not-there name))
+
+  none-wrong : anyWrong names (direct recordTag empty) ≡ false
+  unfolding anyWrong wrongValue
+  none-wrong = any-none (λ name. wrongValue name (direct recordTag empty name)) names (λ name l. ap (wrongValue name) (not-there name))
+
+  -- it is right whatever was told before
+  empty-right : (before : ℕ → Bool) → recordReason names before empty ≡ 0
+  unfolding recordReason recordLines recordTwice
+  empty-right before =
+      ap₂ (λ (t w : Bool). firstOf (frame (recordTag ∷ []) empty ++ ((t, 4) ∷ (w, 5) ∷ [])))
+      (ap₂ _||_ none-twice (none-again before)) none-wrong
+      ∙ first-told
+
+  none-named : (tag : ℕ) → namedIn names tag empty ≡ none
+  unfolding namedIn valueIn told
+  none-named tag = ap (λ (l : Lookup). pick (listed tag names) (told l) none) (not-there tag) ∙ pick-same _ _
 
 module _ (s : Situation) where
   -- it adds nothing to what is known
@@ -86,7 +96,7 @@ module _ (s : Situation) where
       record {
         terminal = s .terminal;
         profile = s .profile;
-        facts = λ tag. (ap (orElse (s .facts tag)) (none-named tag) ∙ or-none (s .facts tag)) i;
+        facts = λ tag. (ap (orElse (s .facts tag)) (none-named (namesFor (s .terminal)) tag) ∙ or-none (s .facts tag)) i;
         tvr = s .tvr;
         tsi = s .tsi;
       }
@@ -94,7 +104,7 @@ module _ (s : Situation) where
   empty-read : (number file : ℕ) (rest : List (ℕ × ℕ)) → turn (reading s number file rest) empty ≡ readOn s rest
   unfolding turn afterRecord goesOn
   empty-read number file rest =
-      pick-yes _ _ _ (ap (λ (n : ℕ). eqb n 0) (empty-right (λ tag. isSome (s .facts tag))))
+      pick-yes _ _ _ (ap (λ (n : ℕ). eqb n 0) (empty-right (namesFor (s .terminal)) (λ tag. isSome (s .facts tag))))
       ∙ ap (λ (x : Situation). readOn x rest) nothing-new
 
 -- ---- as many records as are named
@@ -133,23 +143,25 @@ files = (0x08, mostRecords / 2) ∷ (0x10, mostRecords - mostRecords / 2) ∷ []
 
 abbrev located : List ℕ
 located =
-    0x77 ∷ (6 + length (locator files)) ∷ 0x82 ∷ 0x02 ∷ 0x00 ∷ 0x00 ∷ 0x94 ∷ length (locator files) ∷ (locator files ++ (0x90 ∷ 0x00 ∷ []))
+    0x77 ∷ (6 + length (locator files)) ∷ 0x82 ∷ 0x02 ∷ 0x10 ∷ 0x00 ∷ 0x94 ∷ length (locator files) ∷ (locator files ++ (0x90 ∷ 0x00 ∷ []))
 
 -- START, SELECT and GPO, for a card with a 9F38
 abbrev before : List Entry
 before = entry start (startOf 2) ∷ (exchange select withList ++ exchange withNumber located)
 
+-- a list with one rule: no verification, always
 abbrev full : List ℕ
-full = recorded number
+full = 0x70 ∷ 0x2D ∷ 0x8E ∷ 0x0A ∷ 0 ∷ 0 ∷ 0 ∷ 0 ∷ 0 ∷ 0 ∷ 0 ∷ 0 ∷ 0x1F ∷ 0x00 ∷ drop 2 (recorded number)
 
--- both GENERATE AC, with HOST between them, and the decision
+-- the results of cardholder verification, both GENERATE AC, with HOST between them, and the decision
 abbrev afterwards : List Entry
 afterwards =
-    exchange (firstAsked tc) (given arqc)
-    ++ (entry host (1 ∷ 0x30 ∷ 0x30 ∷ []) ∷ (exchange (secondAsked tc) (given tc) ++ decides 1 0 0x80 0x20))
+    entry results (0 ∷ [])
+    ∷ exchange (firstAsked tc) (given arqc)
+    ++ (entry host (1 ∷ 0x30 ∷ 0x30 ∷ []) ∷ (exchange (secondAsked tc) (given tc) ++ decides 1 0 0x80 0x60))
 
 abbrev optioned : Situation
-optioned = withProfile (begun (readingOf (startOf 2))) (0x00 ∷ 0x00 ∷ [])
+optioned = withProfile (begun (readingOf (startOf 2))) (0x10 ∷ 0x00 ∷ [])
 
 before-run : run before (at opens) ≡ some (at (readOn optioned (toRead (locator files))))
 unfolding reached
@@ -163,7 +175,7 @@ full-payload : isPayload full ≡ true
 unfolding reached
 full-payload = refl
 
-full-right : recordReason (λ tag. isSome (optioned .facts tag)) full ≡ 0
+full-right : recordReason (namesFor (optioned .terminal)) (λ tag. isSome (optioned .facts tag)) full ≡ 0
 unfolding reached
 full-right = refl
 

@@ -2,27 +2,28 @@
 -- claimed here but that.
 -- Assumes nothing.
 use mathlib.Core.Path.{_≡_, refl, ap}
-use mathlib.Core.Bool.{true, false, false≢true}
+use mathlib.Core.Bool.{Bool, true, false, false≢true}
 use mathlib.Core.List.{List, [], _∷_, _++_}
 use mathlib.Core.Option.{Option, none, some}
 use Prim.Native.Nat.{ℕ}
+use native.Mathlib.Omega.{arith}
 use lib.Dec.{eqb}
 use lib.ListN.{length}
 use borrow.Author.Tests.{eqb-false}
 use Rattle.tlv_list.specs.Objects.{isSome}
 use Rattle.tape_read.specs.Entries.{Entry, entry, start, command, answer, silence, decision}
-use Rattle.rulebook.specs.Phase.{opens}
+use Rattle.rulebook.specs.Phase.{Phase, opens}
 use Rattle.rulebook.specs.Session.{Session, BreaksAt}
-use Rattle.rulebook.specs.Machine.{Machine, at, done, run}
+use Rattle.rulebook.specs.Machine.{Machine, at, owes, done, run}
 use Rattle.rulebook.proofs.Running.{run-session}
 use Rattle.rulebook.proofs.Breaks.{break-here}
-use Rattle.rulebook.proofs.States.{state-lawful, stopped-breaks}
+use Rattle.rulebook.proofs.States.{silence-refused, state-lawful, stopped-breaks, refused-breaks}
 use Rattle.rulebook.proofs.Opening.{reached}
 
 -- a terminal of a type with an amount, the year of its date, and the first byte of its denial code: floor limit 10000, random number
--- 40, target 10, threshold 5000, maximum 70, 30 June, all other action codes zero, AID A000000003
-abbrev pub startIn : ℕ → ℕ → List ℕ → ℕ → List ℕ
-startIn year kind amount denial =
+-- 40, target 10, threshold 5000, maximum 70, 30 June, all other action codes zero, AID A000000003; without Terminal Capabilities
+abbrev shortIn : ℕ → ℕ → List ℕ → ℕ → List ℕ
+shortIn year kind amount denial =
     kind
     ∷ (amount
     ++ (0 ∷ 0 ∷ 0 ∷ 0 ∷ 0 ∷ 0 ∷ 0x08 ∷ 0x26 ∷ 0x08 ∷ 0x26 ∷ year ∷ 0x06 ∷ 0x30 ∷ 0 ∷ 0x11 ∷ 0x22 ∷ 0x33 ∷ 0x44
@@ -30,6 +31,10 @@ startIn year kind amount denial =
     ∷ denial ∷ 0 ∷ 0 ∷ 0 ∷ 0 ∷ 0 ∷ 0 ∷ 0 ∷ 0 ∷ 0 ∷ 0 ∷ 0 ∷ 0 ∷ 0 ∷ 0
     ∷ 5 ∷ 0xA0 ∷ 0 ∷ 0 ∷ 0 ∷ 3 ∷ 0 ∷ 0 ∷ 0 ∷ 0 ∷ 0 ∷ 0 ∷ 0 ∷ 0 ∷ 0 ∷ 0 ∷ 0
     ∷ []))
+
+-- the same with Terminal Capabilities: every means of verification
+abbrev pub startIn : ℕ → ℕ → List ℕ → ℕ → List ℕ
+startIn year kind amount denial = shortIn year kind amount denial ++ (0xE0 ∷ 0xF8 ∷ 0xC8 ∷ [])
 
 -- in 2025
 abbrev pub startWith : ℕ → List ℕ → ℕ → List ℕ
@@ -42,6 +47,10 @@ amountOf high low = 0 ∷ 0 ∷ 0 ∷ 0 ∷ high ∷ low ∷ []
 -- amount 7500, no denial code
 abbrev pub startOf : ℕ → List ℕ
 startOf kind = startWith kind (amountOf 0x75 0x00) 0
+
+-- the same in the 74 bytes of old
+abbrev pub shortOf : ℕ → List ℕ
+shortOf kind = shortIn 0x25 kind (amountOf 0x75 0x00) 0
 
 -- SELECT, and an answer with the application's name and an empty A5
 abbrev pub select : List ℕ
@@ -147,3 +156,26 @@ breaks es e more read stopped other =
     let there = some-state (run es (at opens)) read in
     break-here es e more (state-lawful es (there .0) (there .1))
     (stopped-breaks es e stopped (λ same. eqb-false (e .kind) silence other (ap (λ (x : Entry). x .kind) same)))
+
+-- a phase, and no command that awaits its answer
+unfoldable pub isPhase : Option Machine → Bool
+isPhase none = false
+isPhase (some (at p)) = true
+isPhase (some (owes w)) = false
+isPhase (some done) = false
+
+some-phase : (o : Option Machine) → isPhase o ≡ true → (p : Phase) × (o ≡ some (at p))
+unfolding isPhase
+some-phase none h = absurd (false≢true h)
+some-phase (some (at p)) h = (p, refl)
+some-phase (some (owes w)) h = absurd (false≢true h)
+some-phase (some done) h = absurd (false≢true h)
+
+-- where something else is due than the card's answer, a silence breaks
+pub silent : (es more : List Entry) → isPhase (reached es) ≡ true → BreaksAt (es ++ (entry silence [] ∷ more)) (length es)
+unfolding reached
+silent es more read =
+    let there = some-phase (run es (at opens)) read in
+    let σ = at (there .0) in
+    break-here es (entry silence []) more (state-lawful es σ (there .1))
+    (refused-breaks es σ (entry silence []) (there .1) (silence-refused σ []) (λ w e same. let z : _≡_ {A = ℕ} 0 1 = cc in omega arith))

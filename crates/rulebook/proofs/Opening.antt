@@ -6,96 +6,108 @@ use mathlib.Core.Option.{Option}
 use Rattle.tape_read.specs.Entries.{Entry}
 use Rattle.rulebook.specs.Phase.{opens}
 use Rattle.rulebook.specs.Machine.{Machine, at, run}
-use Rattle.slices.specs.Choice.{pick as o0, firstOf as o1}
-use Rattle.slices.specs.Shorter.{counted as o2, shorter as o3}
-use Rattle.slices.specs.Tables.{anyOf as o4, beside as o5}
-use Rattle.slices.specs.Tests.{every as o6, between as o7, alike as o8, isSome as o9}
-use Rattle.slices.specs.Writing.{put as o10, laid as o11, zeros as o12}
-use Rattle.tlv_head.specs.Head.{firstByte as o13, constructed as o14, twoBytes as o15, tagSize as o16, tagOf as o17}
-use Rattle.tlv_head.specs.Head.{tagRight as o18, lengthByte as o19, lengthForm as o20, lengthSize as o21, lengthOf as o22}
-use Rattle.tlv_head.specs.Head.{valueStart as o23, valueEnd as o24, whole as o25}
-use Rattle.tlv_head.specs.Member.{memberAt as o26}
-use Rattle.tlv_list.specs.Lookup.{met as o27, lookup as o28, firstAmong as o29, firstFrom as o30, unless as o31, alone as o32}
-use Rattle.tlv_list.specs.Lookup.{findInChecked as o33, foundValue as o34, seek as o35, lookupRefusal as o36}
-use Rattle.tlv_list.specs.Objects.{between as o37, firstObject as o38, before as o39, rightInside as o40, listed as o41}
-use Rattle.tlv_list.specs.Objects.{objects as o42, isList as o43, readRefusal as o44}
-use Rattle.tlv_list.specs.Place.{fillers as o45, nextAt as o46, objectAt as o47, follow as o48, walk as o49, placesFrom as o50}
-use Rattle.tlv_list.specs.Place.{dataField as o51}
-use Rattle.tlv_write.specs.Written.{isTag as o52, tagBytes as o53, lengthBytes as o54, written as o55, writtenAll as o56}
-use Rattle.tlv_write.specs.Written.{fitsTag as o57, writeRefusal as o58, refusalOf as o59, sizeOf as o60, sizeWritten as o61}
-use Rattle.tlv_write.specs.Written.{bufferAfter as o62}
-use Rattle.tape_read.specs.Blocks.{head as o63, body as o64, block as o65, window as o66, field as o67, paddingIn as o68}
-use Rattle.tape_read.specs.Blocks.{allZero as o69, checkBad as o70, numberBad as o71, sessionBad as o72, kindBad as o73}
-use Rattle.tape_read.specs.Blocks.{spareBad as o74, lengthBad as o75, paddingBad as o76, contentTests as o77, codeOf as o78}
-use Rattle.tape_read.specs.Blocks.{payloadIn as o79, entryIn as o80}
-use Rattle.tape_read.specs.Entries.{isKind as o81, storable as o82, allStorable as o83}
-use Rattle.tape_read.specs.Numbers.{numberOf as o84, bytesOf as o85}
-use Rattle.tape_read.specs.Tapes.{preceded as o86, blockAt as o87, cut as o88, blocksOf as o89, readBlocks as o90}
-use Rattle.tape_read.specs.Tapes.{readFrom as o91, sessionOf as o92, readTape as o93, written as o94}
-use Rattle.decimal_dates.specs.Dates.{dateKey as o95, monthAndDay as o96, validStartDate as o97, validCardDate as o98}
-use Rattle.decimal_dates.specs.Decimal.{decimalFrom as o99, decimal as o100, decimalByte as o101, digitsOnly as o102}
-use Rattle.decimal_dates.specs.Decimal.{zerosOnly as o103}
-use Rattle.start_fields.specs.Reading.{readingOf as o104}
-use Rattle.start_valid.specs.Start.{validKind as o105, validDigits as o106, validRandom as o107, validPercentages as o108}
-use Rattle.start_valid.specs.Start.{validThreshold as o109, validAid as o110, validStart as o111, terminalOf as o112}
-use Rattle.answer_afl.specs.Cursor.{fromEntry as o113, entryAt as o114, start as o115, isLeft as o116, recordAt as o117}
-use Rattle.answer_afl.specs.Cursor.{stepped as o118, remaining as o119}
-use Rattle.answer_afl.specs.Entries.{firstEntry as o120, entries as o121, wholeEntries as o122, sfi as o123, records as o124}
-use Rattle.answer_afl.specs.Entries.{fileRight as o125, entryRight as o126, entriesRight as o127, recordsOf as o128}
-use Rattle.answer_afl.specs.Entries.{recordCount as o129, tooMany as o130, run as o131, readEntry as o132, readAll as o133}
-use Rattle.answer_afl.specs.Entries.{toRead as o134}
-use Rattle.answer_common.specs.Answer.{sizeBad as o135, statusBad as o136, only as o137, outer as o138, theOne as o139}
-use Rattle.answer_common.specs.Answer.{tagged as o140, valueUnder as o141, isOne as o142, inside as o143, outerBad as o144}
-use Rattle.answer_common.specs.Answer.{frame as o145}
-use Rattle.answer_common.specs.CardNumber.{halves as o146, digits as o147, onlyF as o148, cardNumber as o149}
-use Rattle.answer_common.specs.Content.{meets as o150, rules as o151, ruleFor as o152, rightValue as o153}
-use Rattle.answer_common.specs.Forms.{lacks as o154}
-use Rattle.answer_common.specs.Named.{membersIn as o155, listed as o156, named as o157, among as o158, direct as o159}
-use Rattle.answer_common.specs.Named.{standing as o160, times as o161, told as o162, valueOf as o163, wrongValue as o164}
-use Rattle.answer_common.specs.Named.{anyTimes as o165, anyWrong as o166}
-use Rattle.session_records.specs.Runs.{noRun as o167, keptRun as o168, runHeld as o169, inRun as o170}
-use Rattle.session_records.specs.Slots.{orElse as o171, room as o172, nowhere as o173, placed as o174, total as o175}
-use Rattle.session_records.specs.Slots.{recordSlot as o176, slotFor as o177, cellIn as o178, read as o179, toldIn as o180}
-use Rattle.session_records.specs.Slots.{keptAt as o181, keptIn as o182, keptTold as o183, keptObjects as o184}
-use Rattle.session_records.specs.Slots.{keptPlaces as o185, full as o186, emptyStore as o187, told as o188, withRecord as o189}
-use Rattle.decide_tvr.specs.Bits.{joined as o190, meet as o191, flag as o192}
-use Rattle.decide_tvr.specs.Results.{differentVersions as o193, expired as o194, notYetEffective as o195, riskManaged as o196}
-use Rattle.decide_tvr.specs.Results.{atFloorLimit as o197, drawn as o198, restrictions as o199, risks as o200}
-use Rattle.decide_tvr.specs.Results.{tvrAfterRecords as o201, tsiAfterRecords as o202, tsiAfterFirstAnswer as o203}
-use Rattle.decide_tvr.specs.Selection.{biased as o204, chosen as o205, selected as o206}
-use Rattle.decide_requests.specs.Replies.{codeIn as o207, saidBy as o208, replyOf as o209, isReply as o210, responseCode as o211}
-use Rattle.decide_requests.specs.Requests.{issuerCode as o212, codeMatch as o213, byType as o214, firstRequest as o215}
-use Rattle.decide_requests.specs.Requests.{whenUnable as o216, secondRequest as o217, givenBy as o218}
-use Rattle.dol_wanted.specs.Wanted.{andThen as o219, sizeAt as o220, firstWanted as o221, asks as o222, wantedStep as o223}
-use Rattle.dol_wanted.specs.Wanted.{entriesOf as o224, total as o225, totalBy as o226, totalOf as o227, fits as o228}
-use Rattle.dol_wanted.specs.Wanted.{fillable as o229, tally as o230}
-use Rattle.dol_values.specs.Known.{ownField as o231, valueBy as o232, valueFor as o233, withFormat as o234, supplied as o235}
-use Rattle.dol_values.specs.Shape.{shaped as o236, formatOf as o237}
-use Rattle.dol_fill.specs.Filled.{entryBytes as o238, firstBytes as o239, filled as o240, filledBy as o241, filledList as o242}
-use Rattle.dol_fill.specs.Filled.{filling as o243, missing as o244, missingIn as o245, missingBy as o246, unsupplied as o247}
-use Rattle.dol_fill.specs.Filled.{summed as o248}
-use Rattle.commands.specs.Commands.{selectCommand as o249, optionsCommand as o250, recordCommand as o251, withLength as o252}
-use Rattle.commands.specs.Commands.{cryptogramCommand as o253, sizeIn as o254, dataSize as o255}
-use Rattle.answer_select.specs.Select.{inner as o256, pdolOf as o257, begins as o258, nameWrong as o259, selectTwice as o260}
-use Rattle.answer_select.specs.Select.{selectWrong as o261, selectLines as o262, selectReason as o263}
-use Rattle.answer_record.specs.Records.{again as o264, anyAgain as o265, recordTwice as o266, recordLines as o267}
-use Rattle.answer_record.specs.Records.{recordReason as o268, valueIn as o269, namedIn as o270, incomplete as o271}
-use Rattle.answer_record.specs.Records.{completeReason as o272, afterRecords as o273}
-use Rattle.answer_gpo.specs.Options.{profileOf as o274, locatorOf as o275, optionsWrong as o276, optionsLines as o277}
-use Rattle.answer_gpo.specs.Options.{optionsReason as o278}
-use Rattle.answer_cryptogram.specs.Cryptogram.{informationOf as o279, cryptogramOf as o280, cryptogramWrong as o281}
-use Rattle.answer_cryptogram.specs.Cryptogram.{cryptogramLines as o282, cryptogramReason as o283, allows as o284}
-use Rattle.rulebook.specs.Machine.{due as o285, sayable as o286, next as o287, andOn as o288}
-use Rattle.rulebook.specs.Phase.{situationOf as o289, commandOf as o290, dueKind as o291, decisionOf as o292}
-use Rattle.rulebook.specs.Phase.{decided as o293, ended as o294, tvrOf as o295, tsiOf as o296}
-use Rattle.rulebook.specs.Roles.{given as o297}
-use Rattle.rulebook.specs.Session.{isPayload as o298, phasesOf as o299}
-use Rattle.rulebook.specs.Situation.{begun as o300, profileKnown as o301, knownIn as o302, listIn as o303}
-use Rattle.rulebook.specs.Turn.{goesOn as o304, opened as o305, selected as o306, managed as o307, requested as o308}
-use Rattle.rulebook.specs.Turn.{allRead as o309, readOn as o310, withProfile as o311, optioned as o312, withRecord as o313}
-use Rattle.rulebook.specs.Turn.{recorded as o314, answered as o315, replied as o316, online as o317, byFirst as o318}
-use Rattle.rulebook.specs.Turn.{firstAllows as o319, secondAllows as o320, firstAnswered as o321, secondAnswered as o322}
-use Rattle.rulebook.specs.Turn.{turn as o323, allowed as o324, replyMade as o325, heard as o326, after as o327}
+use Rattle.slices.specs.Choice.{pick as o0, firstOf as o1, unlessEmpty as o2}
+use Rattle.slices.specs.Shorter.{counted as o3, shorter as o4}
+use Rattle.slices.specs.Tables.{anyOf as o5, beside as o6}
+use Rattle.slices.specs.Tests.{every as o7, between as o8, alike as o9, isSome as o10}
+use Rattle.slices.specs.Writing.{put as o11, laid as o12, zeros as o13}
+use Rattle.tlv_head.specs.Head.{firstByte as o14, constructed as o15, twoBytes as o16, tagSize as o17, tagOf as o18}
+use Rattle.tlv_head.specs.Head.{tagRight as o19, lengthByte as o20, lengthForm as o21, lengthSize as o22, lengthOf as o23}
+use Rattle.tlv_head.specs.Head.{valueStart as o24, valueEnd as o25, whole as o26}
+use Rattle.tlv_head.specs.Member.{memberAt as o27}
+use Rattle.tlv_list.specs.Lookup.{met as o28, lookup as o29, firstAmong as o30, firstFrom as o31, unless as o32, alone as o33}
+use Rattle.tlv_list.specs.Lookup.{findInChecked as o34, foundValue as o35, seek as o36, lookupRefusal as o37}
+use Rattle.tlv_list.specs.Objects.{between as o38, firstObject as o39, before as o40, rightInside as o41, listed as o42}
+use Rattle.tlv_list.specs.Objects.{objects as o43, isList as o44, readRefusal as o45}
+use Rattle.tlv_list.specs.Place.{fillers as o46, nextAt as o47, objectAt as o48, follow as o49, walk as o50, placesFrom as o51}
+use Rattle.tlv_list.specs.Place.{dataField as o52}
+use Rattle.tlv_write.specs.Written.{isTag as o53, tagBytes as o54, lengthBytes as o55, written as o56, writtenAll as o57}
+use Rattle.tlv_write.specs.Written.{fitsTag as o58, writeRefusal as o59, refusalOf as o60, sizeOf as o61, sizeWritten as o62}
+use Rattle.tlv_write.specs.Written.{bufferAfter as o63}
+use Rattle.tape_read.specs.Blocks.{head as o64, body as o65, block as o66, window as o67, field as o68, paddingIn as o69}
+use Rattle.tape_read.specs.Blocks.{allZero as o70, checkBad as o71, numberBad as o72, sessionBad as o73, kindBad as o74}
+use Rattle.tape_read.specs.Blocks.{spareBad as o75, lengthBad as o76, paddingBad as o77, contentTests as o78, codeOf as o79}
+use Rattle.tape_read.specs.Blocks.{payloadIn as o80, entryIn as o81}
+use Rattle.tape_read.specs.Entries.{isKind as o82, storable as o83, allStorable as o84}
+use Rattle.tape_read.specs.Numbers.{numberOf as o85, bytesOf as o86}
+use Rattle.tape_read.specs.Tapes.{preceded as o87, blockAt as o88, cut as o89, blocksOf as o90, readBlocks as o91}
+use Rattle.tape_read.specs.Tapes.{readFrom as o92, sessionOf as o93, readTape as o94, written as o95}
+use Rattle.decimal_dates.specs.Dates.{dateKey as o96, monthAndDay as o97, validStartDate as o98, validCardDate as o99}
+use Rattle.decimal_dates.specs.Decimal.{decimalFrom as o100, decimal as o101, decimalByte as o102, digitsOnly as o103}
+use Rattle.decimal_dates.specs.Decimal.{zerosOnly as o104}
+use Rattle.start_fields.specs.Reading.{readingOf as o105}
+use Rattle.start_valid.specs.Start.{validLength as o106, validKind as o107, validDigits as o108, validRandom as o109}
+use Rattle.start_valid.specs.Start.{validPercentages as o110, validThreshold as o111, validAid as o112, validStart as o113}
+use Rattle.start_valid.specs.Start.{terminalOf as o114, beginsSession as o115}
+use Rattle.answer_afl.specs.Cursor.{fromEntry as o116, entryAt as o117, start as o118, isLeft as o119, recordAt as o120}
+use Rattle.answer_afl.specs.Cursor.{stepped as o121, remaining as o122}
+use Rattle.answer_afl.specs.Entries.{firstEntry as o123, entries as o124, wholeEntries as o125, sfi as o126, records as o127}
+use Rattle.answer_afl.specs.Entries.{fileRight as o128, entryRight as o129, entriesRight as o130, recordsOf as o131}
+use Rattle.answer_afl.specs.Entries.{recordCount as o132, tooMany as o133, run as o134, readEntry as o135, readAll as o136}
+use Rattle.answer_afl.specs.Entries.{toRead as o137}
+use Rattle.answer_common.specs.Answer.{sizeBad as o138, statusBad as o139, only as o140, outer as o141, theOne as o142}
+use Rattle.answer_common.specs.Answer.{tagged as o143, valueUnder as o144, isOne as o145, inside as o146, outerBad as o147}
+use Rattle.answer_common.specs.Answer.{frame as o148}
+use Rattle.answer_common.specs.CardNumber.{halves as o149, digits as o150, onlyF as o151, cardNumber as o152}
+use Rattle.answer_common.specs.Content.{meets as o153, rowsFor as o154, namesFor as o155, rules as o156, ruleFor as o157}
+use Rattle.answer_common.specs.Content.{rightValue as o158}
+use Rattle.answer_common.specs.Forms.{lacks as o159}
+use Rattle.answer_common.specs.Named.{membersIn as o160, listed as o161, named as o162, among as o163, direct as o164}
+use Rattle.answer_common.specs.Named.{standing as o165, times as o166, told as o167, valueOf as o168, wrongValue as o169}
+use Rattle.answer_common.specs.Named.{anyTimes as o170, anyWrong as o171}
+use Rattle.session_records.specs.Runs.{noRun as o172, keptRun as o173, runHeld as o174, inRun as o175}
+use Rattle.session_records.specs.Slots.{orElse as o176, room as o177, nowhere as o178, placed as o179, total as o180}
+use Rattle.session_records.specs.Slots.{recordSlot as o181, slotFor as o182, cellIn as o183, read as o184, toldIn as o185}
+use Rattle.session_records.specs.Slots.{keptAt as o186, keptIn as o187, keptTold as o188, keptObjects as o189}
+use Rattle.session_records.specs.Slots.{keptPlaces as o190, full as o191, emptyStore as o192, told as o193, withRecord as o194}
+use Rattle.cvm_rules.specs.Conditions.{satisfied as o195}
+use Rattle.cvm_rules.specs.Methods.{methodOf as o196, supported as o197, succeeds as o198, pinBits as o199, triedBits as o200}
+use Rattle.cvm_rules.specs.Turns.{triedTurn as o201, tried as o202, turnOf as o203}
+use Rattle.cvm.specs.Lists.{limitOf as o204, limitX as o205, limitY as o206, rulesOf as o207, rulesIn as o208, isResult as o209}
+use Rattle.cvm.specs.Lists.{areResults as o210, inApplicationCurrency as o211}
+use Rattle.cvm.specs.Verified.{following as o212, verifiedFrom as o213, verified as o214}
+use Rattle.decide_tvr.specs.Bits.{joined as o215, meet as o216, flag as o217}
+use Rattle.decide_tvr.specs.Results.{differentVersions as o218, expired as o219, notYetEffective as o220, riskManaged as o221}
+use Rattle.decide_tvr.specs.Results.{atFloorLimit as o222, drawn as o223, restrictions as o224, risks as o225}
+use Rattle.decide_tvr.specs.Results.{tvrAfterRecords as o226, tsiAfterRecords as o227, tsiAfterFirstAnswer as o228}
+use Rattle.decide_tvr.specs.Selection.{biased as o229, chosen as o230, selected as o231}
+use Rattle.decide_requests.specs.Replies.{codeIn as o232, saidBy as o233, replyOf as o234, isReply as o235, responseCode as o236}
+use Rattle.decide_requests.specs.Requests.{issuerCode as o237, codeMatch as o238, byType as o239, firstRequest as o240}
+use Rattle.decide_requests.specs.Requests.{whenUnable as o241, secondRequest as o242, givenBy as o243}
+use Rattle.decide_verification.specs.Verification.{verificationSupported as o244, resultsDue as o245, verificationList as o246}
+use Rattle.decide_verification.specs.Verification.{resultsWanted as o247, circumstancesOf as o248, tvrAfterResults as o249}
+use Rattle.decide_verification.specs.Verification.{tsiAfterResults as o250}
+use Rattle.dol_wanted.specs.Wanted.{andThen as o251, sizeAt as o252, firstWanted as o253, asks as o254, wantedStep as o255}
+use Rattle.dol_wanted.specs.Wanted.{entriesOf as o256, total as o257, totalBy as o258, totalOf as o259, fits as o260}
+use Rattle.dol_wanted.specs.Wanted.{fillable as o261, tally as o262}
+use Rattle.dol_values.specs.Known.{ownField as o263, valueBy as o264, valueFor as o265, withFormat as o266, supplied as o267}
+use Rattle.dol_values.specs.Shape.{shaped as o268, formatOf as o269}
+use Rattle.dol_fill.specs.Filled.{entryBytes as o270, firstBytes as o271, filled as o272, filledBy as o273, filledList as o274}
+use Rattle.dol_fill.specs.Filled.{filling as o275, missing as o276, missingIn as o277, missingBy as o278, unsupplied as o279}
+use Rattle.dol_fill.specs.Filled.{summed as o280}
+use Rattle.commands.specs.Commands.{selectCommand as o281, optionsCommand as o282, recordCommand as o283, withLength as o284}
+use Rattle.commands.specs.Commands.{cryptogramCommand as o285, sizeIn as o286, dataSize as o287}
+use Rattle.answer_select.specs.Select.{inner as o288, pdolOf as o289, begins as o290, nameWrong as o291, selectTwice as o292}
+use Rattle.answer_select.specs.Select.{selectWrong as o293, selectLines as o294, selectReason as o295}
+use Rattle.answer_record.specs.Records.{again as o296, anyAgain as o297, recordTwice as o298, recordLines as o299}
+use Rattle.answer_record.specs.Records.{recordReason as o300, valueIn as o301, namedIn as o302, incomplete as o303}
+use Rattle.answer_record.specs.Records.{completeReason as o304, afterRecords as o305}
+use Rattle.answer_gpo.specs.Options.{profileOf as o306, locatorOf as o307, optionsWrong as o308, optionsLines as o309}
+use Rattle.answer_gpo.specs.Options.{optionsReason as o310}
+use Rattle.answer_cryptogram.specs.Cryptogram.{informationOf as o311, cryptogramOf as o312, cryptogramWrong as o313}
+use Rattle.answer_cryptogram.specs.Cryptogram.{cryptogramLines as o314, cryptogramReason as o315, allows as o316}
+use Rattle.rulebook.specs.Machine.{due as o317, sayable as o318, next as o319, andOn as o320}
+use Rattle.rulebook.specs.Phase.{situationOf as o321, commandOf as o322, dueKind as o323, decisionOf as o324}
+use Rattle.rulebook.specs.Phase.{decided as o325, ended as o326, tvrOf as o327, tsiOf as o328}
+use Rattle.rulebook.specs.Roles.{given as o329, begins as o330}
+use Rattle.rulebook.specs.Session.{isPayload as o331, phasesOf as o332}
+use Rattle.rulebook.specs.Situation.{begun as o333, knownIn as o334, listIn as o335}
+use Rattle.rulebook.specs.Turn.{goesOn as o336, opened as o337, selected as o338, managed as o339, requested as o340}
+use Rattle.rulebook.specs.Turn.{verifying as o341, allRead as o342, readOn as o343, withProfile as o344, optioned as o345}
+use Rattle.rulebook.specs.Turn.{withRecord as o346, recorded as o347, answered as o348, replied as o349, online as o350}
+use Rattle.rulebook.specs.Turn.{byFirst as o351, firstAllows as o352, secondAllows as o353, firstAnswered as o354}
+use Rattle.rulebook.specs.Turn.{secondAnswered as o355, turn as o356, allowed as o357, replyMade as o358, heard as o359}
+use Rattle.rulebook.specs.Turn.{verifiedBy as o360, after as o361}
 
 -- the state that a session's entries lead to
 unfoldable pub reached : List Entry → Option Machine
@@ -111,5 +123,6 @@ unfolding o0 o1 o2 o3 o4 o5 o6 o7 o8 o9 o10 o11 o12 o13 o14 o15 o16 o17 o18 o19 
     o245 o246 o247 o248 o249 o250 o251 o252 o253 o254 o255 o256 o257 o258 o259 o260 o261 o262 o263 o264 o265 o266 o267 o268 o269
     o270 o271 o272 o273 o274 o275 o276 o277 o278 o279 o280 o281 o282 o283 o284 o285 o286 o287 o288 o289 o290 o291 o292 o293 o294
     o295 o296 o297 o298 o299 o300 o301 o302 o303 o304 o305 o306 o307 o308 o309 o310 o311 o312 o313 o314 o315 o316 o317 o318 o319
-    o320 o321 o322 o323 o324 o325 o326 o327 run
+    o320 o321 o322 o323 o324 o325 o326 o327 o328 o329 o330 o331 o332 o333 o334 o335 o336 o337 o338 o339 o340 o341 o342 o343 o344
+    o345 o346 o347 o348 o349 o350 o351 o352 o353 o354 o355 o356 o357 o358 o359 o360 o361 run
 reached es = run es (at opens)

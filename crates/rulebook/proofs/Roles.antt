@@ -61,19 +61,23 @@ given-due done τ e h g = no-state τ h
 pub rightKernel : Kernel
 rightKernel es = after (run es (at opens))
 
-pub right-kernel : RightKernel rightKernel
-unfolding RightKernel rightKernel after run
-right-kernel es e rest play g =
+-- whichever START a session has
+gives-due : (es : List Entry) (e : Entry) (rest : List Entry) → Session (es ++ (e ∷ rest)) → given e ≡ true → rightKernel es ≡ e
+unfolding rightKernel after run
+gives-due es e rest play g =
     let whole = sym (run-append es (e ∷ rest) (at opens)) ∙ session-run (es ++ (e ∷ rest)) play in
     let t = taken (run (e ∷ rest)) (run es (at opens)) done whole in
     let n = taken (run rest) (next (t .0) e) done (t .1 .1) in
     ap after (t .1 .0) ∙ given-due (t .0) (n .0) e (n .1 .0) g
 
+pub right-kernel : RightKernel rightKernel
+unfolding RightKernel
+right-kernel es e rest play begun g = gives-due es e rest play g
+
 -- the entries before it settle what is given
 pub one-given : (es : List Entry) (d e : Entry) (rest more : List Entry) → Session (es ++ (d ∷ rest)) → Session (es ++ (e ∷ more))
     → given d ≡ true → given e ≡ true → d ≡ e
-unfolding RightKernel
-one-given es d e rest more a b g h = sym (right-kernel es d rest a g) ∙ right-kernel es e more b h
+one-given es d e rest more a b g h = sym (gives-due es d rest a g) ∙ gives-due es e more b h
 
 -- ---- judges
 

@@ -7,15 +7,26 @@ use mathlib.Core.Logic.{inl, inr, ⊎-elim}
 use mathlib.Core.Option.{none, some}
 use Prim.Native.Nat.{ℕ}
 use native.Mathlib.Omega.{arith}
-use Rattle.tape_read.specs.Entries.{Entry, entry, silence}
-use Rattle.rulebook.specs.Phase.{Asked, opens}
+use Rattle.slices.proofs.Choice.{pick-no}
+use Rattle.tape_read.specs.Entries.{Entry, entry, command, answer, silence, decision}
+use Rattle.rulebook.specs.Phase.{Asked, opens, asks, hears, decides, dueKind}
 use Rattle.rulebook.specs.Session.{Closed, Open, Lawful}
 use Rattle.rulebook.specs.Machine.{Machine, at, owes, done, next, andOn, run}
+use Rattle.rulebook.proofs.Said.{other-kinds}
 use Rattle.rulebook.proofs.Running.{no-state, session-run, run-session}
-use Rattle.rulebook.proofs.Reading.{run-append, beginning-run, awaits-run}
+use Rattle.rulebook.proofs.Reading.{other-kind, run-append, beginning-run, awaits-run}
 use Rattle.rulebook.proofs.Sorting.{run-beginning, run-awaits}
 use Rattle.rulebook.proofs.Trichotomy.{snoc-same}
 use Rattle.rulebook.proofs.Ends.{finishes}
+
+-- no state takes a silence
+pub silence-refused : (σ : Machine) (p : List ℕ) → next σ (entry silence p) ≡ none
+unfolding next
+silence-refused (at (asks w)) p = pick-no _ _ _ (other-kind command silence _ p refl)
+silence-refused (at (hears h)) p = pick-no _ _ _ (other-kind (dueKind h) silence _ p (other-kinds h .no-silence))
+silence-refused (at (decides outcome reason s)) p = pick-no _ _ _ (other-kind decision silence _ p refl)
+silence-refused (owes w) p = pick-no _ _ _ (other-kind answer silence _ p refl)
+silence-refused done p = refl
 
 module _ (es : List Entry) where
   pub state-lawful : (σ : Machine) → run es (at opens) ≡ some σ → Lawful es

@@ -1,11 +1,11 @@
--- Where a session stands: what is due next, and what was asked for. 01, "What the kernel plays and who decides".
+-- Where a session stands: what is due next, and what was asked for. 01, "What the kernel plays and who decides"; 02, R-7.
 -- Assumes nothing.
 use mathlib.Core.List.{List, [], _∷_, _++_}
 use mathlib.Core.Option.{Option, none, some}
 use Prim.Native.Nat.{ℕ}
 use Rattle.slices.specs.Writing.{zeros}
 use Rattle.dol_fill.specs.Filled.{filling}
-use Rattle.tape_read.specs.Entries.{start, host}
+use Rattle.tape_read.specs.Entries.{start, host, results}
 use Rattle.commands.specs.Commands.{selectCommand, optionsCommand, recordCommand, cryptogramCommand}
 use Rattle.decide_requests.specs.Requests.{p1Of}
 use Rattle.decide_requests.specs.declared.requests.Cryptogram.{Cryptogram}
@@ -30,6 +30,8 @@ pub data Heard : Type 0 where
   terminal : Heard
   -- the issuer's reply
   issuer : Situation → Heard
+  -- the results of cardholder verification (02, R-7)
+  attendant : Situation → Heard
 
 pub data Phase : Type 0 where
   -- a command is due, and then the card's answer
@@ -63,6 +65,7 @@ commandOf (second s request code) = cryptogramCommand (p1Of request) (filling (s
 unfoldable pub dueKind : Heard → ℕ
 dueKind terminal = start
 dueKind (issuer s) = host
+dueKind (attendant s) = results
 
 -- the outcomes (01, "The tape")
 abbrev pub approved : ℕ
@@ -89,10 +92,12 @@ unfoldable pub tvrOf : Phase → List ℕ
 tvrOf (asks w) = situationOf w .tvr
 tvrOf (hears terminal) = zeros 5
 tvrOf (hears (issuer s)) = s .tvr
+tvrOf (hears (attendant s)) = s .tvr
 tvrOf (decides outcome reason s) = s .tvr
 
 unfoldable pub tsiOf : Phase → List ℕ
 tsiOf (asks w) = situationOf w .tsi
 tsiOf (hears terminal) = zeros 2
 tsiOf (hears (issuer s)) = s .tsi
+tsiOf (hears (attendant s)) = s .tsi
 tsiOf (decides outcome reason s) = s .tsi

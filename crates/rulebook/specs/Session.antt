@@ -31,9 +31,10 @@ pub data Plays : Phase → List Entry → Type 0 where
 unfoldable pub Session : List Entry → Type 0
 Session es = Plays opens es
 
--- no session has more entries (01, "The tape"): START, SELECT, GPO and each record with their answers, two requests, HOST, DECISION
+-- no session has more entries (01, "The tape"; 02, R-7 and R-8): START, SELECT, GPO and each record with their answers, the results of
+-- cardholder verification, two requests, HOST, DECISION
 abbrev pub longest : ℕ
-longest = 11 + 2 * mostRecords
+longest = 12 + 2 * mostRecords
 
 -- an unfinished beginning: something is left to come
 unfoldable pub Beginning : List Entry → Type 0

@@ -3,6 +3,7 @@
 use mathlib.Core.List.{List, [], _∷_}
 use mathlib.Core.Option.{Option, none, some, Option·getD}
 use Prim.Native.Nat.{ℕ}
+use Rattle.slices.specs.Choice.{unlessEmpty}
 use Rattle.slices.specs.Writing.{zeros}
 use Rattle.start_fields.specs.Reading.{Terminal}
 use Rattle.slices.specs.Tables.{beside}
@@ -21,17 +22,12 @@ pub record Situation : Type 0 where
 unfoldable pub begun : Terminal → Situation
 begun t = record { terminal = t; profile = []; facts = λ tag. none; tvr = zeros 5; tsi = zeros 2 }
 
--- the profile is known once it was read
-unfoldable pub profileKnown : List ℕ → Option (List ℕ)
-profileKnown [] = none
-profileKnown (b ∷ bs) = some (b ∷ bs)
-
 -- what an object list is filled from beside START (01, "The commands"): TVR and TSI, the response code from the second request on,
--- the profile, and what the records told; which of these lists know, the table of formats says
+-- the profile once it was read, and what the records told; which of these lists know, the table of formats says
 unfoldable pub knownIn : Situation → Option (List ℕ) → Facts
 knownIn s response tag =
     beside (s .facts tag) tag
-    ((0x95, some (s .tvr)) ∷ (0x9B, some (s .tsi)) ∷ (0x8A, response) ∷ (0x82, profileKnown (s .profile)) ∷ [])
+    ((0x95, some (s .tvr)) ∷ (0x9B, some (s .tsi)) ∷ (0x8A, response) ∷ (0x82, unlessEmpty (s .profile)) ∷ [])
 
 -- an object list that a record told; empty where none did
 unfoldable pub listIn : Situation → ℕ → List ℕ

@@ -1,5 +1,5 @@
 -- How a session goes on: after each of the card's answers, and after what somebody else says. 01, "What the card must
--- answer" and "From facts to a decision".
+-- answer" and "From facts to a decision"; 02, R-7.
 -- Assumes nothing.
 use mathlib.Core.Bool.{Bool}
 use mathlib.Core.List.{List, [], _∷_}
@@ -11,6 +11,8 @@ use Rattle.tlv_list.specs.Objects.{isSome}
 use Rattle.start_fields.specs.Reading.{Terminal, readingOf}
 use Rattle.start_valid.specs.Start.{validStart}
 use Rattle.session_records.specs.Slots.{orElse}
+use Rattle.answer_common.specs.Content.{namesFor}
+use Rattle.cvm.specs.Lists.{areResults}
 use Rattle.dol_wanted.specs.Wanted.{fillable}
 use Rattle.answer_select.specs.Select.{selectReason, pdolOf}
 use Rattle.answer_gpo.specs.Options.{optionsReason, profileOf, locatorOf}
@@ -18,6 +20,7 @@ use Rattle.answer_afl.specs.Entries.{toRead}
 use Rattle.answer_record.specs.Records.{recordReason, namedIn, afterRecords}
 use Rattle.answer_cryptogram.specs.Cryptogram.{cryptogramReason, cryptogramOf}
 use Rattle.decide_tvr.specs.Results.{tvrAfterRecords, tsiAfterRecords, tsiAfterFirstAnswer}
+use Rattle.decide_verification.specs.Verification.{resultsDue, resultsWanted, tvrAfterResults, tsiAfterResults}
 use Rattle.decide_requests.specs.Requests.{firstRequest, secondRequest, givenBy, firstAllowed, secondAllowed}
 use Rattle.decide_requests.specs.Replies.{codeIn, replyOf, isReply, responseCode}
 use Rattle.decide_requests.specs.declared.requests.Cryptogram.{Cryptogram}
@@ -26,7 +29,7 @@ use Rattle.decide_requests.specs.declared.reply.HostReply.the-variants.{Unable}
 use Rattle.decide_requests.specs.declared.reply.HostHeard.{HostHeard}
 use Rattle.decide_requests.specs.declared.reply.HostHeard.the-variants.{Said, Nothing}
 use Rattle.rulebook.specs.Situation.{Situation, begun, listIn}
-use Rattle.rulebook.specs.Phase.{Asked, selecting, optioning, reading, first, second, Heard, terminal, issuer, Phase, asks, hears}
+use Rattle.rulebook.specs.Phase.{Asked, selecting, optioning, reading, first, second, Heard, terminal, issuer, attendant, Phase, asks, hears}
 use Rattle.rulebook.specs.Phase.{decided, ended, approved, declined}
 
 -- a bad answer ends the session with its reason; otherwise it goes on
@@ -56,9 +59,14 @@ managed s =
 unfoldable pub requested : ℕ → Situation → Phase
 requested reason s = goesOn reason s (asks (first s (firstRequest (s .terminal) (s .facts) (s .tvr))))
 
--- after the last record: 8 comes before the bits are set, 9 after
+-- the results of cardholder verification, where they are due; else the first request (02, R-7)
+unfoldable pub verifying : Situation → Phase
+verifying s =
+    pick (resultsDue (s .terminal) (s .profile) (s .facts)) (hears (attendant s)) (requested (afterRecords (s .facts)) s)
+
+-- after the last record: 8 comes before the bits are set; 9 after, and after the results of cardholder verification
 unfoldable pub allRead : Situation → Phase
-allRead s = pick (eqb (afterRecords (s .facts)) 8) (ended 8 s) (requested (afterRecords (s .facts)) (managed s))
+allRead s = pick (eqb (afterRecords (s .facts)) 8) (ended 8 s) (verifying (managed s))
 
 -- the next record, or the end of them
 unfoldable pub readOn : Situation → List (ℕ × ℕ) → Phase
@@ -72,20 +80,21 @@ withProfile s profile = record { terminal = s .terminal; profile = profile; fact
 unfoldable pub optioned : Situation → List ℕ → Phase
 optioned s a = goesOn (optionsReason a) s (readOn (withProfile s (profileOf a)) (toRead (locatorOf a)))
 
--- what a record tells of the names that count is added to what was told before
+-- what a record tells of the names that count for the terminal is added to what was told before
 unfoldable pub withRecord : Situation → List ℕ → Situation
 withRecord s a =
     record {
       terminal = s .terminal;
       profile = s .profile;
-      facts = λ tag. orElse (s .facts tag) (namedIn tag a);
+      facts = λ tag. orElse (s .facts tag) (namedIn (namesFor (s .terminal)) tag a);
       tvr = s .tvr;
       tsi = s .tsi;
     }
 
 -- after a record
 unfoldable pub recorded : Situation → List (ℕ × ℕ) → List ℕ → Phase
-recorded s rest a = goesOn (recordReason (λ tag. isSome (s .facts tag)) a) s (readOn (withRecord s a) rest)
+recorded s rest a =
+    goesOn (recordReason (namesFor (s .terminal)) (λ tag. isSome (s .facts tag)) a) s (readOn (withRecord s a) rest)
 
 -- an allowed first answer sets a bit of the TSI
 unfoldable pub answered : Situation → Situation
@@ -128,10 +137,11 @@ turn (reading s number file rest) a = recorded s rest a
 turn (first s request) a = firstAnswered s request a
 turn (second s request code) a = secondAnswered s request a
 
--- what may be said: a valid START (01, "The tape"); one of the issuer's replies
+-- what may be said: a valid START (01, "The tape"); one of the issuer's replies; a result for each rule (02, R-7)
 unfoldable pub allowed : Heard → List ℕ → Bool
 allowed terminal p = validStart p
 allowed (issuer s) p = isReply (replyOf p)
+allowed (attendant s) p = areResults (resultsWanted (s .facts)) p
 
 -- the reply that is made; what is none is not allowed, and counts as unable
 unfoldable pub replyMade : HostHeard → HostReply
@@ -142,7 +152,19 @@ replyMade Nothing = Unable
 unfoldable pub heard : Situation → HostReply → List ℕ → Phase
 heard s reply payload = replied s reply (codeIn payload)
 
+-- the bits that the results of cardholder verification set
+unfoldable pub verifiedBy : Situation → List ℕ → Situation
+verifiedBy s results =
+    record {
+      terminal = s .terminal;
+      profile = s .profile;
+      facts = s .facts;
+      tvr = tvrAfterResults (s .terminal) (s .facts) results (s .tvr);
+      tsi = tsiAfterResults (s .tsi);
+    }
+
 -- after what somebody else says
 unfoldable pub after : Heard → List ℕ → Phase
 after terminal p = opened (readingOf p)
 after (issuer s) p = heard s (replyMade (replyOf p)) p
+after (attendant s) p = requested (afterRecords (s .facts)) (verifiedBy s p)

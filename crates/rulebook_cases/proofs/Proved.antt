@@ -1,7 +1,7 @@
 -- Each case holds by computation.
 -- Assumes nothing.
 use mathlib.Core.Path.{_≡_, refl}
-use Rattle.slices.specs.Choice.{pick, firstOf}
+use Rattle.slices.specs.Choice.{pick, firstOf, unlessEmpty}
 use Rattle.slices.specs.Shorter.{counted, shorter}
 use Rattle.slices.specs.Writing.{zeros}
 use Rattle.tlv_head.specs.Head.{firstByte, constructed, twoBytes, tagSize, tagOf, tagRight, lengthByte, lengthForm, lengthSize, lengthOf, valueStart, valueEnd, whole}
@@ -28,8 +28,8 @@ use Rattle.decide_requests.specs.Requests.{issuerCode, codeMatch, byType, first
 use Rattle.rulebook_cases.specs.Table.{plain, noCodes, trial, amount7500, amount7499, located, unprofiled, Cases}
 
 pub table : Cases
-unfolding pick firstOf counted shorter zeros firstByte constructed twoBytes tagSize tagOf tagRight lengthByte lengthForm lengthSize
-    lengthOf valueStart valueEnd whole between firstObject isSome before rightInside listed objects shaped formatOf
+unfolding pick firstOf unlessEmpty counted shorter zeros firstByte constructed twoBytes tagSize tagOf tagRight lengthByte lengthForm
+    lengthSize lengthOf valueStart valueEnd whole between firstObject isSome before rightInside listed objects shaped formatOf
     recordCommand firstEntry entries sfi records entryRight entriesRight recordsOf recordCount tooMany run readEntry readAll toRead
     joined meet biased chosen issuerCode codeMatch byType firstRequest plain noCodes dataField met lookup every within anyOf beside
     sizeBad statusBad only outer tagged valueUnder isOne inside outerBad frame wholeEntries meets rules ruleFor rightValue lacks

@@ -4,7 +4,7 @@
 use mathlib.Core.Path.{_≡_}
 use mathlib.Core.Bool.{Bool, true, false}
 use mathlib.Core.List.{List, [], _∷_, _++_}
-use mathlib.Core.Option.{Option, some}
+use mathlib.Core.Option.{Option, none, some}
 use Prim.Native.Nat.{ℕ, _+_}
 use lib.ListN.{length}
 use Rattle.tlv_list.specs.Objects.{Object, objects, readRefusal}
@@ -50,6 +50,7 @@ trial random amount =
       online = zeros 5;
       default = zeros 5;
       aid = [];
+      capabilities = none;
     }
 
 unfoldable pub amount7500 : List ℕ

@@ -2,7 +2,7 @@
 -- is another. What is asked of a kernel and of a judge stands in Roles, with right ones, so that nothing here holds for want of any.
 -- Assumes nothing.
 use mathlib.Core.Path.{_≡_, refl, sym, ap, _∙_}
-use mathlib.Core.Bool.{false}
+use mathlib.Core.Bool.{true, false}
 use mathlib.Core.List.{List, [], _∷_, _++_}
 use mathlib.Core.Logic.{inl}
 use Prim.Native.Nat.{ℕ, zero, suc}
@@ -12,10 +12,11 @@ use lib.ListN.{length, take, getD}
 use borrow.Author.Tests.{eqb-false}
 use Rattle.tlv_list.specs.Objects.{isSome}
 use Rattle.tape_read.specs.Entries.{Entry, entry, start, command, answer, host, decision}
+use Rattle.start_valid.specs.Start.{beginsSession}
 use Rattle.rulebook.specs.Session.{Session, Open, BreaksAt}
 use Rattle.rulebook.proofs.Opening.{reached}
 use Rattle.rulebook.proofs.Breaks.{begins-empty}
-use Rattle.rulebook.specs.Roles.{given, Kernel, RightKernel, Verdict, pass, inconclusive, fail, Judge, RightJudge}
+use Rattle.rulebook.specs.Roles.{given, begins, Kernel, RightKernel, Verdict, pass, inconclusive, fail, Judge, RightJudge}
 use Rattle.rulebook.proofs.Made.{startOf, select, selected, withList, options, withNumber, optioned, readOne, recorded, number}
 use Rattle.rulebook.proofs.Made.{firstAsked, secondAsked, given as cryptogram, aac, tc, arqc, decides, exchange, opening, reads, breaks}
 use Rattle.rulebook_worked.proofs.Sessions.{approved-online, declined-online, other-list}
@@ -29,6 +30,11 @@ first-of zero buffer b bs e = absurd (let z : _≡_ {A = ℕ} 0 1 = cc in omega 
 first-of (suc n) [] b bs e = absurd (let z : _≡_ {A = ℕ} 0 1 = cc in omega arith)
 first-of (suc n) (c ∷ cs) b bs e = cc
 
+-- its START is one that a session can be begun with
+pub begun : begins (offline 2 tc 1) ≡ true
+unfolding reached begins beginsSession
+begun = refl
+
 module _ (k : Kernel) (right : RightKernel k) where
   -- what a right kernel gives in a session of type 2 that is approved offline: SELECT, GPO, the first request and the decision
   abbrev asking : List Entry
@@ -40,24 +46,25 @@ module _ (k : Kernel) (right : RightKernel k) where
       right (entry start (startOf 2) ∷ []) (entry command select)
       (entry answer selected ∷ (exchange options (optioned 1 1)
       ++ (exchange readOne (recorded number) ++ (asking ++ decides 1 0 0x80 0x20))))
-      (approved-offline .0) refl
+      (approved-offline .0) begun refl
 
   second-command : k (entry start (startOf 2) ∷ exchange select selected) ≡ entry command options
   unfolding RightKernel given
   second-command =
       right (entry start (startOf 2) ∷ exchange select selected) (entry command options)
       (entry answer (optioned 1 1) ∷ (exchange readOne (recorded number) ++ (asking ++ decides 1 0 0x80 0x20)))
-      (approved-offline .0) refl
+      (approved-offline .0) begun refl
 
   request : k (opening 2) ≡ entry command (firstAsked tc)
   unfolding RightKernel given
   request =
-      right (opening 2) (entry command (firstAsked tc)) (entry answer (cryptogram tc) ∷ decides 1 0 0x80 0x20) (approved-offline .0) refl
+      right (opening 2) (entry command (firstAsked tc)) (entry answer (cryptogram tc) ∷ decides 1 0 0x80 0x20)
+      (approved-offline .0) begun refl
 
   last-entry : k (opening 2 ++ asking) ≡ entry decision (1 ∷ 0 ∷ 0x80 ∷ 0 ∷ 0 ∷ 0 ∷ 0 ∷ 0x20 ∷ 0 ∷ [])
   unfolding RightKernel given
   last-entry =
-      right (opening 2 ++ asking) (entry decision (1 ∷ 0 ∷ 0x80 ∷ 0 ∷ 0 ∷ 0 ∷ 0 ∷ 0x20 ∷ 0 ∷ [])) [] (approved-offline .0) refl
+      right (opening 2 ++ asking) (entry decision (1 ∷ 0 ∷ 0x80 ∷ 0 ∷ 0 ∷ 0 ∷ 0 ∷ 0x20 ∷ 0 ∷ [])) [] (approved-offline .0) begun refl
 
   -- it does not terminate everything: that session's outcome is approved
   pub not-terminating : ((es : List Entry) → k es .kind ≡ decision → getD (k es .payload) 0 0 ≡ 3) → ⊥
@@ -86,6 +93,7 @@ module _ (k : Kernel) (right : RightKernel k) where
 
 -- two sessions with the same START that go on for as many entries, and then have a command each that is not the other's
 pub record Parts (s : Entry) : Type 0 where
+  pub begun : beginsSession (s .payload) ≡ true
   pub one : List Entry
   pub other : List Entry
   pub long : length one ≡ length other
@@ -100,11 +108,12 @@ pub record Parts (s : Entry) : Type 0 where
 -- a kernel that settles all at START, and then plays by the number of entries, is not right where they part
 pub not-settled : (s : Entry) → Parts s → (k : Kernel) → RightKernel k → (f : Entry → ℕ → Entry)
     → ((t : Entry) (es : List Entry) → k (t ∷ es) ≡ f t (length es)) → ⊥
-unfolding RightKernel given
+unfolding RightKernel given begins
 not-settled s p k right f wrong =
-    let a : k (s ∷ p .one) ≡ entry command (p .asked) = right (s ∷ p .one) (entry command (p .asked)) (p .rest) (p .session) refl in
+    let a : k (s ∷ p .one) ≡ entry command (p .asked) = right (s ∷ p .one) (entry command (p .asked)) (p .rest) (p .session)
+    (p .begun) refl in
     let b : k (s ∷ p .other) ≡ entry command (p .otherwise) =
-    right (s ∷ p .other) (entry command (p .otherwise)) (p .more) (p .another) refl in
+    right (s ∷ p .other) (entry command (p .otherwise)) (p .more) (p .another) (p .begun) refl in
     let same : k (s ∷ p .one) ≡ k (s ∷ p .other) = wrong s (p .one) ∙ (ap (f s) (p .long) ∙ sym (wrong s (p .other))) in
     p .apart (ap (λ (e : Entry). e .payload) (sym a ∙ (same ∙ b)))
 
@@ -118,11 +127,16 @@ ending = entry answer [] ∷ decides 3 1 0 0
 abbrev terminal : Entry
 terminal = entry start (startOf 2)
 
+terminal-begins : beginsSession (startOf 2) ≡ true
+unfolding reached beginsSession
+terminal-begins = refl
+
 -- each command after SELECT depends on what was answered: GPO on the answer to SELECT,
 pub options-depend : Parts terminal
 unfolding reached
 options-depend =
     record {
+      begun = terminal-begins;
       one = exchange select selected;
       other = exchange select withList;
       long = refl;
@@ -140,6 +154,7 @@ pub records-depend : Parts terminal
 unfolding reached
 records-depend =
     record {
+      begun = terminal-begins;
       one = exchange select selected ++ exchange options (optioned 1 1);
       other = exchange select selected ++ exchange options (optioned 2 2);
       long = refl;
@@ -160,6 +175,7 @@ pub first-depends : Parts terminal
 unfolding reached
 first-depends =
     record {
+      begun = terminal-begins;
       one = upTo number;
       other = upTo (0x9F ∷ 0x02 ∷ 0x02 ∷ []);
       long = refl;
@@ -180,6 +196,7 @@ pub second-depends : Parts terminal
 unfolding reached
 second-depends =
     record {
+      begun = terminal-begins;
       one = asksOnline (1 ∷ 0x30 ∷ 0x30 ∷ []);
       other = asksOnline (2 ∷ 0x30 ∷ 0x35 ∷ []);
       long = refl;

@@ -12,7 +12,8 @@ use lib.ListN.{length}
 use Rattle.slices.specs.Choice.{pick}
 use Rattle.slices.proofs.Choice.{picked}
 use Rattle.tape_read.specs.Entries.{Entry}
-use Rattle.answer_common.specs.Content.{recordTag, recordNames}
+use Rattle.answer_common.specs.Answer.{valueMost}
+use Rattle.answer_common.specs.Content.{recordTag, namesFor}
 use Rattle.answer_common.specs.Named.{direct, told, valueOf, listed}
 use Rattle.answer_common.proofs.Members.{direct-size}
 use Rattle.answer_record.specs.Records.{valueIn, namedIn, afterRecords}
@@ -23,14 +24,15 @@ use Rattle.start_fields.specs.Reading.{Terminal}
 use Rattle.dol_fill.specs.Filled.{unsupplied}
 use Rattle.dol_fill.proofs.Missing.{unsupplied-half}
 use Rattle.rulebook.specs.Situation.{Situation, begun, knownIn, listIn}
-use Rattle.rulebook.specs.Phase.{Asked, selecting, optioning, reading, first, second, Heard, terminal, issuer, Phase, opens, asks, hears, decides}
-use Rattle.rulebook.specs.Turn.{goesOn, opened, selected, managed, requested, allRead, readOn, withProfile, optioned, withRecord, recorded, answered, replied, online, byFirst, firstAnswered, secondAnswered, turn, replyMade, heard, after}
+use Rattle.rulebook.specs.Phase.{Asked, selecting, optioning, reading, first, second, Heard, terminal, issuer, attendant, Phase, opens, asks, hears, decides}
+use Rattle.rulebook.specs.Turn.{goesOn, opened, selected, managed, requested, verifying, allRead, readOn, withProfile, optioned, withRecord, recorded, answered, replied, online, byFirst, firstAnswered, secondAnswered, turn, replyMade, heard, verifiedBy, after}
 use Rattle.rulebook.specs.Machine.{Machine, at, owes, done, due, sayable, next}
 use Rattle.rulebook.proofs.Running.{chosen, no-state}
 use Rattle.dol_wanted.specs.Wanted.{fillable}
 use Rattle.answer_gpo.specs.Options.{profileOf, locatorOf}
 use Rattle.answer_cryptogram.specs.Cryptogram.{cryptogramOf}
 use Rattle.answer_afl.specs.Entries.{toRead}
+use Rattle.decide_verification.specs.Verification.{resultsDue}
 use Rattle.decide_requests.specs.Requests.{firstRequest, secondRequest}
 use Rattle.decide_requests.specs.declared.requests.Cryptogram.{Cryptogram}
 use Rattle.decide_requests.specs.declared.reply.HostReply.{HostReply}
@@ -40,15 +42,16 @@ use Rattle.rulebook.specs.Phase.{situationOf, ended, decided}
 use Rattle.rulebook_zeros.specs.Zeros.{mostEntries, unsuppliedAsking, unsuppliedIn}
 use Rattle.rulebook_zeros.specs.Summing.{newIn, countOn, zerosFrom, zerosOf}
 
--- what was told of any tag has at most 252 bytes
+-- what was told of any tag is no longer than an answer has room for
 abbrev Short : Situation → Type 0
-Short s = (tag : ℕ) → length (listIn s tag) ≤ 252
+Short s = (tag : ℕ) → length (listIn s tag) ≤ valueMost
 
 -- the situation of a phase is so, where a list may still be filled from it
 abbrev ShortIn : Phase → Type 0
 ShortIn (asks w) = Short (situationOf w)
 ShortIn (hears terminal) = Unit {0}
 ShortIn (hears (issuer s)) = Short s
+ShortIn (hears (attendant s)) = Short s
 ShortIn (decides outcome reason s) = Unit {0}
 
 -- the most that the lists still to come can add
@@ -63,16 +66,17 @@ unfoldable leftIn : Phase → ℕ
 leftIn (asks w) = leftAsking w
 leftIn (hears terminal) = 3 * mostEntries
 leftIn (hears (issuer s)) = mostEntries
+leftIn (hears (attendant s)) = 2 * mostEntries
 leftIn (decides outcome reason s) = 0
 
 -- a phase adds and leaves no more than n
 abbrev Within : ℕ → Phase → Type 0
 Within n p = ShortIn p × (unsuppliedIn p + leftIn p ≤ n)
 
-few : (t : Terminal) (k : Facts) (list : List ℕ) → length list ≤ 252 → unsupplied t k list ≤ mostEntries
+few : (t : Terminal) (k : Facts) (list : List ℕ) → length list ≤ valueMost → unsupplied t k list ≤ mostEntries
 few t k list h = let two = unsupplied-half t k list in omega arith
 
-options-few : (s : Situation) (list : List ℕ) → length list ≤ 252 → unsuppliedIn (asks (optioning s list)) ≤ mostEntries
+options-few : (s : Situation) (list : List ℕ) → length list ≤ valueMost → unsuppliedIn (asks (optioning s list)) ≤ mostEntries
 unfolding unsuppliedIn unsuppliedAsking
 options-few s list h = few (s .terminal) (knownIn s none) list h
 
@@ -87,21 +91,22 @@ second-few s request code short = few (s .terminal) (knownIn s (some code)) (lis
 -- ---- what was told stays short
 
 module _ (s : Situation) (short : Short s) where
-  else-short : (o other : Option (List ℕ)) → length (Option·getD o []) ≤ 252 → length (Option·getD other []) ≤ 252
-      → length (Option·getD (orElse o other) []) ≤ 252
+  else-short : (o other : Option (List ℕ)) → length (Option·getD o []) ≤ valueMost → length (Option·getD other []) ≤ valueMost
+      → length (Option·getD (orElse o other) []) ≤ valueMost
   unfolding orElse
   else-short none other h k = k
   else-short (some v) other h k = h
 
-  named-short : (tag : ℕ) (a : List ℕ) → length (Option·getD (namedIn tag a) []) ≤ 252
+  named-short : (names : List ℕ) (tag : ℕ) (a : List ℕ) → length (Option·getD (namedIn names tag a) []) ≤ valueMost
   unfolding namedIn valueIn valueOf
-  named-short tag a =
-      picked (λ (o : Option (List ℕ)). length (Option·getD o []) ≤ 252) (listed tag recordNames) (told (direct recordTag a tag)) none
+  named-short names tag a =
+      picked (λ (o : Option (List ℕ)). length (Option·getD o []) ≤ valueMost) (listed tag names) (told (direct recordTag a tag)) none
       (λ y. direct-size recordTag a tag) (λ n. omega arith)
 
   record-short : (a : List ℕ) → Short (withRecord s a)
   unfolding withRecord listIn
-  record-short a tag = else-short (s .facts tag) (namedIn tag a) (short tag) (named-short tag a)
+  record-short a tag = else-short (s .facts tag) (namedIn (namesFor (s .terminal)) tag a) (short tag) (named-short (namesFor
+      (s .terminal)) tag a)
 
   profile-short : (profile : List ℕ) → Short (withProfile s profile)
   unfolding withProfile listIn
@@ -110,6 +115,10 @@ module _ (s : Situation) (short : Short s) where
   managed-short : Short (managed s)
   unfolding managed listIn
   managed-short tag = short tag
+
+  verified-short : (results : List ℕ) → Short (verifiedBy s results)
+  unfolding verifiedBy listIn
+  verified-short results tag = short tag
 
   answered-short : Short (answered s)
   unfolding answered listIn
@@ -137,6 +146,12 @@ module _ (s : Situation) (short : Short s) where
       let h = first-few s request short in
       goes-within (2 * mostEntries) reason s (asks (first s request)) (short, omega arith)
 
+  verifying-within : Within (2 * mostEntries) (verifying s)
+  unfolding verifying unsuppliedIn leftIn
+  verifying-within =
+      picked (Within (2 * mostEntries)) (resultsDue (s .terminal) (s .profile) (s .facts)) _ _ (λ y. (short, omega arith))
+      (λ n. requested-within (afterRecords (s .facts)))
+
   replied-within : (reply : HostReply) (code : List ℕ) → Within mostEntries (replied s reply code)
   unfolding replied ended leftIn leftAsking situationOf
   replied-within reply code =
@@ -160,7 +175,7 @@ all-read-within : (s : Situation) → Short s → Within (2 * mostEntries) (allR
 unfolding allRead ended unsuppliedIn leftIn
 all-read-within s short =
     picked (Within (2 * mostEntries)) (eqb (afterRecords (s .facts)) 8) _ _ (λ y. (tt, omega arith))
-    (λ n. requested-within (managed s) (managed-short s short) (afterRecords (s .facts)))
+    (λ n. verifying-within (managed s) (managed-short s short))
 
 read-within : (s : Situation) → Short s → (rest : List (ℕ × ℕ)) → Within (2 * mostEntries) (readOn s rest)
 unfolding readOn unsuppliedIn unsuppliedAsking leftIn leftAsking situationOf
@@ -183,6 +198,7 @@ after-within : (h : Heard) (p : List ℕ) → ShortIn (hears h) → Within (left
 unfolding after opened heard leftIn leftAsking unsuppliedIn unsuppliedAsking situationOf begun listIn
 after-within terminal p short = ((λ tag. omega arith), omega arith)
 after-within (issuer s) p short = replied-within s short (replyMade (replyOf p)) (codeIn p)
+after-within (attendant s) p short = requested-within (verifiedBy s p) (verified-short s short p) (afterRecords (s .facts))
 
 -- ---- and so does the machine
 

@@ -5,6 +5,7 @@ use Prim.Native.Nat.{ℕ}
 use lib.Dec.{eqb}
 use Rattle.slices.specs.Choice.{pick}
 use Rattle.tlv_list.specs.Objects.{isSome}
+use Rattle.answer_common.specs.Content.{namesFor}
 use Rattle.answer_gpo.specs.Options.{optionsReason}
 use Rattle.answer_record.specs.Records.{recordReason}
 use Rattle.decide_tvr.specs.Results.{tsiAfterFirstAnswer}
@@ -18,7 +19,8 @@ unfoldable pub keeping : Asked → List ℕ → State → State
 keeping (selecting z) a s = s
 keeping (optioning z list) a s = pick (eqb (optionsReason a) 0) (withOptions a s) s
 keeping (reading z number file rest) a s =
-    pick (eqb (recordReason (λ name. isSome (z .facts name)) a) 0) (withTold (withRecord a (s .told)) s) s
+    pick (eqb (recordReason (namesFor (z .terminal)) (λ name. isSome (z .facts name)) a) 0)
+    (withTold (withRecord (namesFor (z .terminal)) a (s .told)) s) s
 keeping (first z request) a s = s
 keeping (second z request code) a s = s
 

@@ -1,4 +1,6 @@
 // How a session goes on after each answer of the card's.
+use answer_common::content::NAMES;
+use answer_common::content::names_for;
 use answer_cryptogram as cryptogram;
 use answer_cryptogram::Allowed;
 use answer_gpo::options_reason;
@@ -24,8 +26,12 @@ use session_state::State;
 use session_state::change::change;
 use session_state::change::with_options;
 use session_state::change::with_told;
+use slices::part;
 ghost use mathlib.Core.Path.{_≡_};
 ghost use mathlib.Core.List.{[]};
+ghost use Prim.Native.Nat.{_≤_};
+ghost use lib.ListN.{take};
+ghost use Rattle.answer_common.specs.Content.{recordNames, namesFor};
 ghost use Rattle.answer_cryptogram.specs.Cryptogram.{allows};
 ghost use Rattle.rulebook.specs.Phase.{selecting, optioning, reading as readingRecord, first as firstAsked, second as secondAsked};
 ghost use Rattle.rulebook.specs.Turn.{turn, firstAllows, secondAllows};
@@ -38,7 +44,8 @@ pub fn on_select(s: State, a: &[u8], buf: &mut [u8]) -> Step
         ≡ moved (turn (selecting (early s)) (now (a .entry))) (keeping (selecting (early s)) (now (a .entry)) s) (now (buf .entry)) ⌝ }
 {
     let start = s.start;
-    let terminal: &[u8] = &start;
+    let size = s.size;
+    let terminal = part(&start, 0, size);
     let why = answer_select::select_reason(terminal, a);
     if why != 0 {
         return end(s, why);
@@ -62,18 +69,29 @@ pub fn on_options(s: State, a: &[u8], buf: &mut [u8]) -> Step
     read_on(with_options(s, a), buf)
 }
 
+// How many of the names count in records.
+fn names_of(s: State) -> usize
+    ensures { λ r. ⌜ (take r recordNames ≡ namesFor (late s .terminal)) × (r ≤ 11) ⌝ }
+{
+    let start = s.start;
+    let size = s.size;
+    names_for(part(&start, 0, size))
+}
+
 pub fn on_record(s: State, a: &[u8], buf: &mut [u8]) -> Step
     ensures { λ r. ⌜ played r (now (buf .exit))
         ≡ moved (turn (readingRecord (late s) 0 0 (recordsLeft s)) (now (a .entry)))
         (keeping (readingRecord (late s) 0 0 (recordsLeft s)) (now (a .entry)) s) (now (buf .entry)) ⌝ }
 {
+    let names = NAMES;
+    let n = names_of(s);
     let store = s.told;
     let told = bytes_of(store);
-    let why = record_reason(&told, a);
+    let why = record_reason(&told, &names[..n], a);
     if why != 0 {
         return end(s, why);
     }
-    read_on(with_told(s, with_record(store, a)), buf)
+    read_on(with_told(s, with_record(store, &names[..n], a)), buf)
 }
 
 fn allowed_first(request: Cryptogram) -> Allowed

@@ -1,5 +1,6 @@
 // One event, one step on.
 use commands::write;
+use cvm::list::are_results;
 use decide_requests::reply::HostHeard;
 use decide_requests::reply::HostReply;
 use decide_requests::reply::code_in;
@@ -13,6 +14,7 @@ use session_phase::Speaker;
 use session_phase::Waiting;
 use session_state::State;
 use session_state::change::begun;
+use session_verification::on_results;
 use start_valid::valid_start;
 ghost use mathlib.Core.Path.{_≡_};
 ghost use mathlib.Core.List.{List};
@@ -61,6 +63,7 @@ fn on_word(s: State, speaker: Speaker, p: &[u8], buf: &mut [u8]) -> Step
     match speaker {
         Speaker::Terminal => on_start(p, buf),
         Speaker::Issuer => on_reply(s, p, buf),
+        Speaker::Attendant(_) => on_results(s, p, buf),
     }
 }
 
@@ -106,5 +109,6 @@ pub fn is_allowed(speaker: Speaker, p: &[u8]) -> bool
     match speaker {
         Speaker::Terminal => valid_start(p),
         Speaker::Issuer => is_reply(p),
+        Speaker::Attendant(count) => are_results(count, p),
     }
 }

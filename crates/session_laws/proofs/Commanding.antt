@@ -14,6 +14,7 @@ use Rattle.slices.specs.Writing.{laid}
 use Rattle.slices.proofs.Choice.{pick-yes, either}
 use Rattle.slices.proofs.Writing.{put-length, put-start, laid-fits, laid-short}
 use Rattle.start_fields.specs.Reading.{Terminal}
+use Rattle.dol_wanted.specs.Wanted.{most}
 use Rattle.dol_fill.specs.Filled.{filling}
 use Rattle.session_records.specs.Slots.{Facts}
 use Rattle.commands.specs.Commands.{longest, sizeIn}
@@ -22,13 +23,14 @@ use Rattle.commands.proofs.Shapes.{aid-most, select-most, options-most, record-
 use Rattle.decide_requests.specs.Requests.{p1Of}
 use Rattle.rulebook.specs.Situation.{knownIn, listIn}
 use Rattle.rulebook.specs.Phase.{Asked, selecting, optioning, reading, first, second, Phase, asks, hears, decides, situationOf, commandOf}
+use Rattle.session_state.specs.Reading.{startIn}
 use Rattle.session_state.specs.declared.State.{State}
 use Rattle.session_phase.specs.declared.Reply.the-variants.{Command}
 use Rattle.session_moves.specs.Moves.{replyIn, bufferIn}
 use Rattle.session_laws.specs.Agreeing.{StandsAt}
 use Rattle.session_laws.proofs.Standing.{asked-terminal}
 
-filling-most : (t : Terminal) (k : Facts) (list : List ℕ) → length (filling t k list) ≤ 252
+filling-most : (t : Terminal) (k : Facts) (list : List ℕ) → length (filling t k list) ≤ most
 filling-most t k list = let size = data-length t k list in let limit = data-most list in omega arith
 
 command-fits : (w : Asked) → length (situationOf w .terminal .aid) ≤ 16 → length (commandOf w) ≤ longest
@@ -41,7 +43,7 @@ command-fits (second z request code) h =
     cryptogram-most (p1Of request) _ (filling-most (z .terminal) (knownIn z (some code)) (listIn z 0x8D))
 
 pub command-most : (s : State) (w : Asked) → StandsAt s (asks w) → length (commandOf w) ≤ longest
-command-most s w h = command-fits w (subst (λ (t : Terminal). length (t .aid) ≤ 16) (sym (asked-terminal s w h)) (aid-most (s .start)))
+command-most s w h = command-fits w (subst (λ (t : Terminal). length (t .aid) ≤ 16) (sym (asked-terminal s w h)) (aid-most (startIn s)))
 
 -- a command in a buffer that has room for it
 module _ (w : Asked) (buf : List ℕ) (room : length (commandOf w) ≤ length buf) where

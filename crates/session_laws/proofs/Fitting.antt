@@ -4,35 +4,37 @@
 use mathlib.Core.Path.{_≡_, refl, sym, ap, subst}
 use mathlib.Core.Bool.{Bool, true, false}
 use mathlib.Core.List.{List, []}
-use Prim.Native.Nat.{ℕ}
+use Prim.Native.Nat.{ℕ, _≤_}
 use lib.Dec.{eqb}
 use lib.ListN.{length}
 use borrow.Author.Tests.{eqb-true}
 use Rattle.slices.specs.Choice.{pick}
 use Rattle.slices.proofs.Choice.{picked, either}
 use Rattle.tlv_list.specs.Objects.{isSome}
-use Rattle.start_fields.specs.Layout.{startLength}
+use Rattle.start_fields.specs.Layout.{fullLength}
 use Rattle.start_fields.specs.Reading.{readingOf}
 use Rattle.dol_wanted.specs.Wanted.{fillable}
 use Rattle.answer_afl.specs.Cursor.{isLeft}
 use Rattle.answer_afl.proofs.Walking.{none-remain, one-less}
 use Rattle.answer_select.specs.Select.{selectReason}
 use Rattle.answer_gpo.specs.Options.{optionsReason}
+use Rattle.answer_common.specs.Content.{namesFor}
 use Rattle.answer_record.specs.Records.{recordReason, afterRecords}
 use Rattle.answer_cryptogram.specs.Cryptogram.{cryptogramReason, cryptogramOf}
-use Rattle.start_valid.proofs.Laws.{start-length}
+use Rattle.start_valid.proofs.Laws.{valid-length}
+use Rattle.decide_verification.specs.Verification.{resultsDue}
 use Rattle.decide_requests.specs.Replies.{codeIn, replyOf}
 use Rattle.decide_requests.specs.declared.requests.Cryptogram.{Cryptogram}
 use Rattle.decide_requests.specs.declared.reply.HostReply.{HostReply}
 use Rattle.decide_requests.specs.declared.reply.HostReply.the-variants.{Unable}
 use Rattle.rulebook.specs.Situation.{Situation, listIn, begun as situationBegun}
-use Rattle.rulebook.specs.Phase.{Asked, selecting, optioning, reading, first, second, Phase, decides, situationOf, terminated, decided, ended, tvrOf, tsiOf}
-use Rattle.rulebook.specs.Turn.{goesOn, opened, selected, managed, requested, allRead, readOn, optioned, recorded, answered, replied, online, byFirst, firstAllows, secondAllows, firstAnswered, secondAnswered, turn, allowed, replyMade, heard, after}
-use Rattle.session_state.specs.Reading.{situationWith, early, late, recordsLeft, askedBy, heardBy}
+use Rattle.rulebook.specs.Phase.{Asked, selecting, optioning, reading, first, second, attendant, Phase, hears, decides, situationOf, terminated, decided, ended, tvrOf, tsiOf}
+use Rattle.rulebook.specs.Turn.{goesOn, opened, selected, managed, requested, verifying, allRead, readOn, optioned, recorded, answered, replied, online, byFirst, firstAllows, secondAllows, firstAnswered, secondAnswered, turn, allowed, replyMade, heard, verifiedBy, after}
+use Rattle.session_state.specs.Reading.{startIn, situationWith, early, late, recordsLeft, askedBy, heardBy}
 use Rattle.session_phase.specs.declared.Question.{Question}
 use Rattle.session_phase.specs.declared.Question.the-variants.{Select, Options, Record, First, Second}
 use Rattle.session_phase.specs.declared.Speaker.{Speaker}
-use Rattle.session_phase.specs.declared.Speaker.the-variants.{Terminal, Issuer}
+use Rattle.session_phase.specs.declared.Speaker.the-variants.{Terminal, Issuer, Attendant}
 use Rattle.session_records.specs.Slots.{told, withRecord}
 use Rattle.session_records.specs.Runs.{inRun}
 use Rattle.session_state.specs.Keeping.{withTold, withOptions, changed, stateAt, begun}
@@ -71,7 +73,7 @@ module _ (s : State) where
   -- the situation that is read off the state, with some TVR and TSI
   abbrev lateWith : List ℕ → List ℕ → Situation
   lateWith tvr tsi =
-      record { terminal = readingOf (s .start); profile = s .profile; facts = told (s .told); tvr = tvr; tsi = tsi }
+      record { terminal = readingOf (startIn s); profile = s .profile; facts = told (s .told); tvr = tvr; tsi = tsi }
 
   module _ (tvr tsi : List ℕ) where
     abbrev z : Situation
@@ -80,6 +82,12 @@ module _ (s : State) where
     requested-fits : (reason : ℕ) → Fits (requested reason z) s
     unfolding requested Fits Knows forgets standing changed keptAs questionOf tvrOf tsiOf situationOf cursorAfter cursorAsking askedBy late situationWith
     requested-fits reason = goes-fits reason z _ refl
+
+    verifying-fits : Fits (verifying z) s
+    unfolding verifying Fits Knows standing changed keptAs speakerOf heardBy tvrOf tsiOf cursorAfter late situationWith
+    verifying-fits =
+        picked (λ (q : Phase). Fits q s) (resultsDue (z .terminal) (z .profile) (z .facts)) _ _ (λ y. refl)
+        (λ n. requested-fits (afterRecords (z .facts)))
 
     replied-fits : (reply : HostReply) (code : List ℕ) → Fits (replied z reply code) s
     unfolding replied ended Fits Knows forgets standing changed keptAs questionOf tvrOf tsiOf situationOf cursorAfter cursorAsking askedBy late situationWith
@@ -99,7 +107,7 @@ module _ (s : State) where
   unfolding allRead ended managed late situationWith
   all-read-fits =
       picked (λ (q : Phase). Fits q s) (eqb (afterRecords (late s .facts)) 8) _ _ (λ y. decides-fits _ 8 (late s))
-      (λ n. requested-fits (managed (late s) .tvr) (managed (late s) .tsi) (afterRecords (late s .facts)))
+      (λ n. verifying-fits (managed (late s) .tvr) (managed (late s) .tsi))
 
   -- the next record is the one at the cursor, and the cursor goes one further
   read-fits : Fits (readOn (late s) (recordsLeft s)) s
@@ -133,9 +141,10 @@ module _ (s : State) (a : List ℕ) where
   record-fits : Turns (reading (late s) 0 0 (recordsLeft s))
   unfolding turn keeping recorded goesOn ended late situationWith recordsLeft withTold
   record-fits =
-      let reason = recordReason (λ name. isSome (told (s .told) name)) a in
-      both Fits (eqb reason 0) _ _ (withTold (withRecord a (s .told)) s) s
-      (λ y. reads-on (withTold (withRecord a (s .told)) s) _ _ (late-told s a (eqb-true reason 0 y)) refl)
+      let names = namesFor (late s .terminal) in
+      let reason = recordReason names (λ name. isSome (told (s .told) name)) a in
+      both Fits (eqb reason 0) _ _ (withTold (withRecord names a (s .told)) s) s
+      (λ y. reads-on (withTold (withRecord names a (s .told)) s) _ _ (late-told s a (eqb-true reason 0 y)) refl)
       (λ n. decides-fits s _ reason (late s))
 
   first-fits : (request : Cryptogram) → Turns (first (late s) request)
@@ -157,14 +166,16 @@ turn-fits Record s a = record-fits s a
 turn-fits (First request) s a = first-fits s a request
 turn-fits (Second request) s a = second-fits s a request
 
--- START, and the issuer's reply
-started-fits : (b : List ℕ) → length b ≡ startLength → Fits (opened (readingOf b)) (begun b)
+-- START
+started-fits : (b : List ℕ) → length b ≤ fullLength → Fits (opened (readingOf b)) (begun b)
 unfolding opened Fits Knows forgets standing changed keptAs questionOf tvrOf tsiOf situationOf cursorAfter cursorAsking askedBy early situationWith begun stateAt situationBegun
 started-fits b e = ap (λ (z : Situation). selecting z) (early-begun b e)
 
 -- somebody else's word that may be taken
 pub word-fits : (speaker : Speaker) (s : State) (p : List ℕ) → allowed (heardBy speaker s) p ≡ true
     → Fits (after (heardBy speaker s) p) (keepingWord speaker p s)
-unfolding heardBy allowed after keepingWord heard late situationWith
-word-fits Terminal s p fits = started-fits p (start-length p fits)
+unfolding heardBy allowed after keepingWord heard verifiedBy late situationWith
+word-fits Terminal s p fits = started-fits p (valid-length p fits)
 word-fits Issuer s p fits = replied-fits s (s .tvr) (s .tsi) (replyMade (replyOf p)) (codeIn p)
+word-fits (Attendant count) s p fits =
+    requested-fits s (verifiedBy (late s) p .tvr) (verifiedBy (late s) p .tsi) (afterRecords (late s .facts))

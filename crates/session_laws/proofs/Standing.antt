@@ -10,7 +10,7 @@ use Rattle.rulebook.specs.Phase.{Asked, selecting, optioning, reading, first, s
 use Rattle.rulebook.specs.Turn.{turn}
 use Rattle.session_phase.specs.declared.Question.{Question}
 use Rattle.session_phase.specs.declared.Question.the-variants.{Select, Options, Record, First, Second}
-use Rattle.session_state.specs.Reading.{situationWith, early, late, askedBy}
+use Rattle.session_state.specs.Reading.{startIn, situationWith, early, late, askedBy}
 use Rattle.session_state.specs.declared.State.{State}
 use Rattle.session_moves.specs.Moves.{questionOf}
 use Rattle.session_answers.specs.Keeping.{keeping}
@@ -59,7 +59,7 @@ unfolding situationWith
 asked-tsi question s = sym (ap (λ (z : Situation). z .tsi) (asked-read question s .1))
 
 -- START is the one that the state keeps
-pub asked-terminal : (s : State) (w : Asked) → StandsAt s (asks w) → situationOf w .terminal ≡ readingOf (s .start)
+pub asked-terminal : (s : State) (w : Asked) → StandsAt s (asks w) → situationOf w .terminal ≡ readingOf (startIn s)
 unfolding Knows situationWith
 asked-terminal s w h =
     ap (λ (z : Situation). z .terminal)

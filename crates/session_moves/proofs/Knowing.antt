@@ -11,7 +11,7 @@ use lib.Dec.{eqb}
 use lib.ListN.{length, take, drop, length-append, length-drop, drop-of-length-le}
 use lib.Seq.{drop-at, drop-drop, take-all}
 use borrow.Author.Tests.{eqb-true, eqb-false}
-use Rattle.slices.specs.Choice.{pick}
+use Rattle.slices.specs.Choice.{pick, unlessEmpty}
 use Rattle.slices.specs.Tables.{beside}
 use Rattle.slices.specs.Writing.{put, laid, zeros}
 use Rattle.slices.proofs.Choice.{pick-yes, pick-no, either}
@@ -19,7 +19,7 @@ use Rattle.slices.proofs.Writing.{zeros-length, laid-fits}
 use Rattle.session_records.specs.Slots.{Facts, end, toldFrom, nowhere, placed, recordSlot, slotFor, cellIn, read, toldIn, keptIn, full, told}
 use Rattle.session_records.proofs.Apart.{told-begins, slot-told}
 use Rattle.session_records.proofs.Keeping.{keep-same, keep-other, keep-all, full-length}
-use Rattle.rulebook.specs.Situation.{profileKnown, knownIn}
+use Rattle.rulebook.specs.Situation.{knownIn}
 use Rattle.session_state.specs.Reading.{situationWith, early, late}
 use Rattle.session_state.specs.declared.State.{State}
 use Rattle.session_moves.specs.Known.{onlyTold, knownEarly, knownLate, knownSecond}
@@ -180,12 +180,12 @@ module _ (s : State) (five : length (s .tvr) ≡ 5) (two : length (s .tsi) ≡ 2
       keep-tsi _ _ _ _ _ _ first (s .tsi) (omega arith)
 
   pub early-known : toldIn (knownEarly s) ≡ knownIn (early s) none
-  unfolding knownIn early situationWith profileKnown
+  unfolding knownIn early situationWith unlessEmpty
   early-known = says-all _ _ _ _ _ _ says-early
 
   module _ (pair : length (s .profile) ≡ 2) where
-    there : (v : List ℕ) → length v ≡ 2 → some v ≡ profileKnown v
-    unfolding profileKnown
+    there : (v : List ℕ) → length v ≡ 2 → some v ≡ unlessEmpty v
+    unfolding unlessEmpty
     there [] e = absurd (omega arith)
     there (b ∷ bs) e = refl
 

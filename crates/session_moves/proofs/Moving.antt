@@ -20,7 +20,7 @@ use Rattle.rulebook.specs.Phase.{Asked, Heard, Phase, asks, hears, decides, sit
 use Rattle.rulebook.specs.Turn.{goesOn}
 use Rattle.rulebook_zeros.specs.Zeros.{unsuppliedAsking, unsuppliedIn}
 use Rattle.session_state.specs.Reading.{situationWith, early, late}
-use Rattle.session_records.specs.Runs.{inRun}
+use Rattle.session_records.specs.Runs.{longest, inRun}
 use Rattle.session_state.specs.Keeping.{changed}
 use Rattle.session_records.specs.declared.Run.{Run}
 use Rattle.session_state.specs.declared.State.{State}
@@ -34,7 +34,7 @@ module _ (r : Run) (n : ℕ) (b : List ℕ) (same : b ≡ r .bytes) (part : take
   pub run-part : take n b ≡ inRun r
   run-part = ap (take n) same ∙ part
 
-  pub run-count : n ≤ 252 → length (r .bytes) ≡ 252 → n ≡ length (take n b)
+  pub run-count : n ≤ longest → length (r .bytes) ≡ longest → n ≡ length (take n b)
   run-count h e = let l = ap length same in sym (length-take-le n b (omega arith))
 
 -- a reason that is not 0 ends the session, and with 0 it goes on

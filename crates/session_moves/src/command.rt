@@ -7,6 +7,7 @@ use dol_fill::count::unsupplied;
 use session_records::runs::bytes_of;
 use session_records::runs::size_of;
 use session_state::State;
+use slices::part;
 ghost use mathlib.Core.Path.{_≡_};
 ghost use lib.ListN.{length};
 ghost use Rattle.slices.specs.Writing.{laid};
@@ -17,26 +18,29 @@ ghost use Rattle.answer_afl.specs.Cursor.{recordAt};
 ghost use Rattle.commands.specs.Commands.{recordCommand, cryptogramCommand, sizeIn};
 ghost use Rattle.session_records.specs.Runs.{inRun};
 ghost use Rattle.session_records.specs.Slots.{toldIn};
+ghost use Rattle.session_state.specs.Reading.{startIn};
 
 // GENERATE AC, filled from an object list and the slots of what is known.
 pub fn generate(s: State, request: Cryptogram, list: &[u8], known: &[u8], buf: &mut [u8]) -> usize
     ensures size { λ r. ⌜ r
         ≡ sizeIn (length (now (buf .entry)))
-        (cryptogramCommand (p1Of request) (filling (readingOf (s .start)) (toldIn (now (known .entry))) (now (list .entry)))) ⌝ }
+        (cryptogramCommand (p1Of request) (filling (readingOf (startIn s)) (toldIn (now (known .entry))) (now (list .entry)))) ⌝ }
     ensures buffer { λ _. ⌜ now (buf .exit)
-        ≡ laid (cryptogramCommand (p1Of request) (filling (readingOf (s .start)) (toldIn (now (known .entry))) (now (list .entry)))) 0
+        ≡ laid (cryptogramCommand (p1Of request) (filling (readingOf (startIn s)) (toldIn (now (known .entry))) (now (list .entry)))) 0
         (now (buf .entry)) ⌝ }
 {
     let start = s.start;
-    write::cryptogram(p1(request), list, &start, known, buf)
+    let size = s.size;
+    write::cryptogram(p1(request), list, part(&start, 0, size), known, buf)
 }
 
 // How many entries of an object list are not supplied.
 pub fn missing(s: State, list: &[u8], known: &[u8]) -> usize
-    ensures { λ r. ⌜ r ≡ unsuppliedOf (readingOf (s .start)) (toldIn (now (known .entry))) (now (list .entry)) ⌝ }
+    ensures { λ r. ⌜ r ≡ unsuppliedOf (readingOf (startIn s)) (toldIn (now (known .entry))) (now (list .entry)) ⌝ }
 {
     let start = s.start;
-    unsupplied(list, &start, known)
+    let size = s.size;
+    unsupplied(list, part(&start, 0, size), known)
 }
 
 // READ RECORD of the record at the cursor.

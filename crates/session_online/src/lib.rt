@@ -19,23 +19,25 @@ use session_phase::Waiting;
 use session_records::records::bytes_of;
 use session_records::slots::value;
 use session_state::State;
+use slices::part;
 use start_fields::fields;
 use tape_read::HOST;
 ghost use mathlib.Core.Path.{_≡_};
 ghost use Rattle.decide_requests.specs.Requests.{secondRequest};
 ghost use Rattle.start_fields.specs.Reading.{readingOf};
 ghost use Rattle.rulebook.specs.Turn.{replied, online as onlineTurn, byFirst};
-ghost use Rattle.session_state.specs.Reading.{late};
+ghost use Rattle.session_state.specs.Reading.{startIn, late};
 ghost use Rattle.session_moves.specs.Moves.{played, moved};
 
 fn second(s: State, reply: HostReply) -> Cryptogram
-    ensures { λ r. ⌜ r ≡ secondRequest reply (readingOf (s .start)) (late s .facts) (s .tvr) ⌝ }
+    ensures { λ r. ⌜ r ≡ secondRequest reply (readingOf (startIn s)) (late s .facts) (s .tvr) ⌝ }
 {
     let start = s.start;
+    let size = s.size;
     let tvr = s.tvr;
     let store = s.told;
     let told = bytes_of(store);
-    second_request(reply, &start, &told, tvr)
+    second_request(reply, part(&start, 0, size), &told, tvr)
 }
 
 // The second request, once the issuer's reply is in.
@@ -61,7 +63,8 @@ fn go_online(s: State, buf: &mut [u8]) -> Step
     ensures { λ r. ⌜ played r (now (buf .exit)) ≡ moved (onlineTurn (late s)) s (now (buf .entry)) ⌝ }
 {
     let start = s.start;
-    if fields::kind(&start) == 0 {
+    let size = s.size;
+    if fields::kind(part(&start, 0, size)) == 0 {
         request_second(s, HostReply::Unable, [0, 0], buf)
     } else {
         wait(s, Waiting::ForWord(Speaker::Issuer), Reply::Due(HOST))

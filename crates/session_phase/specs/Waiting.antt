@@ -1,12 +1,12 @@
 -- What a session waits for: the kind of the entry that is due. Refusals, results and logs ask nothing else of it.
--- 01, "What the kernel plays and who decides" and "The tape".
+-- 01, "What the kernel plays and who decides" and "The tape"; 02, R-7.
 -- Assumes nothing.
 use mathlib.Core.Bool.{Bool, true, false}
 use Prim.Native.Nat.{ℕ}
 use lib.Dec.{eqb}
-use Rattle.tape_read.specs.Entries.{start, answer, host}
+use Rattle.tape_read.specs.Entries.{start, answer, host, results}
 use Rattle.session_phase.specs.declared.Speaker.{Speaker}
-use Rattle.session_phase.specs.declared.Speaker.the-variants.{Terminal, Issuer}
+use Rattle.session_phase.specs.declared.Speaker.the-variants.{Terminal, Issuer, Attendant}
 use Rattle.session_phase.specs.declared.Waiting.{Waiting}
 use Rattle.session_phase.specs.declared.Waiting.the-variants.{ForCard, ForWord, Decided, Closed}
 
@@ -14,6 +14,7 @@ use Rattle.session_phase.specs.declared.Waiting.the-variants.{ForCard, F
 unfoldable pub kindOf : Speaker → ℕ
 kindOf Terminal = start
 kindOf Issuer = host
+kindOf (Attendant count) = results
 
 -- the kind of the entry that is due; 0, the kind of no entry, after a decision or a closing silence
 unfoldable pub awaited : Waiting → ℕ
@@ -21,6 +22,18 @@ awaited (ForCard question) = answer
 awaited (ForWord speaker) = kindOf speaker
 awaited (Decided outcome reason) = 0
 awaited Closed = 0
+
+-- how many results of cardholder verification are due; 0 where none are
+unfoldable pub wantedOf : Speaker → ℕ
+wantedOf Terminal = 0
+wantedOf Issuer = 0
+wantedOf (Attendant count) = count
+
+unfoldable pub resultsIn : Waiting → ℕ
+resultsIn (ForCard question) = 0
+resultsIn (ForWord speaker) = wantedOf speaker
+resultsIn (Decided outcome reason) = 0
+resultsIn Closed = 0
 
 -- nothing is due any more
 unfoldable pub isOver : Waiting → Bool

@@ -3,9 +3,10 @@ use crate::Speaker;
 use crate::Waiting;
 use tape_read::ANSWER;
 use tape_read::HOST;
+use tape_read::RESULTS;
 use tape_read::START;
 ghost use mathlib.Core.Path.{_≡_};
-ghost use Rattle.session_phase.specs.Waiting.{kindOf, awaited, outcomeOf, reasonOf};
+ghost use Rattle.session_phase.specs.Waiting.{kindOf, awaited, wantedOf, resultsIn, outcomeOf, reasonOf};
 
 // The kind of the entry that has somebody's word.
 pub fn kind_of(speaker: Speaker) -> u8
@@ -14,6 +15,7 @@ pub fn kind_of(speaker: Speaker) -> u8
     match speaker {
         Speaker::Terminal => START,
         Speaker::Issuer => HOST,
+        Speaker::Attendant(_) => RESULTS,
     }
 }
 
@@ -24,6 +26,29 @@ pub fn awaits(waiting: Waiting) -> u8
     match waiting {
         Waiting::ForCard(_) => ANSWER,
         Waiting::ForWord(speaker) => kind_of(speaker),
+        Waiting::Decided(_, _) => 0,
+        Waiting::Closed => 0,
+    }
+}
+
+// How many results somebody is to hand in.
+fn wanted(speaker: Speaker) -> usize
+    ensures { λ r. ⌜ r ≡ wantedOf speaker ⌝ }
+{
+    match speaker {
+        Speaker::Terminal => 0,
+        Speaker::Issuer => 0,
+        Speaker::Attendant(count) => count,
+    }
+}
+
+// How many results of cardholder verification a session waits for; 0 where it waits for none.
+pub fn results_due(waiting: Waiting) -> usize
+    ensures { λ r. ⌜ r ≡ resultsIn waiting ⌝ }
+{
+    match waiting {
+        Waiting::ForCard(_) => 0,
+        Waiting::ForWord(speaker) => wanted(speaker),
         Waiting::Decided(_, _) => 0,
         Waiting::Closed => 0,
     }

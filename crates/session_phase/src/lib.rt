@@ -6,6 +6,7 @@ pub use due::awaits;
 pub use due::kind_of;
 pub use due::outcome;
 pub use due::reason;
+pub use due::results_due;
 
 // What the card was asked.
 pub enum Question {
@@ -16,10 +17,12 @@ pub enum Question {
     Second(Cryptogram),
 }
 
-// Who else can have the next word: the terminal with START, the issuer with its reply.
+// Who else can have the next word: the terminal with START, the issuer with its reply, the attendant with so many results of
+// cardholder verification.
 pub enum Speaker {
     Terminal,
     Issuer,
+    Attendant(usize),
 }
 
 // An answer of the card's, or somebody else's word; or the session is over, with its outcome and its reason or 0, or closed by

@@ -3,10 +3,11 @@
 use mathlib.Core.Path.{_≡_, refl, sym, ap, subst, _∙_}
 use mathlib.Core.Bool.{Bool, true, false, false≢true}
 use mathlib.Core.List.{List, [], _∷_, _++_, map}
-use Prim.Native.Nat.{ℕ, _+_, _≤_}
+use mathlib.Core.Option.{none, some, Option·getD}
+use Prim.Native.Nat.{ℕ, _+_, _-_, _≤_}
 use native.Mathlib.Omega.{arith}
 use lib.Dec.{eqb, leb}
-use lib.ListN.{length, take, drop}
+use lib.ListN.{length, take, drop, length-take}
 use borrow.Author.Tests.{eqb-true, leb-true}
 use Rattle.slices.specs.Choice.{pick}
 use Rattle.slices.specs.Tables.{beside, anyOf}
@@ -17,7 +18,7 @@ use Rattle.slices.proofs.Choice.{pick-yes, pick-no, picked, either}
 use Rattle.answer_common.specs.Content.{rules, ruleFor, recordNames}
 use Rattle.answer_common.specs.Named.{listed}
 use Rattle.session_records.specs.Runs.{longest}
-use Rattle.session_records.specs.Slots.{end, room, madeRooms, roomsOf, toldFrom, nowhere, placed, total, recordSlot, slotFor, cellIn}
+use Rattle.session_records.specs.Slots.{end, room, madeRooms, roomsOf, toldFrom, nowhere, placed, total, recordSlot, slotFor, cellIn, read, toldIn}
 use Rattle.session_records.specs.declared.Slot.{Slot}
 use Rattle.session_records.proofs.Cells.{put-before, put-behind}
 
@@ -145,3 +146,17 @@ named-size tag l = ap (λ s. s .size) (named-slot tag l) ∙ sizes recordNames t
 pub told-begins : (tag : ℕ) → toldFrom ≤ recordSlot tag .at
 unfolding recordSlot
 told-begins tag = inside-all (roomsOf recordNames) toldFrom tag told-fits .0
+
+-- no value is longer than what an answer has room for
+value-fits : (c : List ℕ) → length c ≤ longest + 1 → length (Option·getD (read c) []) ≤ longest
+unfolding read
+value-fits [] h = omega arith
+value-fits (n ∷ v) h =
+    picked (λ o. length (Option·getD o []) ≤ longest) (eqb n 0) none (some (take (n - 1) v)) (λ y. omega arith)
+    (λ e. omega (arith, length-take (n - 1) v))
+
+pub value-short : (d : List ℕ) (tag : ℕ) → length (Option·getD (toldIn d tag) []) ≤ longest
+unfolding toldIn cellIn
+value-short d tag =
+    value-fits (take (slotFor tag .size) (drop (slotFor tag .at) d))
+    (omega (arith, small tag, length-take (slotFor tag .size) (drop (slotFor tag .at) d)))

@@ -9,7 +9,7 @@ use native.Mathlib.Omega.{arith}
 use lib.Dec.{eqb, ltb}
 use lib.ListN.{length, getD, take, drop, replicate, length-take, length-append, length-replicate, getD-replicate, List·getD-eq-default}
 use lib.Seq.{take-at, length-take-le, getD-take, getD-drop}
-use borrow.Author.Tests.{eqb-true, eqb-false, ltb-true, ltb-false, le-ltb}
+use borrow.Author.Tests.{eqb-true, eqb-false, ltb-true, ltb-false}
 use Rattle.slices.specs.Choice.{pick}
 use Rattle.slices.specs.Writing.{put, zeros}
 use Rattle.slices.proofs.Choice.{pick-yes, pick-no, picked, either}
@@ -23,21 +23,12 @@ use Rattle.answer_common.specs.CardNumber.{cardNumber}
 use Rattle.answer_common.proofs.Limits.{bounds}
 use Rattle.decimal_dates.specs.Dates.{validCardDate}
 use Rattle.answer_common.specs.declared.content.Rule.{Rule}
-use Rattle.answer_common.specs.declared.content.Rule.the-variants.{Sizes, Entries, Number, Date, Anything}
+use Rattle.answer_common.specs.declared.content.Rule.the-variants.{Sizes, Entries, Number, Date, Verification, Anything}
 use Rattle.session_records.specs.Runs.{longest}
-use Rattle.session_records.specs.Slots.{orElse, end, room, nowhere, read, cellIn, recordSlot, slotFor, toldIn, keptAt, keptIn}
+use Rattle.session_records.specs.Slots.{orElse, end, room, read, cellIn, slotFor, toldIn, keptAt, keptIn}
 use Rattle.session_records.specs.Slots.{keptTold, keptObjects, full, emptyStore, told}
 use Rattle.session_records.proofs.Cells.{kept-put, kept-length, read-put, read-none}
-use Rattle.session_records.proofs.Apart.{apart, within, named-slot, unnamed-slot, named-size}
-
--- a record's object whose tag records name is kept as any value is, and another is passed over
-pub told-named : (tag : ℕ) (v d : List ℕ) → listed tag recordNames ≡ true → keptTold tag v d ≡ keptIn tag v d
-unfolding keptTold keptIn
-told-named tag v d l = ap (λ s. keptAt s v d) (sym (named-slot tag l))
-
-pub told-unnamed : (tag : ℕ) (v d : List ℕ) → listed tag recordNames ≡ false → keptTold tag v d ≡ d
-unfolding keptTold keptAt nowhere
-told-unnamed tag v d l = ap (λ s. keptAt s v d) (unnamed-slot tag l) ∙ pick-no _ _ _ (le-ltb (length v) 0 (omega arith))
+use Rattle.session_records.proofs.Apart.{apart, within, named-size}
 
 module _ (d : List ℕ) (all : length d ≡ end) where
   pub keep-same : (tag : ℕ) (v : List ℕ) → length v < slotFor tag .size → toldIn (keptIn tag v d) tag ≡ some v
@@ -64,26 +55,25 @@ module _ (d : List ℕ) (all : length d ≡ end) where
   unfolding keptIn
   keep-all tag v = kept-length (slotFor tag) v d ∙ all
 
-  told-all : (tag : ℕ) (v : List ℕ) → length (keptTold tag v d) ≡ end
+  told-all : (names : List ℕ) (tag : ℕ) (v : List ℕ) → length (keptTold names tag v d) ≡ end
   unfolding keptTold
-  told-all tag v = kept-length (recordSlot tag) v d ∙ all
+  told-all names tag v = picked (λ (x : List ℕ). length x ≡ end) (listed tag names) _ d (λ y. keep-all tag v) (λ n. all)
 
-  told-other : (t u : ℕ) (v : List ℕ) → (t ≡ u → ⊥) → toldIn (keptTold t v d) u ≡ toldIn d u
-  told-other t u v other =
-      either (listed t recordNames)
-      (λ y. ap (λ x. toldIn x u) (told-named t v d y) ∙ keep-other t u v other)
-      (λ n. ap (λ x. toldIn x u) (told-unnamed t v d n))
+  told-other : (names : List ℕ) (t u : ℕ) (v : List ℕ) → (t ≡ u → ⊥) → toldIn (keptTold names t v d) u ≡ toldIn d u
+  unfolding keptTold
+  told-other names t u v other =
+      picked (λ (x : List ℕ). toldIn x u ≡ toldIn d u) (listed t names) _ d (λ y. keep-other t u v other) (λ n. refl)
 
--- what records do not name, no record touches
-pub unnamed-kept : (u : ℕ) → listed u recordNames ≡ false → (ms : List Object) (d : List ℕ) → length d ≡ end
-    → toldIn (keptObjects ms d) u ≡ toldIn d u
-unfolding keptObjects
-unnamed-kept u free [] d all = refl
-unnamed-kept u free (m ∷ ms) d all =
-    unnamed-kept u free ms (keptTold (m .tag) (m .value) d) (told-all d all (m .tag) (m .value))
+-- a name that does not count, no record touches
+pub unnamed-kept : (names : List ℕ) (u : ℕ) → listed u names ≡ false → (ms : List Object) (d : List ℕ) → length d ≡ end
+    → toldIn (keptObjects names ms d) u ≡ toldIn d u
+unfolding keptObjects keptTold
+unnamed-kept names u free [] d all = refl
+unnamed-kept names u free (m ∷ ms) d all =
+    unnamed-kept names u free ms (keptTold names (m .tag) (m .value) d) (told-all d all names (m .tag) (m .value))
     ∙ either (eqb (m .tag) u)
-    (λ y. ap (λ x. toldIn x u) (told-unnamed (m .tag) (m .value) d (ap (λ (t : ℕ). listed t recordNames) (eqb-true _ _ y) ∙ free)))
-    (λ n. told-other d all (m .tag) u (m .value) (eqb-false _ _ n))
+    (λ y. ap (λ x. toldIn x u) (pick-no _ _ _ (ap (λ (t : ℕ). listed t names) (eqb-true _ _ y) ∙ free)))
+    (λ n. told-other d all names (m .tag) u (m .value) (eqb-false _ _ n))
 
 -- objects of which each name stands at most once, and where it does has room and is new
 stays : (o : Option (List ℕ)) → orElse o none ≡ o
@@ -111,27 +101,27 @@ pub record Fits (tag : ℕ) (o : Option (List ℕ)) (l : Lookup) : Type 0 where
   pub not-twice : l ≡ twice → ⊥
   pub new : (v : List ℕ) → l ≡ once v → (length v < slotFor tag .size) × (isSome o ≡ false)
 
-module _ (tag : ℕ) (named : listed tag recordNames ≡ true) where
+module _ (names : List ℕ) (tag : ℕ) (named : listed tag names ≡ true) where
   abbrev pub Goes : List Object → Type 0
   Goes ms =
-      (d : List ℕ) → length d ≡ end → Fits tag (toldIn d tag) (lookup tag ms) → toldIn (keptObjects ms d) tag ≡ orElse (toldIn d tag)
+      (d : List ℕ) → length d ≡ end → Fits tag (toldIn d tag) (lookup tag ms) → toldIn (keptObjects names ms d) tag ≡ orElse (toldIn d tag)
       (toldOf (lookup tag ms))
 
   module _ (m : Object) (ms : List Object) (again : Goes ms) (d : List ℕ) (all : length d ≡ end)
       (f : Fits tag (toldIn d tag) (lookup tag (m ∷ ms))) where
     abbrev one-more : List ℕ
-    one-more = keptTold (m .tag) (m .value) d
+    one-more = keptTold names (m .tag) (m .value) d
 
     now-there : eqb (m .tag) tag ≡ true → (l : Lookup) → lookup tag ms ≡ l
-        → toldIn (keptObjects ms one-more) tag ≡ orElse (toldIn d tag) (toldOf (lookup tag (m ∷ ms)))
-    unfolding lookup met toldOf orElse
+        → toldIn (keptObjects names ms one-more) tag ≡ orElse (toldIn d tag) (toldOf (lookup tag (m ∷ ms)))
+    unfolding lookup met toldOf orElse keptTold
     now-there y absent e =
         let l : lookup tag (m ∷ ms) ≡ once (m .value) = pick-yes _ _ _ y ∙ ap (met (m .value)) e in
         let g = f .new (m .value) l in
         let there : toldIn one-more tag ≡ some (m .value) =
-        ap (λ t. toldIn (keptTold t (m .value) d) tag) (eqb-true _ _ y)
-        ∙ (ap (λ x. toldIn x tag) (told-named tag (m .value) d named) ∙ keep-same d all tag (m .value) (g .0)) in
-        again one-more (told-all d all (m .tag) (m .value))
+        ap (λ t. toldIn (keptTold names t (m .value) d) tag) (eqb-true _ _ y)
+        ∙ (ap (λ x. toldIn x tag) (pick-yes _ _ _ named) ∙ keep-same d all tag (m .value) (g .0)) in
+        again one-more (told-all d all names (m .tag) (m .value))
         (record { not-twice = λ z. absent-twice (sym e ∙ z); new = λ w z. absurd (absent-once w (sym e ∙ z)) })
         ∙ (ap (λ x. orElse (toldIn one-more tag) (toldOf x)) e
         ∙ (stays (toldIn one-more tag)
@@ -140,11 +130,11 @@ module _ (tag : ℕ) (named : listed tag recordNames ≡ true) where
     now-there y (once w) e = absurd (f .not-twice (pick-yes _ _ _ y ∙ ap (met (m .value)) e))
     now-there y twice e = absurd (f .not-twice (pick-yes _ _ _ y ∙ ap (met (m .value)) e))
 
-    another : eqb (m .tag) tag ≡ false → toldIn (keptObjects ms one-more) tag ≡ orElse (toldIn d tag) (toldOf (lookup tag (m ∷ ms)))
+    another : eqb (m .tag) tag ≡ false → toldIn (keptObjects names ms one-more) tag ≡ orElse (toldIn d tag) (toldOf (lookup tag (m ∷ ms)))
     unfolding lookup
     another n =
-        let same = told-other d all (m .tag) tag (m .value) (eqb-false _ _ n) in
-        again one-more (told-all d all (m .tag) (m .value))
+        let same = told-other d all names (m .tag) tag (m .value) (eqb-false _ _ n) in
+        again one-more (told-all d all names (m .tag) (m .value))
         (record {
           not-twice = λ e. f .not-twice (pick-no _ _ _ n ∙ e);
           new = λ v e. let g = f .new v (pick-no _ _ _ n ∙ e) in
@@ -170,10 +160,11 @@ pub full-length : (d : List ℕ) → length (full d) ≡ end
 unfolding full
 full-length d = let z = zeros-length end in length-take-le end (d ++ zeros end) (rw length-append (omega arith))
 
-pub objects-length : (ms : List Object) (d : List ℕ) → length d ≡ end → length (keptObjects ms d) ≡ end
+pub objects-length : (names : List ℕ) (ms : List Object) (d : List ℕ) → length d ≡ end → length (keptObjects names ms d) ≡ end
 unfolding keptObjects
-objects-length [] d all = all
-objects-length (m ∷ ms) d all = objects-length ms (keptTold (m .tag) (m .value) d) (told-all d all (m .tag) (m .value))
+objects-length names [] d all = all
+objects-length names (m ∷ ms) d all =
+    objects-length names ms (keptTold names (m .tag) (m .value) d) (told-all d all names (m .tag) (m .value))
 
 -- a value that is right for its name has room in its slot
 meets-room : (rule : Rule) (v : List ℕ) → meets rule v ≡ true → length v ≤ longest → length v ≤ room rule
@@ -182,6 +173,7 @@ meets-room (Sizes fewest most) v e h = bounds fewest most (length v) e .1
 meets-room Entries v e h = h
 meets-room Number v e h = bounds 1 10 (length v) (first-held _ _ e .0) .1
 meets-room Date v e h = let z = eqb-true (length v) 3 (first-held _ _ e .0) in omega arith
+meets-room Verification v e h = h
 meets-room Anything v e h = h
 
 pub right-room : (tag : ℕ) (v : List ℕ) → listed tag recordNames ≡ true → rightValue tag v ≡ true → length v ≤ longest

@@ -31,10 +31,12 @@ fixed-all n v e =
     ∙ (put-start v (zeros n) ∙ (ap (λ (l : List ℕ). v ++ l) (ap (λ (k : ℕ). drop k (zeros n)) (e ∙ sym z) ∙ drop-length (zeros n))
     ∙ append-nil v))
 
+-- and fewer stand at its start
+pub fixed-first : (n : ℕ) (v : List ℕ) → length v ≤ n → take (length v) (fixed n v) ≡ v
+fixed-first n v h =
+    let z = zeros-length n in
+    ap (take (length v)) (laid-fits v 0 (zeros n) (omega arith) ∙ put-start v (zeros n)) ∙ take-at v _ (length v) refl
+
 pub run-kept : (v : List ℕ) → length v ≤ longest → runHeld (keptRun v) ≡ some v
 unfolding runHeld keptRun
-run-kept v h =
-    let z = zeros-length longest in
-    pick-yes _ _ _ refl
-    ∙ ap some (ap (take (length v)) (laid-fits v 0 (zeros longest) (omega arith) ∙ put-start v (zeros longest))
-    ∙ take-at v _ (length v) refl)
+run-kept v h = pick-yes _ _ _ refl ∙ ap some (fixed-first longest v h)

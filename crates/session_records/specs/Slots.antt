@@ -13,9 +13,10 @@ use Rattle.slices.specs.Writing.{laid, zeros}
 use Rattle.tlv_list.specs.Objects.{Object}
 use Rattle.tlv_list.specs.Place.{Place, objectAt, placesFrom}
 use Rattle.answer_common.specs.declared.content.Rule.{Rule}
-use Rattle.answer_common.specs.declared.content.Rule.the-variants.{Sizes, Entries, Number, Date, Anything}
+use Rattle.answer_common.specs.declared.content.Rule.the-variants.{Sizes, Entries, Number, Date, Verification, Anything}
 use Rattle.answer_common.specs.Answer.{valueMost, inside}
 use Rattle.answer_common.specs.Content.{ruleFor, recordTag, recordNames}
+use Rattle.answer_common.specs.Named.{listed}
 use Rattle.session_records.specs.declared.Slot.{Slot}
 use Rattle.session_records.specs.declared.Store.{Store}
 
@@ -34,6 +35,7 @@ room (Sizes fewest most) = most
 room Entries = valueMost
 room Number = 10
 room Date = 3
+room Verification = valueMost
 room Anything = valueMost
 
 -- TVR, TSI, response code and profile, each with its number of bytes
@@ -45,7 +47,7 @@ roomsOf names = map (λ name. (name, room (ruleFor name))) names
 
 -- the bytes of all slots together
 abbrev pub end : ℕ
-end = 561
+end = 817
 
 -- where the slots of what records name begin
 abbrev pub toldFrom : ℕ
@@ -89,17 +91,17 @@ keptAt slot v d =
 unfoldable pub keptIn : ℕ → List ℕ → List ℕ → List ℕ
 keptIn tag v d = keptAt (slotFor tag) v d
 
--- a record's object is kept where records name its tag
-unfoldable pub keptTold : ℕ → List ℕ → List ℕ → List ℕ
-keptTold tag v d = keptAt (recordSlot tag) v d
+-- a record's object is kept where its tag is one of the names that count
+unfoldable pub keptTold : List ℕ → ℕ → List ℕ → List ℕ → List ℕ
+keptTold names tag v d = pick (listed tag names) (keptIn tag v d) d
 
 -- objects, one after the other
-unfoldable pub keptObjects : List Object → List ℕ → List ℕ
-keptObjects [] d = d
-keptObjects (m ∷ ms) d = keptObjects ms (keptTold (m .tag) (m .value) d)
+unfoldable pub keptObjects : List ℕ → List Object → List ℕ → List ℕ
+keptObjects names [] d = d
+keptObjects names (m ∷ ms) d = keptObjects names ms (keptTold names (m .tag) (m .value) d)
 
-unfoldable pub keptPlaces : List ℕ → List Place → List ℕ → List ℕ
-keptPlaces s ps d = keptObjects (map (objectAt s) ps) d
+unfoldable pub keptPlaces : List ℕ → List ℕ → List Place → List ℕ → List ℕ
+keptPlaces names s ps d = keptObjects names (map (objectAt s) ps) d
 
 -- every list has a reading as an array of slots
 unfoldable pub full : List ℕ → List ℕ
@@ -111,5 +113,6 @@ emptyStore = record { bytes = zeros end }
 unfoldable pub told : Store → Facts
 told s tag = toldIn (full (s .bytes)) tag
 
-unfoldable pub withRecord : List ℕ → Store → Store
-withRecord a s = record { bytes = keptPlaces (inside recordTag a) (placesFrom (inside recordTag a) 0) (full (s .bytes)) }
+-- one record more, given the names that count in it
+unfoldable pub withRecord : List ℕ → List ℕ → Store → Store
+withRecord names a s = record { bytes = keptPlaces names (inside recordTag a) (placesFrom (inside recordTag a) 0) (full (s .bytes)) }

@@ -12,9 +12,10 @@ ghost use lib.ListN.{length};
 ghost use Rattle.tlv_list.specs.Place.{placesFrom};
 ghost use Rattle.session_records.specs.Slots.{end, full, keptPlaces, withRecord, emptyStore};
 
-// Each object that the reader finds is kept where records name it.
-fn keep_all(d: &mut [u8], s: &[u8])
-    ensures { λ _. ⌜ now (d .exit) ≡ keptPlaces (now (s .entry)) (placesFrom (now (s .entry)) 0) (now (d .entry)) ⌝ }
+// Each object that the reader finds is kept where its name counts.
+fn keep_all(d: &mut [u8], names: &[usize], s: &[u8])
+    ensures { λ _. ⌜ now (d .exit)
+        ≡ keptPlaces (now (names .entry)) (now (s .entry)) (placesFrom (now (s .entry)) 0) (now (d .entry)) ⌝ }
 {
     let mut p = 0;
     while p < s.len() {
@@ -22,7 +23,7 @@ fn keep_all(d: &mut [u8], s: &[u8])
             Next::End => return,
             Next::Broken => return,
             Next::Member { tag, start, end } => {
-                keep_told(d, tag, value(s, start, end));
+                keep_told(d, names, tag, value(s, start, end));
                 p = end;
             }
         }
@@ -35,11 +36,12 @@ pub fn nothing() -> Store
     Store { bytes: [0; END] }
 }
 
-pub fn with_record(store: Store, answer: &[u8]) -> Store
-    ensures { λ r. ⌜ r ≡ withRecord (now (answer .entry)) store ⌝ }
+// Given the names that count in a record.
+pub fn with_record(store: Store, names: &[usize], answer: &[u8]) -> Store
+    ensures { λ r. ⌜ r ≡ withRecord (now (names .entry)) (now (answer .entry)) store ⌝ }
 {
     let mut bytes = store.bytes;
-    keep_all(&mut bytes, inside(answer, RECORD));
+    keep_all(&mut bytes, names, inside(answer, RECORD));
     Store { bytes }
 }
 

@@ -5,6 +5,7 @@ use crate::Slot;
 use answer_common::content::NAMES;
 use answer_common::content::Rule;
 use answer_common::content::rule_for;
+use answer_common::named::is_listed;
 use slices::byte;
 use slices::lay;
 use slices::part;
@@ -28,6 +29,7 @@ fn room(name: usize) -> usize
         Rule::Entries => LONGEST,
         Rule::Number => 10,
         Rule::Date => 3,
+        Rule::Verification => LONGEST,
         Rule::Anything => LONGEST,
     }
 }
@@ -116,9 +118,11 @@ pub fn keep(d: &mut [u8], tag: usize, v: &[u8])
     keep_at(d, slot_of(tag), v);
 }
 
-// The same for a record's object: only what records name is kept.
-pub fn keep_told(d: &mut [u8], tag: usize, v: &[u8])
-    ensures { λ _. ⌜ now (d .exit) ≡ keptTold tag (now (v .entry)) (now (d .entry)) ⌝ }
+// The same for a record's object: only where its name counts.
+pub fn keep_told(d: &mut [u8], names: &[usize], tag: usize, v: &[u8])
+    ensures { λ _. ⌜ now (d .exit) ≡ keptTold (now (names .entry)) tag (now (v .entry)) (now (d .entry)) ⌝ }
 {
-    keep_at(d, record_slot(tag), v);
+    if is_listed(tag, names) {
+        keep(d, tag, v);
+    }
 }

@@ -1,33 +1,26 @@
 // From record to record, and after the last of them.
 use answer_afl::cursor;
 use answer_afl::cursor::Cursor;
-use answer_record::complete_reason;
-use decide_requests::requests::first_request;
 use decide_tvr::results::tsi_after_records;
 use decide_tvr::results::tvr_after_records;
 use session_moves::Step;
-use session_moves::command::generate;
-use session_moves::command::missing;
 use session_moves::command::read;
-use session_moves::ends::ask;
 use session_moves::ends::end;
-use session_moves::known::at_first;
 use session_phase::Question;
 use session_phase::Reply;
 use session_phase::Waiting;
 use session_records::records;
 use session_records::runs::bytes_of;
 use session_records::runs::size_of;
-use session_records::slots::value;
 use session_state::State;
 use session_state::change::change;
+use session_verification::reason;
+use session_verification::verify;
+use slices::part;
 ghost use mathlib.Core.Path.{_≡_};
-ghost use Prim.Native.Nat.{_<_};
 ghost use Rattle.answer_afl.specs.Cursor.{isLeft, stepped};
-ghost use Rattle.answer_record.specs.Records.{afterRecords};
-ghost use Rattle.rulebook.specs.Turn.{requested, allRead, readOn};
+ghost use Rattle.rulebook.specs.Turn.{allRead, readOn};
 ghost use Rattle.session_state.specs.Reading.{late, recordsLeft};
-ghost use Rattle.session_records.specs.Slots.{told as toldBy};
 ghost use Rattle.session_records.specs.Runs.{inRun};
 ghost use Rattle.session_moves.specs.Moves.{played, moved};
 ghost use Rattle.session_records_read.specs.Storing.{managedState};
@@ -52,20 +45,12 @@ fn next(s: State) -> Cursor
     cursor::step(&bytes[..n], place)
 }
 
-// Reasons 8 and 9 over all that the records told.
-fn reason(s: State) -> usize
-    ensures { λ r. ⌜ r ≡ afterRecords (toldBy (s .told)) ⌝ }
-{
-    let store = s.told;
-    let told = records::bytes_of(store);
-    complete_reason(&told)
-}
-
 // The bits that the facts set.
 fn managed(s: State) -> State
     ensures { λ r. ⌜ r ≡ managedState s ⌝ }
 {
     let start = s.start;
+    let size = s.size;
     let tvr = s.tvr;
     let tsi = s.tsi;
     let waiting = s.waiting;
@@ -76,29 +61,10 @@ fn managed(s: State) -> State
     change(
         s,
         waiting,
-        tvr_after_records(&start, profile, &told, tvr),
+        tvr_after_records(part(&start, 0, size), profile, &told, tvr),
         tsi_after_records(profile, tsi),
         place,
     )
-}
-
-// The first request, or the end where its list cannot be filled.
-fn request_first(s: State, why: usize, buf: &mut [u8]) -> Step
-    requires { ⌜ why < 256 ⌝ }
-    ensures { λ r. ⌜ played r (now (buf .exit)) ≡ moved (requested why (late s)) s (now (buf .entry)) ⌝ }
-{
-    if why != 0 {
-        return end(s, why);
-    }
-    let start = s.start;
-    let tvr = s.tvr;
-    let store = s.told;
-    let told = records::bytes_of(store);
-    let request = first_request(&start, &told, tvr);
-    let known = at_first(s);
-    let n = generate(s, request, value(&told, 0x8C), &known, buf);
-    let zeros = missing(s, value(&told, 0x8C), &known);
-    ask(s, Question::First(request), n, zeros)
 }
 
 // After the last record.
@@ -109,7 +75,7 @@ fn all_read(s: State, buf: &mut [u8]) -> Step
     if why == 8 {
         return end(s, 8);
     }
-    request_first(managed(s), why, buf)
+    verify(managed(s), buf)
 }
 
 // The next record, or the end of them.

@@ -1,9 +1,10 @@
 -- How a state keeps what it is told, as a whole new state.
 -- Assumes nothing.
 use mathlib.Core.List.{List}
+use lib.ListN.{length}
 use Prim.Native.Nat.{ℕ}
 use Rattle.slices.specs.Writing.{zeros}
-use Rattle.start_fields.specs.Layout.{startLength}
+use Rattle.start_fields.specs.Layout.{fullLength}
 use Rattle.answer_afl.specs.Cursor.{start}
 use Rattle.answer_afl.specs.declared.cursor.Cursor.{Cursor}
 use Rattle.answer_gpo.specs.Options.{profileOf, locatorOf}
@@ -21,6 +22,7 @@ withTold told s =
     record {
       waiting = s .waiting;
       start = s .start;
+      size = s .size;
       tvr = s .tvr;
       tsi = s .tsi;
       profile = s .profile;
@@ -35,6 +37,7 @@ withOptions a s =
     record {
       waiting = s .waiting;
       start = s .start;
+      size = s .size;
       tvr = s .tvr;
       tsi = s .tsi;
       profile = fixed 2 (profileOf a);
@@ -49,6 +52,7 @@ changed waiting tvr tsi cursor s =
     record {
       waiting = waiting;
       start = s .start;
+      size = s .size;
       tvr = tvr;
       tsi = tsi;
       profile = s .profile;
@@ -57,12 +61,13 @@ changed waiting tvr tsi cursor s =
       told = s .told;
     }
 
--- a state in which nothing is known but START's bytes
-unfoldable pub stateAt : Waiting → List ℕ → State
-stateAt waiting bytes =
+-- a state in which nothing is known but START's bytes, and how many of them count
+unfoldable pub stateAt : Waiting → List ℕ → ℕ → State
+stateAt waiting bytes size =
     record {
       waiting = waiting;
       start = bytes;
+      size = size;
       tvr = zeros 5;
       tsi = zeros 2;
       profile = zeros 2;
@@ -73,8 +78,8 @@ stateAt waiting bytes =
 
 -- before START
 unfoldable pub fresh : State
-fresh = stateAt (ForWord Terminal) (zeros startLength)
+fresh = stateAt (ForWord Terminal) (zeros fullLength) 0
 
 -- when START was taken
 unfoldable pub begun : List ℕ → State
-begun b = stateAt (ForCard Select) (fixed startLength b)
+begun b = stateAt (ForCard Select) (fixed fullLength b) (length b)

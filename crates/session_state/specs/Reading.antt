@@ -2,23 +2,28 @@
 -- Assumes nothing.
 use mathlib.Core.List.{List, []}
 use Prim.Native.Nat.{ℕ}
+use lib.ListN.{take}
 use Rattle.start_fields.specs.Reading.{readingOf}
 use Rattle.answer_afl.specs.Cursor.{remaining}
 use Rattle.rulebook.specs.Situation.{Situation}
-use Rattle.rulebook.specs.Phase.{Asked, selecting, optioning, reading, first, second, Heard, terminal, issuer}
+use Rattle.rulebook.specs.Phase.{Asked, selecting, optioning, reading, first, second, Heard, terminal, issuer, attendant}
 use Rattle.session_phase.specs.declared.Question.{Question}
 use Rattle.session_phase.specs.declared.Question.the-variants.{Select, Options, Record, First, Second}
 use Rattle.session_phase.specs.declared.Speaker.{Speaker}
-use Rattle.session_phase.specs.declared.Speaker.the-variants.{Terminal, Issuer}
+use Rattle.session_phase.specs.declared.Speaker.the-variants.{Terminal, Issuer, Attendant}
 use Rattle.session_records.specs.Runs.{inRun}
 use Rattle.session_records.specs.Slots.{told}
 use Rattle.session_state.specs.declared.State.{State}
+
+-- START as it was handed in
+abbrev pub startIn : State → List ℕ
+startIn s = take (s .size) (s .start)
 
 -- the situation beside a profile
 unfoldable pub situationWith : List ℕ → State → Situation
 situationWith profile s =
     record {
-      terminal = readingOf (s .start);
+      terminal = readingOf (startIn s);
       profile = profile;
       facts = told (s .told);
       tvr = s .tvr;
@@ -48,3 +53,4 @@ askedBy (Second request) s = second (late s) request []
 unfoldable pub heardBy : Speaker → State → Heard
 heardBy Terminal s = terminal
 heardBy Issuer s = issuer (late s)
+heardBy (Attendant count) s = attendant (late s)

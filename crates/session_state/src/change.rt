@@ -9,16 +9,17 @@ use session_records::Store;
 use session_records::records;
 use session_records::runs;
 use slices::lay;
-use start_fields::fields::LENGTH;
+use start_fields::fields::FULL;
 ghost use mathlib.Core.Path.{_≡_};
 ghost use Rattle.session_state.specs.Keeping.{withTold, withOptions, changed, stateAt, fresh as freshState, begun as begunState};
 
-fn state_at(waiting: Waiting, start: [u8; LENGTH]) -> State
-    ensures { λ r. ⌜ r ≡ stateAt waiting start ⌝ }
+fn state_at(waiting: Waiting, start: [u8; FULL], size: usize) -> State
+    ensures { λ r. ⌜ r ≡ stateAt waiting start size ⌝ }
 {
     State {
         waiting,
         start,
+        size,
         tvr: [0; 5],
         tsi: [0; 2],
         profile: [0; 2],
@@ -31,15 +32,15 @@ fn state_at(waiting: Waiting, start: [u8; LENGTH]) -> State
 pub fn fresh() -> State
     ensures { λ r. ⌜ r ≡ freshState ⌝ }
 {
-    state_at(Waiting::ForWord(Speaker::Terminal), [0; LENGTH])
+    state_at(Waiting::ForWord(Speaker::Terminal), [0; FULL], 0)
 }
 
 pub fn begun(start: &[u8]) -> State
     ensures { λ r. ⌜ r ≡ begunState (now (start .entry)) ⌝ }
 {
-    let mut bytes = [0; LENGTH];
+    let mut bytes = [0; FULL];
     lay(&mut bytes, 0, start);
-    state_at(Waiting::ForCard(Question::Select), bytes)
+    state_at(Waiting::ForCard(Question::Select), bytes, start.len())
 }
 
 pub fn with_told(mut s: State, told: Store) -> State
@@ -64,12 +65,14 @@ pub fn change(s: State, waiting: Waiting, tvr: [u8; 5], tsi: [u8; 2], cursor: Cu
     ensures { λ r. ⌜ r ≡ changed waiting tvr tsi cursor s ⌝ }
 {
     let start = s.start;
+    let size = s.size;
     let profile = s.profile;
     let locator = s.locator;
     let told = s.told;
     State {
         waiting,
         start,
+        size,
         tvr,
         tsi,
         profile,

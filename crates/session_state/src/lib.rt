@@ -6,12 +6,13 @@ use answer_afl::cursor::Cursor;
 use session_phase::Waiting;
 use session_records::Run;
 use session_records::Store;
-use start_fields::fields::LENGTH;
+use start_fields::fields::FULL;
 
 pub struct State {
     pub waiting: Waiting,
-    // START's bytes
-    pub start: [u8; LENGTH],
+    // START's bytes, of which the first `size` count
+    pub start: [u8; FULL],
+    pub size: usize,
     pub tvr: [u8; 5],
     pub tsi: [u8; 2],
     // 82, once the answer to GPO told it

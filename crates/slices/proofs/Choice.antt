@@ -1,8 +1,17 @@
--- A choice whose test is known is the value chosen; what holds of both values holds of the choice.
+-- A choice whose test is known is the value chosen; what holds of both values holds of the choice. Bytes are there where their
+-- length is not 0.
 -- Assumes nothing.
-use mathlib.Core.Path.{_≡_, refl, ap}
-use mathlib.Core.Bool.{Bool, true, false, _&&_, false≢true}
-use Rattle.slices.specs.Choice.{pick}
+use mathlib.Core.Path.{_≡_, refl, sym, ap}
+use mathlib.Core.Bool.{Bool, true, false, _&&_, not, false≢true}
+use mathlib.Core.List.{List, [], _∷_}
+use mathlib.Core.Option.{none, some, Option·getD}
+use Prim.Native.Nat.{ℕ, _<_}
+use native.Mathlib.Omega.{arith}
+use borrow.Author.Tests.{ne-eqb}
+use lib.Dec.{eqb}
+use lib.ListN.{length}
+use Rattle.slices.specs.Choice.{pick, unlessEmpty}
+use Rattle.slices.specs.Tests.{isSome}
 
 pub pick-yes : {A : Type 0} (t : Bool) (a b : A) → t ≡ true → pick t a b ≡ a
 unfolding pick
@@ -54,3 +63,25 @@ and-cong false t t′ f = refl
 pub either : {P : Type 0} (t : Bool) → (t ≡ true → P) → (t ≡ false → P) → P
 either true f g = f refl
 either false f g = g refl
+
+-- bytes that are handed on only where there are any: where none are asked for, the same bytes
+pub there-or-empty : (v : List ℕ) → Option·getD (unlessEmpty v) [] ≡ v
+unfolding unlessEmpty
+there-or-empty [] = refl
+there-or-empty (b ∷ bs) = refl
+
+-- by their length
+pub there : (v : List ℕ) → 0 < length v → unlessEmpty v ≡ some v
+unfolding unlessEmpty
+there [] h = absurd (omega arith)
+there (b ∷ bs) h = refl
+
+pub not-there : (v : List ℕ) → length v ≡ 0 → unlessEmpty v ≡ none
+unfolding unlessEmpty
+not-there [] e = refl
+not-there (b ∷ bs) e = absurd (omega arith)
+
+pub is-there : (v : List ℕ) → isSome (unlessEmpty v) ≡ not (eqb (length v) 0)
+unfolding unlessEmpty isSome
+is-there [] = refl
+is-there (b ∷ bs) = sym (ap not (ne-eqb (length (b ∷ bs)) 0 (λ e. absurd (omega arith))))

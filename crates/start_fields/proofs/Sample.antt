@@ -1,8 +1,10 @@
 -- A START whose fields all differ, and what is read of it: where each field stands. Everything here is computed.
 -- Assumes nothing.
 use mathlib.Core.Path.{_≡_, refl}
-use mathlib.Core.List.{List, [], _∷_}
+use mathlib.Core.List.{List, [], _∷_, _++_}
+use mathlib.Core.Option.{none, some}
 use Prim.Native.Nat.{ℕ}
+use Rattle.slices.specs.Choice.{unlessEmpty}
 use Rattle.decimal_dates.specs.Decimal.{decimalFrom, decimal}
 use Rattle.start_fields.specs.Reading.{readingOf, amountOf, otherAmountOf, floorLimitOf, thresholdOf}
 
@@ -49,9 +51,18 @@ sample-read : readingOf sample ≡ record {
   online = 0xE1 ∷ 0xE2 ∷ 0xE3 ∷ 0xE4 ∷ 0xE5 ∷ [];
   default = 0xF1 ∷ 0xF2 ∷ 0xF3 ∷ 0xF4 ∷ 0xF5 ∷ [];
   aid = 0xA0 ∷ 0 ∷ 0 ∷ 0 ∷ 0 ∷ 0 ∷ 0 ∷ [];
+  capabilities = none;
 }
-unfolding readingOf
+unfolding readingOf unlessEmpty
 sample-read = refl
+
+-- the same with Terminal Capabilities behind it
+abbrev pub fullSample : List ℕ
+fullSample = sample ++ (0xC1 ∷ 0xC2 ∷ 0xC3 ∷ [])
+
+full-read : (readingOf fullSample .capabilities ≡ some (0xC1 ∷ 0xC2 ∷ 0xC3 ∷ [])) × (readingOf fullSample .aid ≡ readingOf sample .aid)
+unfolding readingOf unlessEmpty
+full-read = (refl, refl)
 
 sample-numbers : amountOf (readingOf sample) ∷ otherAmountOf (readingOf sample) ∷ floorLimitOf (readingOf sample) ∷ thresholdOf
     (readingOf sample) ∷ [] ≡ 123456789012 ∷ 7500 ∷ 6000 ∷ 5000 ∷ []

@@ -1,6 +1,7 @@
--- A terminal of which only the type and the action codes are given, for cases that turn on nothing else.
+-- A terminal of which only the type and the action codes are given, for cases that turn on nothing else. Its START has 74 bytes.
 -- Assumes nothing.
 use mathlib.Core.List.{List, []}
+use mathlib.Core.Option.{none}
 use Prim.Native.Nat.{ℕ}
 use Rattle.start_fields.specs.Reading.{Terminal}
 
@@ -25,4 +26,5 @@ bare kind denial online default =
       online = online;
       default = default;
       aid = [];
+      capabilities = none;
     }

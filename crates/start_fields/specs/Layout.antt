@@ -1,8 +1,8 @@
--- Where START's fields stand: 01, "Terminal data (START, 74 bytes)".
+-- Where START's fields stand: 01, "Terminal data (START, 74 bytes)"; 02, R-7.
 -- Assumes nothing.
 use Prim.Native.Nat.{ℕ}
 use Rattle.start_fields.specs.declared.fields.Field.{Field}
-use Rattle.start_fields.specs.declared.fields.Field.the-variants.{Amount, OtherAmount, Country, Currency, Date, TransactionType, Unpredictable, FloorLimit, Threshold, Version, Denial, Online, Default}
+use Rattle.start_fields.specs.declared.fields.Field.the-variants.{Amount, OtherAmount, Country, Currency, Date, TransactionType, Unpredictable, FloorLimit, Threshold, Version, Denial, Online, Default, Capabilities}
 use Rattle.start_fields.specs.declared.fields.Octet.{Octet}
 use Rattle.start_fields.specs.declared.fields.Octet.the-variants.{Kind, Random, Target, Maximum}
 
@@ -21,6 +21,7 @@ beginOf Version = 40
 beginOf Denial = 42
 beginOf Online = 47
 beginOf Default = 52
+beginOf Capabilities = 74
 
 -- how many bytes it has
 abbrev pub sizeOf : Field → ℕ
@@ -37,6 +38,7 @@ sizeOf Version = 2
 sizeOf Denial = 5
 sizeOf Online = 5
 sizeOf Default = 5
+sizeOf Capabilities = 3
 
 -- the offset of a field that is one byte
 abbrev pub octetAt : Octet → ℕ
@@ -55,6 +57,9 @@ aidAt = 58
 abbrev pub aidRoom : ℕ
 aidRoom = 16
 
--- START as a whole
+-- START as a whole, and with Terminal Capabilities behind it (02, R-7)
 abbrev pub startLength : ℕ
 startLength = 74
+
+abbrev pub fullLength : ℕ
+fullLength = 77

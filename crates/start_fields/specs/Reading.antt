@@ -1,14 +1,16 @@
--- What START holds: 01, "Terminal data (START, 74 bytes)". Every rule takes this record, and none the bytes of START.
+-- What START holds: 01, "Terminal data (START, 74 bytes)"; 02, R-7. Every rule takes this record, and none the bytes of START.
 -- Assumes nothing.
-use mathlib.Core.List.{List}
+use mathlib.Core.List.{List, []}
+use mathlib.Core.Option.{Option, Option·getD}
 use Prim.Native.Nat.{ℕ, _-_}
 use lib.ListN.{take, drop, getD}
 use Rattle.start_fields.specs.declared.fields.Field.{Field}
-use Rattle.start_fields.specs.declared.fields.Field.the-variants.{Amount, OtherAmount, Country, Currency, Date, TransactionType, Unpredictable, FloorLimit, Threshold, Version, Denial, Online, Default}
+use Rattle.start_fields.specs.declared.fields.Field.the-variants.{Amount, OtherAmount, Country, Currency, Date, TransactionType, Unpredictable, FloorLimit, Threshold, Version, Denial, Online, Default, Capabilities}
 use Rattle.start_fields.specs.declared.fields.Octet.{Octet}
 use Rattle.start_fields.specs.declared.fields.Octet.the-variants.{Kind, Random, Target, Maximum}
 use Rattle.start_fields.specs.Layout.{beginOf, sizeOf, octetAt, aidLengthAt, aidAt, aidRoom}
 use Rattle.decimal_dates.specs.Decimal.{decimal}
+use Rattle.slices.specs.Choice.{unlessEmpty}
 
 pub record Terminal : Type 0 where
   -- the terminal's type: 0 offline-only, 1 online-only, 2 both
@@ -38,6 +40,9 @@ pub record Terminal : Type 0 where
   pub default : List ℕ
   -- the AID's own bytes
   pub aid : List ℕ
+  -- 9F33, where START has it. This alone tells whether a session goes by the rules of cardholder verification or by those before
+  -- them (02, R-7)
+  pub capabilities : Option (List ℕ)
 
 -- the numbers that are written in digits
 abbrev pub amountOf : Terminal → ℕ
@@ -92,9 +97,10 @@ readingOf s =
       online = runIn Online s;
       default = runIn Default s;
       aid = take (aidLengthIn s) (aidRoomIn s);
+      capabilities = unlessEmpty (runIn Capabilities s);
     }
 
--- a field of the record by its name
+-- a field of the record by its name; no bytes where START has it not
 abbrev pub bytesOf : Field → Terminal → List ℕ
 bytesOf Amount t = t .amount
 bytesOf OtherAmount t = t .otherAmount
@@ -109,6 +115,7 @@ bytesOf Version t = t .version
 bytesOf Denial t = t .denial
 bytesOf Online t = t .online
 bytesOf Default t = t .default
+bytesOf Capabilities t = Option·getD (t .capabilities) []
 
 abbrev pub octetOf : Octet → Terminal → ℕ
 octetOf Kind t = t .kind

@@ -5,12 +5,15 @@ ghost use Prim.Native.Nat.{_<_, _≤_};
 ghost use lib.ListN.{length, take, drop};
 ghost use Rattle.start_fields.specs.Layout.{beginOf, sizeOf, octetAt};
 ghost use Rattle.start_fields.specs.Reading.{readingOf, bytesOf, octetOf, amountOf, otherAmountOf, floorLimitOf, thresholdOf, digitsIn, aidLengthIn, aidRoomIn};
+ghost use Rattle.slices.specs.Tests.{isSome};
 ghost use Rattle.decimal_dates.specs.Decimal.{decimal as decimalOf, sixBytesLimit};
 use decimal_dates::decimal::two_digits;
 use slices::part;
 
-// START as a whole.
+// START as a whole, and with Terminal Capabilities behind it.
 pub const LENGTH: usize = 74;
+
+pub const FULL: usize = 77;
 
 // The fields that are runs of bytes.
 pub enum Field {
@@ -27,6 +30,7 @@ pub enum Field {
     Denial,
     Online,
     Default,
+    Capabilities,
 }
 
 // The fields that are one byte, a binary number.
@@ -54,6 +58,7 @@ fn begin(f: Field) -> usize
         Field::Denial => 42,
         Field::Online => 47,
         Field::Default => 52,
+        Field::Capabilities => 74,
     }
 }
 
@@ -74,6 +79,7 @@ fn size(f: Field) -> usize
         Field::Denial => 5,
         Field::Online => 5,
         Field::Default => 5,
+        Field::Capabilities => 3,
     }
 }
 
@@ -103,6 +109,13 @@ pub fn digits(s: &[u8]) -> &[u8]
         begin(Field::Amount),
         begin(Field::Unpredictable) - begin(Field::Amount),
     )
+}
+
+// Whether START has Terminal Capabilities.
+pub fn has_capabilities(s: &[u8]) -> bool
+    ensures { λ r. ⌜ r ≡ isSome (readingOf (now (s .entry)) .capabilities) ⌝ }
+{
+    bytes(s, Field::Capabilities).len() != 0
 }
 
 fn octet_in(s: &[u8], o: Octet) -> u8

@@ -4,14 +4,14 @@ use mathlib.Core.Path.{_≡_, refl}
 use mathlib.Core.Bool.{Bool, true, false}
 use mathlib.Core.List.{List, [], _∷_, _++_, map}
 use Prim.Native.Nat.{ℕ}
-use lib.ListN.{take, set}
+use lib.ListN.{length, take, set}
 use Rattle.slices.specs.Choice.{pick}
 use Rattle.slices.specs.Tests.{every, between}
 use Rattle.decimal_dates.specs.Decimal.{decimalFrom, decimal, decimalByte, digitsOnly, zerosOnly}
 use Rattle.decimal_dates.specs.Dates.{monthAndDay, validStartDate}
 use Rattle.start_fields.specs.Reading.{readingOf}
-use Rattle.start_fields.proofs.Sample.{sample}
-use Rattle.start_valid.specs.Start.{validKind, validDigits, validRandom, validPercentages, validThreshold, validAid, validStart}
+use Rattle.start_fields.proofs.Sample.{sample, fullSample}
+use Rattle.start_valid.specs.Start.{validLength, validKind, validDigits, validRandom, validPercentages, validThreshold, validAid, validStart, beginsSession}
 
 -- the sample with some of its bytes changed
 abbrev changed : List (ℕ × ℕ) → List ℕ
@@ -49,14 +49,20 @@ rows =
     ∷ []
 
 rows-judged : map (λ row. validStart (changed (row .0))) rows ≡ map (λ row. row .1) rows
-unfolding validStart every pick between validKind validDigits digitsOnly decimalByte validStartDate monthAndDay validRandom validPercentages validThreshold validAid zerosOnly readingOf decimal decimalFrom
+unfolding validStart every pick between validLength validKind validDigits digitsOnly decimalByte validStartDate monthAndDay validRandom validPercentages validThreshold validAid zerosOnly readingOf decimal decimalFrom
 rows-judged = refl
 
--- one byte less, and one more
-sample-cut : validStart (take 73 sample) ≡ false
-unfolding validStart every pick
-sample-cut = refl
+-- so many bytes of the sample, Terminal Capabilities and one byte more
+abbrev sized : ℕ → List ℕ
+sized n = take n (fullSample ++ (0 ∷ []))
 
-sample-longer : validStart (sample ++ (0 ∷ [])) ≡ false
-unfolding validStart every pick
-sample-longer = refl
+-- a length, whether the START is valid, and whether a session can be begun with it: 74 bytes are only judged
+abbrev sizes : List (ℕ × Bool × Bool)
+sizes =
+    (0, false, false) ∷ (73, false, false) ∷ (74, true, false) ∷ (75, false, false) ∷ (76, false, false) ∷ (77, true, true)
+    ∷ (78, false, false)
+    ∷ []
+
+sizes-judged : map (λ row. (length (sized (row .0)), validStart (sized (row .0)), beginsSession (sized (row .0)))) sizes ≡ sizes
+unfolding beginsSession validStart every pick between validLength validKind validDigits digitsOnly decimalByte validStartDate monthAndDay validRandom validPercentages validThreshold validAid zerosOnly readingOf decimal decimalFrom
+sizes-judged = refl

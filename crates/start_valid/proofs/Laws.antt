@@ -1,25 +1,26 @@
--- What is known of the terminal data that a valid START hands over: it is the reading of 74 bytes, every field has its
--- length, and every number is in its range. Each fact is one of the tests that the START passed.
+-- What is known of the terminal data that a valid START hands over: it is the reading of 74 or 77 bytes, every field has its
+-- length, and every number is in its range. Each fact is one of the tests that the START passed. A START that begins a session is
+-- a valid one of 77 bytes.
 -- Assumes nothing.
-use mathlib.Core.Path.{_≡_, subst}
-use mathlib.Core.Bool.{true, false}
+use mathlib.Core.Path.{_≡_, refl, subst}
+use mathlib.Core.Bool.{Bool, true, false, _||_}
 use mathlib.Core.List.{List, [], _∷_}
 use mathlib.Core.Logic.{_⊎_, inl, inr}
 use mathlib.Core.Option.{some, none, Option·some-injective, Option·none-ne-some}
-use Prim.Native.Nat.{ℕ, _≤_, _<_}
+use Prim.Native.Nat.{ℕ, _+_, _≤_, _<_}
 use native.Mathlib.Omega.{arith}
 use lib.Dec.{leb, ltb, eqb}
 use lib.ListN.{length, getD, length-take, length-drop}
 use borrow.Author.Tests.{leb-true, ltb-true, eqb-true}
 use Rattle.slices.proofs.Choice.{pick-yes, pick-no, picked}
 use Rattle.start_fields.specs.declared.fields.Field.{Field}
-use Rattle.start_fields.specs.declared.fields.Field.the-variants.{Amount, OtherAmount, FloorLimit}
+use Rattle.start_fields.specs.declared.fields.Field.the-variants.{Amount, OtherAmount, FloorLimit, Capabilities}
 use Rattle.slices.specs.Tests.{between}
-use Rattle.start_fields.specs.Layout.{sizeOf, startLength}
+use Rattle.start_fields.specs.Layout.{beginOf, sizeOf, startLength, fullLength}
 use Rattle.start_fields.specs.Reading.{Terminal, readingOf, bytesOf, amountOf, otherAmountOf, floorLimitOf, thresholdOf, aidLengthIn}
-use Rattle.start_valid.specs.Start.{startTests, validKind, validDigits, validRandom, validPercentages, validThreshold, validAid, validStart, terminalOf}
+use Rattle.start_valid.specs.Start.{startTests, validLength, validKind, validDigits, validRandom, validPercentages, validThreshold, validAid, validStart, terminalOf, beginsSession}
 use Rattle.slices.proofs.Tests.{each-held}
-use Rattle.start_fields.proofs.Reading.{short-read, whole-read}
+use Rattle.start_fields.proofs.Reading.{short-read, all-read, whole-read, no-capabilities}
 use Rattle.decimal_dates.proofs.Digits.{digits-split, twelve-digits}
 
 pub accepted : (s : List ℕ) → validStart s ≡ true → terminalOf s ≡ some (readingOf s)
@@ -52,7 +53,9 @@ pub record Ranges (t : Terminal) : Type 0 where
   pub target : t .target ≤ t .maximum
   pub maximum : t .maximum ≤ 99
   pub threshold : (thresholdOf t ≡ 0) ⊎ (thresholdOf t < floorLimitOf t)
-  pub bytes : (f : Field) → length (bytesOf f t) ≡ sizeOf f
+  pub bytes : (f : Field) → beginOf f + sizeOf f ≤ startLength → length (bytesOf f t) ≡ sizeOf f
+  -- the one field behind the 74 bytes
+  pub capabilities : (t .capabilities ≡ none) ⊎ (length (bytesOf Capabilities t) ≡ sizeOf Capabilities)
   pub aid : (5 ≤ length (t .aid)) × (length (t .aid) ≤ 16)
 
 bounds : (low high n : ℕ) → between low high n ≡ true → (low ≤ n) × (n ≤ high)
@@ -70,14 +73,40 @@ zero-or-below t =
     (λ e q. inl (eqb-true _ _ e))
     (λ e q. inr (ltb-true _ _ q))
 
+one-of-two : (n : ℕ) → validLength n ≡ true → (n ≡ startLength) ⊎ (n ≡ fullLength)
+unfolding validLength
+one-of-two n valid = by (eqb n startLength) refl valid
+  where
+    by : (t : Bool) → eqb n startLength ≡ t → (t || eqb n fullLength) ≡ true → (n ≡ startLength) ⊎ (n ≡ fullLength)
+    by true e h = inl (eqb-true _ _ e)
+    by false e h = inr (eqb-true _ _ h)
+
 module _ (s : List ℕ) (valid : validStart s ≡ true) where
   -- the tests that it passed, by their places in 01's order
   test : (k : ℕ) → getD (startTests s) k true ≡ true
   unfolding validStart
   test k = each-held (startTests s) valid k
 
-  pub start-length : length s ≡ startLength
-  start-length = eqb-true _ _ (test 0)
+  start-length : (length s ≡ startLength) ⊎ (length s ≡ fullLength)
+  start-length = one-of-two (length s) (test 0)
+
+  between-lengths : (startLength ≤ length s) × (length s ≤ fullLength)
+  between-lengths = by-length start-length
+    where
+      by-length : (length s ≡ startLength) ⊎ (length s ≡ fullLength) → (startLength ≤ length s) × (length s ≤ fullLength)
+      by-length (inl e) = (omega arith, omega arith)
+      by-length (inr e) = (omega arith, omega arith)
+
+  pub valid-length : length s ≤ fullLength
+  valid-length = between-lengths .1
+
+  capable : (readingOf s .capabilities ≡ none) ⊎ (length (bytesOf Capabilities (readingOf s)) ≡ sizeOf Capabilities)
+  capable = by-length start-length
+    where
+      by-length : (length s ≡ startLength) ⊎ (length s ≡ fullLength)
+          → (readingOf s .capabilities ≡ none) ⊎ (length (bytesOf Capabilities (readingOf s)) ≡ sizeOf Capabilities)
+      by-length (inl e) = inl (no-capabilities s (omega arith))
+      by-length (inr e) = inr (whole-read Capabilities s e)
 
   percentages : (readingOf s .target ≤ readingOf s .maximum) × (readingOf s .maximum ≤ 99)
   unfolding validPercentages
@@ -102,7 +131,7 @@ module _ (s : List ℕ) (valid : validStart s ≡ true) where
   unfolding validAid readingOf
   aid-size =
       let size = bounds 5 16 (aidLengthIn s) (each-held _ (test 7) 0) in
-      simp (length-take, length-drop) (omega (arith, start-length))
+      simp (length-take, length-drop) (omega (arith, between-lengths .0))
 
   pub in-range : Ranges (readingOf s)
   unfolding validKind validRandom
@@ -116,9 +145,19 @@ module _ (s : List ℕ) (valid : validStart s ≡ true) where
         target = percentages .0;
         maximum = percentages .1;
         threshold = zero-or-below _ (test 6);
-        bytes = λ f. whole-read f s start-length;
+        bytes = λ f h. all-read f s (omega (arith, between-lengths .0));
+        capabilities = capable;
         aid = aid-size;
       }
 
 pub terminal-in-range : (s : List ℕ) (t : Terminal) → terminalOf s ≡ some t → Ranges t
 terminal-in-range s t e = let h = handed-over s t e in subst Ranges (h .1) (in-range s (h .0))
+
+module _ (s : List ℕ) (begins : beginsSession s ≡ true) where
+  pub begins-full : length s ≡ fullLength
+  unfolding beginsSession
+  begins-full = eqb-true _ _ (each-held _ begins 0)
+
+  pub begins-valid : validStart s ≡ true
+  unfolding beginsSession
+  begins-valid = each-held _ begins 1

@@ -1,6 +1,6 @@
--- Which STARTs are valid: 01, "Terminal data (START, 74 bytes)", its last sentence, a definition for each condition.
+-- Which STARTs are valid: 01, "Terminal data (START, 74 bytes)", its last sentence, a definition for each condition; 02, R-7.
 -- Assumes nothing.
-use mathlib.Core.Bool.{Bool, true}
+use mathlib.Core.Bool.{Bool, true, _||_}
 use mathlib.Core.List.{List, [], _∷_}
 use mathlib.Core.Option.{Option, some, none}
 use Prim.Native.Nat.{ℕ}
@@ -10,8 +10,12 @@ use Rattle.slices.specs.Choice.{pick}
 use Rattle.slices.specs.Tests.{every, between}
 use Rattle.decimal_dates.specs.Decimal.{digitsOnly, zerosOnly}
 use Rattle.decimal_dates.specs.Dates.{validStartDate}
-use Rattle.start_fields.specs.Layout.{startLength, aidRoom}
+use Rattle.start_fields.specs.Layout.{startLength, fullLength, aidRoom}
 use Rattle.start_fields.specs.Reading.{Terminal, readingOf, floorLimitOf, thresholdOf, digitsIn, aidLengthIn, aidRoomIn}
+
+-- 74 bytes, or 77: what Terminal Capabilities say is free (02, R-7)
+unfoldable pub validLength : ℕ → Bool
+validLength n = eqb n startLength || eqb n fullLength
 
 -- type 0-2
 unfoldable pub validKind : Terminal → Bool
@@ -40,7 +44,7 @@ validAid n room = every (between 5 aidRoom n ∷ zerosOnly (drop n room) ∷ [])
 -- all that is asked of a START, in 01's order
 abbrev pub startTests : List ℕ → List Bool
 startTests s =
-    eqb (length s) startLength
+    validLength (length s)
     ∷ validKind (readingOf s)
     ∷ validDigits s
     ∷ validStartDate (readingOf s .date)
@@ -56,3 +60,7 @@ validStart s = every (startTests s)
 -- the terminal data that a START hands over: none where it is not valid
 unfoldable pub terminalOf : List ℕ → Option Terminal
 terminalOf s = pick (validStart s) (some (readingOf s)) none
+
+-- a START that a session can be begun with: refusal 3 asks for the longer one, and the shorter is only judged (02, R-7)
+unfoldable pub beginsSession : List ℕ → Bool
+beginsSession s = every (eqb (length s) fullLength ∷ validStart s ∷ [])

@@ -1,15 +1,22 @@
 // Whether a START is valid, a function for each condition.
 ghost use mathlib.Core.Path.{_≡_};
 ghost use Rattle.start_fields.specs.Reading.{readingOf, aidLengthIn, aidRoomIn};
-ghost use Rattle.start_valid.specs.Start.{validKind, validDigits, validRandom, validPercentages, validThreshold, validAid, validStart};
+ghost use Rattle.start_valid.specs.Start.{validKind, validDigits, validRandom, validPercentages, validThreshold, validAid, validLength, validStart, beginsSession};
 use decimal_dates::dates::valid_start_date;
 use decimal_dates::decimal::digits_only;
 use decimal_dates::decimal::zeros_only;
 use decimal_dates::limits::between;
 use start_fields::fields;
 use start_fields::fields::AID_ROOM;
+use start_fields::fields::FULL;
 use start_fields::fields::Field;
 use start_fields::fields::LENGTH;
+
+fn valid_length(n: usize) -> bool
+    ensures { λ r. ⌜ r ≡ validLength n ⌝ }
+{
+    n == LENGTH || n == FULL
+}
 
 fn valid_kind(s: &[u8]) -> bool
     ensures { λ r. ⌜ r ≡ validKind (readingOf (now (s .entry))) ⌝ }
@@ -56,7 +63,7 @@ fn valid_aid(s: &[u8]) -> bool
 pub fn valid_start(s: &[u8]) -> bool
     ensures { λ r. ⌜ r ≡ validStart (now (s .entry)) ⌝ }
 {
-    if s.len() != LENGTH {
+    if !valid_length(s.len()) {
         return false;
     }
     if !valid_kind(s) {
@@ -75,4 +82,11 @@ pub fn valid_start(s: &[u8]) -> bool
         return false;
     }
     valid_threshold(s) && valid_aid(s)
+}
+
+// Whether a session can be begun with it: the shorter START is only judged.
+pub fn begins_session(s: &[u8]) -> bool
+    ensures { λ r. ⌜ r ≡ beginsSession (now (s .entry)) ⌝ }
+{
+    s.len() == FULL && valid_start(s)
 }

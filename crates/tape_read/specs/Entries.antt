@@ -1,4 +1,4 @@
--- What a tape holds: entries, each of a kind and with a payload, and the limits that a tape keeps (01, "The tape").
+-- What a tape holds: entries, each of a kind and with a payload, and the limits that a tape keeps (01, "The tape"; 02, R-7 and R-8).
 -- Assumes nothing.
 use mathlib.Core.Bool.{Bool, true, _&&_}
 use mathlib.Core.List.{List, [], _∷_}
@@ -41,9 +41,13 @@ host = 5
 abbrev pub decision : ℕ
 decision = 6
 
+-- the results of cardholder verification (02, R-7)
+abbrev pub results : ℕ
+results = 7
+
 -- one of these
 unfoldable pub isKind : ℕ → Bool
-isKind k = leb start k && leb k decision
+isKind k = leb start k && leb k results
 
 -- what one block holds
 pub record Entry : Type 0 where

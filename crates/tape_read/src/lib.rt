@@ -24,6 +24,8 @@ pub const HOST: u8 = 5;
 
 pub const DECISION: u8 = 6;
 
+pub const RESULTS: u8 = 7;
+
 // The limits: the bytes of a block, the blocks of a tape and its bytes, the bytes of a payload.
 pub const BLOCK: usize = 512;
 
@@ -45,5 +47,5 @@ pub fn no_kind(k: u8) -> bool
     if k < START {
         return true;
     }
-    DECISION < k
+    RESULTS < k
 }

@@ -9,17 +9,16 @@ use Prim.Native.Nat.{ℕ, _+_}
 use native.Mathlib.Omega.{arith}
 use lib.ListN.{length, length-append}
 use Rattle.slices.proofs.Choice.{pick-no}
-use Rattle.tape_read.specs.Entries.{Entry, entry, start, command, answer, silence, host, decision}
-use Rattle.rulebook.specs.Phase.{Asked, terminal, opens, asks, hears, decides, dueKind}
+use Rattle.tape_read.specs.Entries.{Entry, entry, start, answer, silence, host, results}
+use Rattle.rulebook.specs.Phase.{Asked, terminal, opens, dueKind}
 use Rattle.rulebook.specs.Session.{Session, Beginning, AwaitsCard, Closed, Open, Lawful}
-use Rattle.rulebook.proofs.Said.{other-kinds}
 use Rattle.rulebook.specs.Machine.{Machine, at, owes, done, due, sayable, next, run}
 use Rattle.rulebook.proofs.Running.{chosen, taken, no-state, session-run}
-use Rattle.rulebook.proofs.Reading.{other-kind, run-append, beginning-run, awaits-run}
+use Rattle.rulebook.proofs.Reading.{run-append, beginning-run, awaits-run}
 use Rattle.rulebook.proofs.Sorting.{run-awaits}
 use Rattle.rulebook.proofs.Ends.{finishes}
 use Rattle.rulebook.proofs.Breaks.{begins-empty, after-session, after-closed}
-use Rattle.rulebook.proofs.States.{refused-breaks}
+use Rattle.rulebook.proofs.States.{silence-refused, refused-breaks}
 use Rattle.verdict.specs.Saying.{says}
 use Rattle.verdict_judged.specs.Judged.{Judges, undecided}
 use Rattle.verdict.specs.declared.Verdict.the-variants.{Fail, Inconclusive}
@@ -33,14 +32,6 @@ closing-silence es a =
     undecided (inr (es, (a, refl))) (ap (λ (n : ℕ). says Inconclusive n 0) (sym (length-append es (entry silence [] ∷ []))))
 
 -- ---- any other silence
-
-silence-refused : (σ : Machine) (p : List ℕ) → next σ (entry silence p) ≡ none
-unfolding next
-silence-refused (at (asks w)) p = pick-no _ _ _ (not-due command silence _ p (λ e. omega arith))
-silence-refused (at (hears h)) p = pick-no _ _ _ (other-kind (dueKind h) silence _ p (other-kinds h .no-silence))
-silence-refused (at (decides outcome reason s)) p = pick-no _ _ _ (not-due decision silence _ p (λ e. omega arith))
-silence-refused (owes w) p = pick-no _ _ _ (not-due answer silence _ p (λ e. omega arith))
-silence-refused done p = refl
 
 module _ (es : List Entry) (p : List ℕ) (more : List Entry) where
   -- it fails there, unless it has no payload and the card's answer is awaited
@@ -85,23 +76,35 @@ pub silence-after-start : (b p : List ℕ) (more : List Entry) → Beginning (en
 unfolding Lawful Open
 silence-after-start b p more begins = silence-fails (entry start b ∷ []) p more (inr (inl begins)) (λ e a. start-not-awaited b a)
 
--- where the issuer's reply is due
-host-refused : (w : Asked) (p : List ℕ) → next (owes w) (entry host p) ≡ none
-unfolding next
-host-refused w p = pick-no _ _ _ (not-due answer host _ p (λ e. omega arith))
+-- where any other entry than the card's answer is due: what somebody else says, or the kernel's own
+module _ (k : ℕ) (said : List ℕ) (other : k ≡ answer → ⊥) where
+  no-answer : (w : Asked) → next (owes w) (entry k said) ≡ none
+  unfolding next
+  no-answer w = pick-no _ _ _ (not-due answer k _ said other)
 
-host-not-awaited : (es : List Entry) (h : List ℕ) (rest : List Entry) → Session (es ++ (entry host h ∷ rest)) → AwaitsCard es → ⊥
-unfolding run
-host-not-awaited es h rest s a =
-    let w = awaits-run es a in
-    let t = taken (run (entry host h ∷ rest)) (run es (at opens)) done (sym (run-append es (entry host h ∷ rest) (at opens))
-    ∙ session-run _ s) in
-    let n = taken (run rest) (next (t .0) (entry host h)) done (t .1 .1) in
-    let here : t .0 ≡ owes (w .0) = cc (t .1 .0, w .1) in
-    no-state (n .0) (sym (host-refused (w .0) h) ∙ (ap (λ (σ : Machine). next σ (entry host h)) (sym here) ∙ n .1 .0))
+  module _ (es rest : List Entry) (s : Session (es ++ (entry k said ∷ rest))) where
+    not-awaited : AwaitsCard es → ⊥
+    unfolding run
+    not-awaited a =
+        let w = awaits-run es a in
+        let t = taken (run (entry k said ∷ rest)) (run es (at opens)) done (sym (run-append es (entry k said ∷ rest) (at opens))
+        ∙ session-run _ s) in
+        let n = taken (run rest) (next (t .0) (entry k said)) done (t .1 .1) in
+        let here : t .0 ≡ owes (w .0) = cc (t .1 .0, w .1) in
+        no-state (n .0) (sym (no-answer (w .0)) ∙ (ap (λ (σ : Machine). next σ (entry k said)) (sym here) ∙ n .1 .0))
 
+    pub silence-for-other : (p : List ℕ) (more : List Entry) → Judges (es ++ (entry silence p ∷ more)) (says Fail (length es) 0)
+    unfolding Lawful Open Beginning
+    silence-for-other p more = silence-fails es p more (inr (inl (entry k said, (rest, s)))) (λ e a. not-awaited a)
+
+-- the issuer's reply
 pub silence-for-host : (es : List Entry) (h : List ℕ) (rest : List Entry) (p : List ℕ) (more : List Entry)
     → Session (es ++ (entry host h ∷ rest))
     → Judges (es ++ (entry silence p ∷ more)) (says Fail (length es) 0)
-unfolding Lawful Open Beginning
-silence-for-host es h rest p more s = silence-fails es p more (inr (inl (entry host h, (rest, s)))) (λ e a. host-not-awaited es h rest s a)
+silence-for-host es h rest p more s = silence-for-other host h (λ e. omega arith) es rest s p more
+
+-- the results of cardholder verification (02, R-7)
+pub silence-for-results : (es : List Entry) (r : List ℕ) (rest : List Entry) (p : List ℕ) (more : List Entry)
+    → Session (es ++ (entry results r ∷ rest))
+    → Judges (es ++ (entry silence p ∷ more)) (says Fail (length es) 0)
+silence-for-results es r rest p more s = silence-for-other results r (λ e. omega arith) es rest s p more

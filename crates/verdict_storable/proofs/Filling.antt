@@ -10,6 +10,7 @@ use native.Mathlib.Omega.{arith}
 use lib.Dec.{eqb}
 use lib.ListN.{length, take, drop, replicate}
 use lib.Pow.{areBytes}
+use Rattle.slices.specs.Choice.{unlessEmpty}
 use Rattle.slices.specs.Writing.{put, zeros}
 use Rattle.slices.proofs.Choice.{picked, and-left, and-right, and-both}
 use Rattle.tape_crc.proofs.Bytes.{bytes-cons, bytes-append, bytes-take, bytes-drop}
@@ -50,6 +51,12 @@ unfolding orElse
 else-bytes none other h k = k
 else-bytes (some v) other h k = h
 
+-- what counts as absent where it is empty
+pub unless-bytes : (v : List ℕ) → areBytes v ≡ true → Told (unlessEmpty v)
+unfolding unlessEmpty
+unless-bytes [] h = refl
+unless-bytes (b ∷ bs) h = h
+
 ones-bytes : (n : ℕ) → areBytes (replicate n 0xFF) ≡ true
 ones-bytes zero = refl
 ones-bytes (suc n) = bytes-cons 0xFF (replicate n 0xFF) (omega arith) (ones-bytes n)
@@ -75,7 +82,7 @@ entry-bytes n Unknown (some v) h = zeros-bytes n
 module _ (t : Terminal) (k : Facts) (own : (f : Field) → areBytes (bytesOf f t) ≡ true) (seen : (tag : ℕ) → Told (k tag)) where
   own-bytes : (tag : ℕ) (o : Own) → Told (valueBy t (k tag) o)
   unfolding valueBy
-  own-bytes tag (Of f) = own f
+  own-bytes tag (Of f) = unless-bytes (bytesOf f t) (own f)
   own-bytes tag Nothing = seen tag
 
   value-bytes : (tag : ℕ) → Told (valueFor t k tag)

@@ -20,18 +20,13 @@ use Rattle.commands.proofs.Shapes.{select-most, options-most, record-most, cryp
 use Rattle.decide_requests.specs.Requests.{p1Of}
 use Rattle.decide_requests.specs.declared.requests.Cryptogram.{Cryptogram}
 use Rattle.decide_requests.specs.declared.requests.Cryptogram.the-variants.{Aac, Tc, Arqc}
-use Rattle.rulebook.specs.Situation.{Situation, profileKnown, knownIn, listIn}
+use Rattle.rulebook.specs.Situation.{Situation, knownIn, listIn}
 use Rattle.rulebook.specs.Phase.{Asked, selecting, optioning, reading, first, second, decides, commandOf, decisionOf}
 use Rattle.rulebook.specs.Session.{isPayload}
 use Rattle.rulebook.proofs.Payloads.{payload}
-use Rattle.verdict_storable.proofs.Filling.{Told, beside-bytes, filling-bytes}
+use Rattle.verdict_storable.proofs.Filling.{Told, beside-bytes, unless-bytes, filling-bytes}
 use Rattle.verdict_storable.proofs.Commanding.{select-bytes, options-bytes, record-bytes, cryptogram-bytes}
 use Rattle.verdict_storable.proofs.Staying.{Knows, Asking, Stays}
-
-profile-known : (v : List ℕ) → areBytes v ≡ true → Told (profileKnown v)
-unfolding profileKnown
-profile-known [] h = refl
-profile-known (b ∷ bs) h = h
 
 p1-byte : (request : Cryptogram) → p1Of request < 256
 p1-byte Aac = omega arith
@@ -42,7 +37,7 @@ module _ (s : Situation) (k : Knows s) (response : Option (List ℕ)) (r : Told 
   known-bytes : (tag : ℕ) → Told (knownIn s response tag)
   unfolding knownIn
   known-bytes tag =
-      beside-bytes (s .facts tag) tag _ (k .facts tag) (k .tvr .bytes, (k .tsi .bytes, (r, (profile-known (s .profile) (k .profile), tt))))
+      beside-bytes (s .facts tag) tag _ (k .facts tag) (k .tvr .bytes, (k .tsi .bytes, (r, (unless-bytes (s .profile) (k .profile), tt))))
 
   module _ (list : List ℕ) where
     abbrev pub data′ : List ℕ

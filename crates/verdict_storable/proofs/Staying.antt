@@ -12,11 +12,12 @@ use lib.Pow.{areBytes}
 use Rattle.slices.specs.Choice.{pick}
 use Rattle.slices.specs.Writing.{zeros}
 use Rattle.slices.proofs.Choice.{picked}
+use Rattle.session_records.specs.Slots.{Facts}
 use Rattle.tape_crc.proofs.Bytes.{bytes-head, bytes-rest, bytes-cons, bytes-take, bytes-drop, bytes-each, bytes-at}
 use Rattle.tlv_list.specs.Objects.{isSome}
 use Rattle.start_fields.specs.declared.fields.Field.{Field}
 use Rattle.start_fields.specs.declared.fields.Field.the-variants.{Amount, OtherAmount, Country, Currency, Date, TransactionType}
-use Rattle.start_fields.specs.declared.fields.Field.the-variants.{Unpredictable, FloorLimit, Threshold, Version, Denial, Online, Default}
+use Rattle.start_fields.specs.declared.fields.Field.the-variants.{Unpredictable, FloorLimit, Threshold, Version, Denial, Online, Default, Capabilities}
 use Rattle.start_fields.specs.Layout.{beginOf, sizeOf, aidRoom, aidAt}
 use Rattle.start_fields.specs.Reading.{Terminal, readingOf, bytesOf, runIn, aidLengthIn, aidRoomIn}
 use Rattle.tape_read.proofs.Extra.{zeros-bytes}
@@ -25,6 +26,7 @@ use Rattle.commands.proofs.Shapes.{aid-most}
 use Rattle.answer_afl.specs.Entries.{toRead}
 use Rattle.answer_select.specs.Select.{selectReason, pdolOf}
 use Rattle.answer_gpo.specs.Options.{optionsReason, profileOf, locatorOf}
+use Rattle.answer_common.specs.Content.{namesFor}
 use Rattle.answer_record.specs.Records.{recordReason, namedIn, afterRecords}
 use Rattle.answer_cryptogram.specs.Cryptogram.{cryptogramReason, cryptogramOf}
 use Rattle.answer_laws.proofs.Reasons.{select-small, options-small, record-small, cryptogram-small, after-small}
@@ -35,14 +37,16 @@ use Rattle.decide_requests.specs.declared.requests.Cryptogram.the-variants.{Aac
 use Rattle.decide_requests.specs.declared.reply.HostReply.{HostReply}
 use Rattle.decide_requests.specs.declared.reply.HostReply.the-variants.{Approve, Decline, Unable}
 use Rattle.decide_tvr.proofs.Laws.{tvr-length, tvr-bytes, tsi-length, tsi-length-on, tsi-bytes, tsi-bytes-on}
+use Rattle.decide_verification.specs.Verification.{resultsDue}
+use Rattle.decide_verification.proofs.Laws.{results-length, results-bytes, performed-length, performed-bytes}
 use Rattle.rulebook.specs.Situation.{Situation, begun, listIn}
-use Rattle.rulebook.specs.Phase.{Asked, selecting, optioning, reading, first, second, Heard, terminal, issuer, Phase, asks, hears}
+use Rattle.rulebook.specs.Phase.{Asked, selecting, optioning, reading, first, second, Heard, terminal, issuer, attendant, Phase, asks, hears}
 use Rattle.rulebook.specs.Phase.{decides, decided, ended, approved, declined, terminated}
-use Rattle.rulebook.specs.Turn.{goesOn, opened, selected, managed, requested, allRead, readOn, withProfile, optioned, withRecord}
+use Rattle.rulebook.specs.Turn.{goesOn, opened, selected, managed, requested, verifying, allRead, readOn, withProfile, optioned, withRecord}
 use Rattle.rulebook.specs.Turn.{recorded, answered, replied, online, byFirst, firstAllows, secondAllows, firstAnswered, secondAnswered}
-use Rattle.rulebook.specs.Turn.{turn, heard as issuerHeard, after}
+use Rattle.rulebook.specs.Turn.{turn, heard as issuerHeard, verifiedBy, after}
 use Rattle.verdict_storable.proofs.Values.{profile-bytes, locator-bytes, named-bytes}
-use Rattle.verdict_storable.proofs.Filling.{Told, else-bytes}
+use Rattle.verdict_storable.proofs.Filling.{Told, else-bytes, unless-bytes}
 use Rattle.verdict_storable.proofs.Numbers.{numbersOf, read-numbers}
 
 -- the terminal's data
@@ -77,6 +81,7 @@ abbrev pub Stays : Phase → Type 0
 Stays (asks w) = Asking w
 Stays (hears terminal) = Unit {0}
 Stays (hears (issuer s)) = Knows s
+Stays (hears (attendant s)) = Knows s
 Stays (decides outcome reason s) = Knows s × ((outcome < 256) × (reason < 256))
 
 -- ---- after START
@@ -99,6 +104,7 @@ field-bytes b h Version = run-bytes Version b h
 field-bytes b h Denial = run-bytes Denial b h
 field-bytes b h Online = run-bytes Online b h
 field-bytes b h Default = run-bytes Default b h
+field-bytes b h Capabilities = unless-bytes (runIn Capabilities b) (run-bytes Capabilities b h)
 
 terminal-bytes : (b : List ℕ) → areBytes b ≡ true → OfBytes (readingOf b)
 unfolding readingOf
@@ -150,6 +156,18 @@ module _ (s : Situation) (k : Knows s) where
     tsi = row 2 _ (tsi-bytes-on (s .tsi) (bytes-at (s .tsi) (k .tsi .bytes))) (tsi-length-on (s .tsi) (k .tsi .size));
   }
 
+  verified-knows : (p : List ℕ) → Knows (verifiedBy s p)
+  unfolding verifiedBy
+  verified-knows p = record {
+    terminal = k .terminal;
+    profile = k .profile;
+    facts = k .facts;
+    tvr =
+        row 5 _ (results-bytes (s .terminal) (s .facts) p (s .tvr) (bytes-at (s .tvr) (k .tvr .bytes)))
+        (results-length (s .terminal) (s .facts) p (s .tvr) (k .tvr .size));
+    tsi = row 2 _ (performed-bytes (s .tsi) (bytes-at (s .tsi) (k .tsi .bytes))) (performed-length (s .tsi) (k .tsi .size));
+  }
+
   profile-knows : (a : List ℕ) → areBytes a ≡ true → Knows (withProfile s (profileOf a))
   unfolding withProfile
   profile-knows a h = record { terminal = k .terminal; profile = profile-bytes a h; facts = k .facts; tvr = k .tvr; tsi = k .tsi }
@@ -159,7 +177,8 @@ module _ (s : Situation) (k : Knows s) where
   record-knows a h = record {
     terminal = k .terminal;
     profile = k .profile;
-    facts = λ tag. else-bytes (s .facts tag) (namedIn tag a) (k .facts tag) (named-bytes a h tag);
+    facts = λ tag. let names = namesFor (s .terminal) in
+        else-bytes (s .facts tag) (namedIn names tag a) (k .facts tag) (named-bytes a h names tag);
     tvr = k .tvr;
     tsi = k .tsi;
   }
@@ -196,15 +215,23 @@ module _ (s : Situation) (k : Knows s) where
       picked Stays (eqb type 0) (decides declined 0 s) _ (λ y. (k, (omega arith, omega arith))) (λ m.
       picked Stays (eqb (s .terminal .kind) 0) (replied s Unable []) (hears (issuer s)) (λ y. replied-stays Unable [] refl) (λ l. k)))
 
--- ---- the records
+-- ---- the records, and verification
+
+requested-stays : (facts : Facts) (s : Situation) → Knows s → Stays (requested (afterRecords facts) s)
+unfolding requested
+requested-stays facts s k = goes-stays s k (afterRecords facts) _ (after-small facts) k
+
+verifying-stays : (s : Situation) → Knows s → Stays (verifying s)
+unfolding verifying
+verifying-stays s k =
+    picked Stays (resultsDue (s .terminal) (s .profile) (s .facts)) (hears (attendant s)) _ (λ y. k) (λ n. requested-stays (s .facts) s k)
 
 read-stays : (s : Situation) (rest : List (ℕ × ℕ)) → Knows s → areBytes (numbersOf rest) ≡ true → Stays (readOn s rest)
-unfolding readOn allRead requested ended
+unfolding readOn allRead ended
 read-stays s [] k h =
-    let m = managed-knows s k in
     picked Stays (eqb (afterRecords (s .facts)) 8) (decides terminated 8 s) _
     (λ y. (k, (omega arith, omega arith)))
-    (λ n. goes-stays (managed s) m (afterRecords (s .facts)) _ (after-small (s .facts)) m)
+    (λ n. verifying-stays (managed s) (managed-knows s k))
 read-stays s (r ∷ rest) k h = (k, (bytes-head (r .0) (numbersOf rest) h, bytes-rest (r .0) (numbersOf rest) h))
 
 -- ---- whatever somebody else says
@@ -213,6 +240,7 @@ pub after-stays : (h : Heard) (p : List ℕ) → Stays (hears h) → areBytes p 
 unfolding after issuerHeard
 after-stays terminal p k bytes = opened-stays p bytes
 after-stays (issuer s) p k bytes = heard-stays s k _ p bytes
+after-stays (attendant s) p k bytes = requested-stays (s .facts) (verifiedBy s p) (verified-knows s k p)
 
 -- ---- whatever the card answers
 
@@ -225,8 +253,9 @@ turn-stays (optioning s list) a k h =
     (read-stays (withProfile s (profileOf a)) (toRead (locatorOf a)) (profile-knows s k a h)
     (read-numbers (locatorOf a) (locator-bytes a h)))
 turn-stays (reading s number file rest) a k h =
+    let names = namesFor (s .terminal) in
     let before : ℕ → Bool = λ tag. isSome (s .facts tag) in
-    goes-stays s (k .0) (recordReason before a) _ (record-small before a)
+    goes-stays s (k .0) (recordReason names before a) _ (record-small names before a)
     (read-stays (withRecord s a) rest (record-knows s (k .0) a h) (k .1 .1))
 turn-stays (first s request) a k h =
     goes-stays s k (cryptogramReason (firstAllows request) a) _ (cryptogram-small (firstAllows request) a)

@@ -8,7 +8,7 @@ use Prim.Native.Nat.{ℕ}
 use Rattle.slices.proofs.Choice.{and-both}
 use Rattle.tape_read.specs.Entries.{Entry, entry, command, answer, silence, decision, isKind, storable, allStorable}
 use Rattle.tape_read.proofs.Roundtrip.{first-storable, rest-storable}
-use Rattle.rulebook.specs.Phase.{Heard, terminal, issuer, Phase, dueKind}
+use Rattle.rulebook.specs.Phase.{Heard, terminal, issuer, attendant, Phase, dueKind}
 use Rattle.rulebook.specs.Session.{isPayload, Plays, exchanged, heard, decided, Session, Beginning, AwaitsCard, Closed, Open, Lawful}
 use Rattle.verdict_judged.proofs.Stored.{storable-append}
 use Rattle.verdict_storable.proofs.Staying.{Stays, after-stays, turn-stays}
@@ -26,6 +26,7 @@ heard-kind : (h : Heard) → isKind (dueKind h) ≡ true
 unfolding isKind dueKind
 heard-kind terminal = refl
 heard-kind (issuer s) = refl
+heard-kind (attendant s) = refl
 
 plays-storable : {p : Phase} {es : List Entry} → Plays p es → Stays p → allStorable es ≡ true
 unfolding isKind allStorable

@@ -20,7 +20,7 @@ use Rattle.answer_common.specs.Named.{membersIn, among, direct, told, valueOf, 
 use Rattle.answer_common.specs.Forms.{template, joined}
 use Rattle.answer_gpo.specs.Options.{profileOf, locatorOf}
 use Rattle.answer_record.specs.Records.{valueIn, namedIn}
-use Rattle.answer_common.specs.Content.{recordTag, recordNames}
+use Rattle.answer_common.specs.Content.{recordTag}
 
 -- values of bytes, in all of some objects
 unfoldable allBytes : List Object → Bool
@@ -121,9 +121,9 @@ module _ (a : List ℕ) (h : areBytes a ≡ true) where
       (λ y. bytes-drop 2 (inside joined a) (inside-bytes joined))
       (λ n. direct-bytes template 0x94)
 
-  pub named-bytes : (name : ℕ) → areBytes (Option·getD (namedIn name a) []) ≡ true
+  pub named-bytes : (names : List ℕ) (name : ℕ) → areBytes (Option·getD (namedIn names name a) []) ≡ true
   unfolding namedIn valueIn valueOf
-  named-bytes name =
-      picked (λ o. areBytes (Option·getD o []) ≡ true) (isNamed name recordNames) (valueIn name a) none
+  named-bytes names name =
+      picked (λ o. areBytes (Option·getD o []) ≡ true) (isNamed name names) (valueIn name a) none
       (λ y. direct-bytes recordTag name)
       (λ n. refl)

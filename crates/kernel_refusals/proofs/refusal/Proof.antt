@@ -68,16 +68,37 @@ returns-7 : tie.Need-returns-7
 unfolding callRefusal refusalLines isOver
 returns-7 c =
     sym (line-no {r = false}
-    (sym (le-ltb _ _ (c .before .before .before .before .before .before .before .before .before .before .if1 .left))) 1 _ refl
+    (sym (le-ltb _ _ (c .before .before .before .before .before .before .before .before .before .before .before .before .if1 .left))) 1 _
+    refl
     ∙ (line-no {r = false}
     (sym (ne-eqb _ _
-    (λ e. c .before .before .before .before .before .before .before .before .if2 .left
-    (c .before .before .before .before .before .before .before .before .before .awaits .ensures ∙ e)))) 2 _ refl
-    ∙ (line-no (c .before .before .before .before .before .before .before .is-start-bad .ensures) 3 _
-    (c .before .before .before .before .before .before .if3 .left)
-    ∙ (line-no (ap not (c .before .before .before .before .before .is-due .ensures)) 4 _ (c .before .before .before .before .if4 .left)
-    ∙ (line-no (c .before .before .before .is-answer-bad .ensures) 5 _ (c .before .before .if5 .left)
-    ∙ (last-no (c .before .is-reply-bad .ensures) 6 (c .if6 .left)))))))
+    (λ e. c .before .before .before .before .before .before .before .before .before .before .if2 .left
+    (c .before .before .before .before .before .before .before .before .before .before .before .awaits .ensures ∙ e)))) 2 _ refl
+    ∙ (line-no (c .before .before .before .before .before .before .before .before .before .is-start-bad .ensures) 3 _
+    (c .before .before .before .before .before .before .before .before .if3 .left)
+    ∙ (line-no (ap not (c .before .before .before .before .before .before .before .is-due .ensures)) 4 _
+    (c .before .before .before .before .before .before .if4 .left)
+    ∙ (line-no (c .before .before .before .before .before .is-answer-bad .ensures) 5 _ (c .before .before .before .before .if5 .left)
+    ∙ (line-no (c .before .before .before .is-reply-bad .ensures) 6 _ (c .before .before .if6 .left)
+    ∙ (line-yes (c .before .is-results-bad .ensures) 12 _ (c .if7 .taken))))))))
+
+returns-8 : tie.Need-returns-8
+unfolding callRefusal refusalLines isOver
+returns-8 c =
+    sym (line-no {r = false}
+    (sym (le-ltb _ _ (c .before .before .before .before .before .before .before .before .before .before .before .before .if1 .left))) 1 _
+    refl
+    ∙ (line-no {r = false}
+    (sym (ne-eqb _ _
+    (λ e. c .before .before .before .before .before .before .before .before .before .before .if2 .left
+    (c .before .before .before .before .before .before .before .before .before .before .before .awaits .ensures ∙ e)))) 2 _ refl
+    ∙ (line-no (c .before .before .before .before .before .before .before .before .before .is-start-bad .ensures) 3 _
+    (c .before .before .before .before .before .before .before .before .if3 .left)
+    ∙ (line-no (ap not (c .before .before .before .before .before .before .before .is-due .ensures)) 4 _
+    (c .before .before .before .before .before .before .if4 .left)
+    ∙ (line-no (c .before .before .before .before .before .is-answer-bad .ensures) 5 _ (c .before .before .before .before .if5 .left)
+    ∙ (line-no (c .before .before .before .is-reply-bad .ensures) 6 _ (c .before .before .if6 .left)
+    ∙ (last-no (c .before .is-results-bad .ensures) 12 (c .if7 .left))))))))
 
 pub refusal-spec : {M : Type 1} → statement M
 refusal-spec =
@@ -94,4 +115,6 @@ refusal-spec =
     returns-5
     (λ c κs. search needs)
     returns-6
-    returns-7)
+    (λ c κs. search needs)
+    returns-7
+    returns-8)

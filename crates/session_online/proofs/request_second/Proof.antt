@@ -18,7 +18,7 @@ use Rattle.rulebook.specs.Phase.{second, Phase, asks, situationOf, commandOf, e
 use Rattle.rulebook.specs.Turn.{replied}
 use Rattle.rulebook_zeros.specs.Zeros.{unsuppliedAsking}
 use Rattle.session_records.specs.Slots.{Facts, toldIn, told}
-use Rattle.session_state.specs.Reading.{situationWith, late}
+use Rattle.session_state.specs.Reading.{startIn, situationWith, late}
 use Rattle.session_moves.specs.Moves.{questionOf, cursorAsking, moved}
 use Rattle.session_moves.proofs.Moving.{late-decided, asking-on}
 use Rattle.session_online.proofs.request_second.Statement.{statement}
@@ -45,9 +45,9 @@ returns c =
     (c .before .before .before .before .before .before .before .before .before .before .before .before .before .response-code .ensures)
     in
     let list = c .before .before .before .before .before .before .before .before .before .before .value2 .ensures ∙ ap listAt bytes in
-    let same = ap₂ (λ (k : Facts) (l : List ℕ). cryptogramCommand (p1Of q) (filling (readingOf (s .start)) k l)) known list in
+    let same = ap₂ (λ (k : Facts) (l : List ℕ). cryptogramCommand (p1Of q) (filling (readingOf (startIn s)) k l)) known list in
     let again = c .before .before .before .value3 .ensures ∙ ap listAt bytes in
-    let lacks = c .before .missing .ensures ∙ ap₂ (unsupplied (readingOf (s .start))) known again in
+    let lacks = c .before .missing .ensures ∙ ap₂ (unsupplied (readingOf (startIn s))) known again in
     asking-on s buf (second (late s) q (responseCode reply q code)) same
     (c .before .before .before .before .before .before .before .generate .ensures .0)
     (c .before .before .before .before .before .before .before .generate .ensures .1) (c .ask .ensures) lacks refl refl refl

@@ -1,6 +1,6 @@
 -- `session_online::second` meets its contract: the codes are those that the records told.
 -- Assumes nothing.
-use mathlib.Core.Path.{_≡_, refl, sym, ap, _∙_}
+use mathlib.Core.Path.{_≡_, ap₂, _∙_}
 use mathlib.Core.List.{List}
 use Prim.Native.Nat.{ℕ}
 use borrow.Author.Needs.{needs}
@@ -14,10 +14,11 @@ use Rattle.session_online.proofs.second.Tie as tie
 returns : tie.Need-returns
 unfolding late situationWith told
 returns c =
-    let a = c .before .before .before .before .before .before .before .args in
+    let a = c .before .before .before .before .before .before .before .before .args in
     c .second-request .ensures
-    ∙ ap (λ (d : List ℕ). secondRequest (a .reply) (readingOf (a .s .start)) (toldIn d) (a .s .tvr))
-    (c .before .before .before .bytes-of .ensures .0)
+    ∙ ap₂ (λ (x d : List ℕ). secondRequest (a .reply) (readingOf x) (toldIn d) (a .s .tvr))
+    (c .before .before .part .ensures) (c .before .before .before .before .bytes-of .ensures .0)
 
 pub second-spec : {M : Type 1} → statement M
-second-spec = tie.close (tie.spec (λ c κs. search needs) (λ c. search needs) (λ c. search needs) (λ c κs. search needs) returns)
+second-spec = tie.close
+    (tie.spec (λ c κs. search needs) (λ c. search needs) (λ c κs. search needs) (λ c. search needs) (λ c κs. search needs) returns)

@@ -1,7 +1,6 @@
 -- `session_records_read::all_read` meets its contract: 8 comes before the bits are set, and what follows after.
 -- Assumes nothing.
 use mathlib.Core.Path.{_≡_, refl, sym, ap, _∙_}
-use native.Mathlib.Omega.{arith}
 use mathlib.Core.List.{List, [], _∷_}
 use Prim.Native.Nat.{ℕ}
 use lib.Dec.{eqb}
@@ -11,9 +10,9 @@ use Rattle.slices.proofs.Choice.{pick-yes, pick-no}
 use Rattle.answer_record.specs.Records.{afterRecords}
 use Rattle.rulebook.specs.Situation.{Situation}
 use Rattle.rulebook.specs.Phase.{Phase, decides, ended}
-use Rattle.rulebook.specs.Turn.{managed, requested, allRead}
+use Rattle.rulebook.specs.Turn.{managed, verifying, allRead}
 use Rattle.session_state.specs.declared.State.{State}
-use Rattle.session_state.specs.Reading.{situationWith, late}
+use Rattle.session_state.specs.Reading.{startIn, situationWith, late}
 use Rattle.session_records.specs.Slots.{told}
 use Rattle.start_fields.specs.Reading.{readingOf}
 use Rattle.decide_tvr.specs.Results.{tvrAfterRecords, tsiAfterRecords}
@@ -22,7 +21,6 @@ use Rattle.session_records_read.specs.Storing.{managedState}
 use Rattle.session_moves.proofs.Moving.{late-decided}
 use Rattle.session_moves.proofs.Bits.{bits-moved}
 use Rattle.session_records_read.proofs.Managing.{late-managed}
-use Rattle.answer_laws.proofs.Reasons.{after-small}
 use Rattle.session_records_read.proofs.all_read.Statement.{statement}
 use Rattle.session_records_read.proofs.all_read.Tie as tie
 
@@ -37,11 +35,6 @@ returns c =
     (ap (λ (p : Phase). moved p s buf)
     (pick-yes _ _ _ (eq-eqb (afterRecords (told (s .told))) 8 (sym (c .before .before .reason .ensures) ∙ c .before .if1 .taken))))
 
-request-first-requires : tie.Need-request-first-requires
-request-first-requires c κs =
-    omega
-    (arith, c .before .before .before .reason .ensures, after-small (told (c .before .before .before .before .before .args .s .told)))
-
 returns-2 : tie.Need-returns-2
 unfolding allRead late situationWith managedState
 returns-2 c =
@@ -51,15 +44,13 @@ returns-2 c =
     let n = afterRecords (told (s .told)) in
     let e = c .before .before .before .before .before .before .reason .ensures in
     let h : n ≡ 8 → ⊥ = λ x. c .before .before .before .before .before .if1 .left (e ∙ x) in
-    c .before .before .request-first .ensures
-    ∙ (ap (λ (t : State). moved (requested (c .before .before .before .before .before .before .reason .result) (late t)) t buf)
-    (c .before .before .before .before .managed .ensures)
-    ∙ (ap (λ (k : ℕ). moved (requested k (late (managedState s))) (managedState s) buf) e
-    ∙ (bits-moved (requested n (late (managedState s))) (s .waiting)
-    (tvrAfterRecords (readingOf (s .start)) (s .profile) (told (s .told)) (s .tvr))
+    c .before .before .verify .ensures
+    ∙ (ap (λ (t : State). moved (verifying (late t)) t buf) (c .before .before .before .before .managed .ensures)
+    ∙ (bits-moved (verifying (late (managedState s))) (s .waiting)
+    (tvrAfterRecords (readingOf (startIn s)) (s .profile) (told (s .told)) (s .tvr))
     (tsiAfterRecords (s .profile) (s .tsi)) s buf
-    ∙ (ap (λ (z : Situation). moved (requested n z) s buf) (late-managed s)
-    ∙ sym (ap (λ (p : Phase). moved p s buf) (pick-no _ _ _ (ne-eqb n 8 h)))))))
+    ∙ (ap (λ (z : Situation). moved (verifying z) s buf) (late-managed s)
+    ∙ sym (ap (λ (p : Phase). moved p s buf) (pick-no _ _ _ (ne-eqb n 8 h))))))
 
 pub all-read-spec : {M : Type 1} → statement M
 all-read-spec =
@@ -69,6 +60,6 @@ all-read-spec =
     (λ c κs. search needs)
     returns
     (λ c κs. search needs)
-    request-first-requires
+    (λ c κs. search needs)
     (λ c. search needs)
     returns-2)

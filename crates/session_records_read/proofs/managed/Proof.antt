@@ -1,6 +1,6 @@
 -- `session_records_read::managed` meets its contract: the bits are joined to those that are set.
 -- Assumes nothing.
-use mathlib.Core.Path.{_≡_, refl, sym, ap, _∙_}
+use mathlib.Core.Path.{_≡_, ap₂, _∙_}
 use mathlib.Core.List.{List}
 use Prim.Native.Nat.{ℕ}
 use borrow.Author.Needs.{needs}
@@ -15,10 +15,11 @@ use Rattle.session_records_read.proofs.managed.Tie as tie
 returns : tie.Need-returns
 unfolding managedState told
 returns c =
-    let k = c .before .before .before .before .before in
+    let p = c .before .before .before .before in
+    let k = p .before .before in
     let s = k .before .before .before .before .before .before .before .args .s in
     let tvr = c .before .before .tvr-after-records .ensures
-    ∙ ap (λ (d : List ℕ). tvrAfterRecords (readingOf (s .start)) (s .profile) (toldIn d) (s .tvr)) (k .bytes-of .ensures .0) in
+    ∙ ap₂ (λ (x d : List ℕ). tvrAfterRecords (readingOf x) (s .profile) (toldIn d) (s .tvr)) (p .part .ensures) (k .bytes-of .ensures .0) in
     let tsi = c .before .tsi-after-records .ensures in
     c .change .ensures ∙ (λ i. changed (s .waiting) (tvr i) (tsi i) (s .cursor) s)
 
@@ -28,6 +29,7 @@ managed-spec =
     (tie.spec
     (λ c κs. search needs)
     (λ c. search needs)
+    (λ c κs. search needs)
     (λ c. search needs)
     (λ c κs. search needs)
     (λ c κs. search needs)

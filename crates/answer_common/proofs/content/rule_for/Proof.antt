@@ -33,4 +33,6 @@ rule-for-spec =
     (λ c. sym (ap ruleFor (c .match .keys15)))
     (λ c. sym (ap ruleFor (c .match .keys16)))
     (λ c. sym (ap ruleFor (c .match .keys17)))
+    (λ c. sym (ap ruleFor (c .match .keys18)))
+    (λ c. sym (ap ruleFor (c .match .keys19)))
     (λ c. sym (beside-none Anything (c .before .args .tag) rules (c .match .rest))))

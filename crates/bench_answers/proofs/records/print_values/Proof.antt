@@ -1,16 +1,17 @@
--- `records::print_values` is safe and ends: nine names, and no more.
+-- `records::print_values` is safe and ends: as many turns as there are names.
 -- Assumes nothing.
 use Prim.Native.Nat.{_≤_, _-_}
+use lib.ListN.{length}
 use native.Mathlib.Omega.{arith}
 use borrow.Author.Needs.{needs}
 use Rattle.bench_answers.proofs.records.print_values.Statement.{statement}
 use Rattle.bench_answers.proofs.records.print_values.Tie as tie
 
 abbrev Inv-loop : tie.InvT-loop
-Inv-loop answer names i₀ i = i ≤ 9
+Inv-loop names answer i₀ i = i ≤ length names
 
 abbrev μ-loop : tie.MeasureT-loop
-μ-loop answer names i₀ i = 9 - i
+μ-loop names answer i₀ i = length names - i
 
 pub print-values-spec : {M : Type 1} → statement M
 print-values-spec =

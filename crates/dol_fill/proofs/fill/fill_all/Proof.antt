@@ -1,4 +1,5 @@
--- `fill::fill_all` meets its contract. The loop's invariant: what is still to be written, written from p on, gives the buffer that is wanted.
+-- `fill::fill_all` meets its contract. The loop's invariant: what is still to be written, written from p on, gives the buffer that is
+-- wanted.
 -- Assumes nothing.
 use mathlib.Core.Path.{_≡_, refl, sym, ap, _∙_}
 use mathlib.Core.Bool.{true}

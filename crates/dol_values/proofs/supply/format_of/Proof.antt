@@ -35,4 +35,7 @@ format-of-spec =
     (λ c. sym (ap formatOf (c .match .keys19)))
     (λ c. sym (ap formatOf (c .match .keys20)))
     (λ c. sym (ap formatOf (c .match .keys21)))
+    (λ c. sym (ap formatOf (c .match .keys22)))
+    (λ c. sym (ap formatOf (c .match .keys23)))
+    (λ c. sym (ap formatOf (c .match .keys24)))
     (λ c. sym (beside-none Unknown (c .before .args .tag) formats (c .match .rest))))

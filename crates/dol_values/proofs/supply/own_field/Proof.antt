@@ -24,4 +24,5 @@ own-field-spec =
     (λ c. sym (ap ownField (c .match .keys6)))
     (λ c. sym (ap ownField (c .match .keys7)))
     (λ c. sym (ap ownField (c .match .keys8)))
+    (λ c. sym (ap ownField (c .match .keys9)))
     (λ c. sym (beside-none Nothing (c .before .args .tag) (map (λ row. (row .0, Of (row .1 .0))) ownTable) (c .match .rest))))

@@ -39,12 +39,28 @@ returns-4 c =
 returns-5 : tie.Need-returns-5
 unfolding kindOf
 returns-5 c =
-    sym (pick-no _ _ _ (sym (c .before .before .before .before .before .before .before .before .before .before .is-named .ensures)
-    ∙ c .before .before .before .before .before .before .before .before .before .if1 .left)
-    ∙ (pick-no _ _ _ (sym (c .before .before .before .before .before .before .before .is-named2 .ensures)
-    ∙ c .before .before .before .before .before .before .if2 .left)
-    ∙ (pick-no _ _ _ (sym (c .before .before .before .before .is-named3 .ensures) ∙ c .before .before .before .if3 .left)
-    ∙ (pick-no _ _ _ (sym (c .before .is-named4 .ensures) ∙ c .if4 .left)))))
+    sym (pick-no _ _ _
+    (sym (c .before .before .before .before .before .before .before .before .before .before .before .before .before .is-named .ensures)
+    ∙ c .before .before .before .before .before .before .before .before .before .before .before .before .if1 .left)
+    ∙ (pick-no _ _ _ (sym (c .before .before .before .before .before .before .before .before .before .before .is-named2 .ensures)
+    ∙ c .before .before .before .before .before .before .before .before .before .if2 .left)
+    ∙ (pick-no _ _ _ (sym (c .before .before .before .before .before .before .before .is-named3 .ensures)
+    ∙ c .before .before .before .before .before .before .if3 .left)
+    ∙ (pick-no _ _ _ (sym (c .before .before .before .before .is-named4 .ensures) ∙ c .before .before .before .if4 .left)
+    ∙ (pick-yes _ _ _ (sym (c .before .is-named5 .ensures) ∙ c .if5 .taken))))))
+
+returns-6 : tie.Need-returns-6
+unfolding kindOf
+returns-6 c =
+    sym (pick-no _ _ _
+    (sym (c .before .before .before .before .before .before .before .before .before .before .before .before .before .is-named .ensures)
+    ∙ c .before .before .before .before .before .before .before .before .before .before .before .before .if1 .left)
+    ∙ (pick-no _ _ _ (sym (c .before .before .before .before .before .before .before .before .before .before .is-named2 .ensures)
+    ∙ c .before .before .before .before .before .before .before .before .before .if2 .left)
+    ∙ (pick-no _ _ _ (sym (c .before .before .before .before .before .before .before .is-named3 .ensures)
+    ∙ c .before .before .before .before .before .before .if3 .left)
+    ∙ (pick-no _ _ _ (sym (c .before .before .before .before .is-named4 .ensures) ∙ c .before .before .before .if4 .left)
+    ∙ (pick-no _ _ _ (sym (c .before .is-named5 .ensures) ∙ c .if5 .left))))))
 
 pub kind-of-spec : {M : Type 1} → statement M
 kind-of-spec =
@@ -62,4 +78,7 @@ kind-of-spec =
     (λ c. search needs)
     (λ c κs. search needs)
     returns-4
-    returns-5)
+    (λ c. search needs)
+    (λ c κs. search needs)
+    returns-5
+    returns-6)

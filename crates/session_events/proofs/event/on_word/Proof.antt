@@ -29,6 +29,16 @@ returns-2 c =
     c .before .before .on-reply .ensures
     ∙ sym (ap (λ (x : Speaker). wordStep x s p buf) (c .before .before .before .before .enum-told2 .given .1))
 
+returns-3 : tie.Need-returns-3
+unfolding wordStep heardBy keepingWord
+returns-3 c =
+    let args = c .before .before .before .before .before .before .before .before .args in
+    let s = args .s in
+    let p = args .p .now in
+    let buf = args .buf .now in
+    c .before .before .on-results .ensures
+    ∙ sym (ap (λ (x : Speaker). wordStep x s p buf) (c .before .before .before .before .enum-told3 .given .1))
+
 pub on-word-spec : {M : Type 1} → statement M
 on-word-spec =
     tie.close
@@ -38,6 +48,10 @@ on-word-spec =
     (λ c. search needs)
     (λ c κs. search needs)
     (λ c. search needs)
+    (λ c κs. search needs)
+    (λ c. search needs)
     returns
     (λ c. search needs)
-    returns-2)
+    returns-2
+    (λ c. search needs)
+    returns-3)

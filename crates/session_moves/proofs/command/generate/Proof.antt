@@ -1,7 +1,7 @@
 -- `command::generate` meets its contract: the request is written as its byte.
 -- Assumes nothing.
 use borrow.Author.Needs.{needs}
-use mathlib.Core.Path.{_≡_, refl, sym, ap, _∙_}
+use mathlib.Core.Path.{_≡_, refl, sym, ap, ap₂, _∙_}
 use mathlib.Core.List.{List}
 use Prim.Native.Nat.{ℕ}
 use lib.ListN.{length}
@@ -15,10 +15,10 @@ use Rattle.session_moves.proofs.command.generate.Tie as tie
 
 returns : tie.Need-returns
 returns c =
-    let a = c .before .before .before .before .before .before .before .before .before .before .args in
+    let a = c .before .before .before .before .before .before .before .before .before .before .before .args in
     let buf = a .buf .now in
-    let same = ap (λ (p : ℕ). cryptogramCommand p (filling (readingOf (a .s .start)) (toldIn (a .known .now)) (a .list .now)))
-    (c .before .before .before .before .before .p1 .ensures) in (
+    let same = ap₂ (λ (p : ℕ) (x : List ℕ). cryptogramCommand p (filling (readingOf x) (toldIn (a .known .now)) (a .list .now)))
+    (c .before .before .before .before .before .before .p1 .ensures) (c .before .before .before .before .part .ensures) in (
       c .before .before .cryptogram .ensures .0
           ∙ ap (sizeIn (length buf)) same,
       c .before .before .cryptogram .ensures .1
@@ -26,4 +26,5 @@ returns c =
     )
 
 pub generate-spec : {M : Type 1} → statement M
-generate-spec = tie.close (tie.spec (λ c κs. search needs) (λ c. search needs) (λ c κs. search needs) (λ c. search needs) returns)
+generate-spec = tie.close (tie.spec (λ c κs. search needs) (λ c. search needs) (λ c κs. search needs) (λ c κs. search needs)
+    (λ c. search needs) returns)

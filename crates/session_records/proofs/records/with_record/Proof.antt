@@ -17,12 +17,12 @@ use Rattle.session_records.proofs.records.with_record.Tie as tie
 returns : tie.Need-returns
 unfolding withRecord
 returns c =
-    let a = c .before .before .before .before .before .before .args in
+    let a = c .before .before .before .before .before .before .before .args in
     let z : length (a .store .bytes) ≡ end = search needs in
     ap (λ b. record { bytes = b })
     (c .before .keep-all .ensures
-    ∙ (ap (λ s. keptPlaces s (placesFrom s 0) (a .store .bytes)) (c .before .before .inside .ensures)
-    ∙ ap (keptPlaces (inside recordTag (a .answer .now)) (placesFrom (inside recordTag (a .answer .now)) 0))
+    ∙ (ap (λ s. keptPlaces (a .names .now) s (placesFrom s 0) (a .store .bytes)) (c .before .before .inside .ensures)
+    ∙ ap (keptPlaces (a .names .now) (inside recordTag (a .answer .now)) (placesFrom (inside recordTag (a .answer .now)) 0))
     (sym (full-all (a .store .bytes) z))))
 
 pub with-record-spec : {M : Type 1} → statement M

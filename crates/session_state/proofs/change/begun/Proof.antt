@@ -1,6 +1,9 @@
 -- `change::begun` meets its contract: START's bytes are laid into a state in which nothing is known.
 -- Assumes nothing.
 use mathlib.Core.Path.{_≡_, refl, sym, ap, _∙_}
+use mathlib.Core.List.{List}
+use Prim.Native.Nat.{ℕ}
+use lib.ListN.{length}
 use borrow.Author.Needs.{needs}
 use Rattle.slices.specs.Writing.{zeros}
 use Rattle.session_state.specs.Keeping.{stateAt, begun}
@@ -11,7 +14,8 @@ use Rattle.session_state.proofs.change.begun.Tie as tie
 
 returns : tie.Need-returns
 unfolding begun zeros
-returns c = c .state-at .ensures ∙ ap (stateAt (ForCard Select)) (c .before .before .lay .ensures)
+returns c = c .state-at .ensures ∙ ap (λ (b : List ℕ). stateAt (ForCard Select) b (length
+    (c .before .before .before .before .before .args .start .now))) (c .before .before .lay .ensures)
 
 pub begun-spec : {M : Type 1} → statement M
 begun-spec = tie.close (tie.spec (λ c. search needs) (λ c κs. search needs) (λ c κs. search needs) returns)

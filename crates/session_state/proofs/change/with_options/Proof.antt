@@ -18,6 +18,7 @@ returns c = let s = c .before .before .before .before .before .before .before .b
     ∙ ap keptRun (c .before .before .locator .ensures) in λ i. record {
       waiting = s .waiting;
       start = s .start;
+      size = s .size;
       tvr = s .tvr;
       tsi = s .tsi;
       profile = p i;

@@ -1,0 +1,2 @@
+-- The state after the results of cardholder verification.
+pub mod Storing

@@ -1,0 +1,167 @@
+-- A session whose START has at most 74 bytes is one by the rules before cardholder verification, and the other way round; and each entry
+-- adds to the fourth number what it added.
+-- Assumes nothing.
+use mathlib.Core.Path.{_≡_, refl, sym, ap, _∙_, subst}
+use mathlib.Core.Bool.{Bool, true, false, _||_, false≢true}
+use mathlib.Core.List.{List, _∷_}
+use Prim.Native.Nat.{ℕ, _≤_}
+use native.Mathlib.Omega.{arith}
+use lib.Dec.{eqb}
+use lib.ListN.{length}
+use borrow.Author.Tests.{eqb-true, eq-eqb}
+use Rattle.slices.specs.Tests.{every}
+use Rattle.slices.proofs.Choice.{pick-yes}
+use Rattle.slices.proofs.Tests.{first-held, each-held}
+use Rattle.start_fields.specs.Layout.{startLength, fullLength}
+use Rattle.start_valid.specs.Start.{startTests, validLength, validStart}
+use Rattle.tape_read.specs.Entries.{Entry}
+use Rattle.rulebook.specs.Situation.{Situation, begun}
+use Rattle.rulebook.specs.Phase.{Asked, terminal, issuer, attendant, Phase, opens, asks, hears, decides, situationOf}
+use Rattle.rulebook.specs.Turn.{opened, managed, withProfile, withRecord, answered, turn, allowed, heard as issuerHeard, after}
+use Rattle.rulebook.specs.Session.{Plays, exchanged, heard, decided}
+use Rattle.rulebook.proofs.Passing.{Holds, Lasting, replied-holds, turn-holds}
+use Rattle.rulebook_zeros.specs.Zeros.{unsuppliedIn, addedBy}
+use Rattle.verdict_before.specs.Before.{turnBefore, validBefore, allowedBefore, afterBefore}
+use Rattle.verdict_before.specs.Filled.{unsuppliedInBefore}
+use Rattle.verdict_before.specs.Sessions.{PlaysBefore, exchangedBefore, heardBefore, decidedBefore, Short}
+use Rattle.verdict_before.specs.Zeroed.{addedByBefore}
+use Rattle.verdict_before.proofs.Rules.{not-due, turn-same}
+use Rattle.verdict_before.proofs.Supplying.{Early, early-none}
+use Rattle.verdict_before.proofs.Filling.{command-same, asking-same}
+
+-- the terminal stays that of a START of 74 bytes
+abbrev Old : Situation → Type 0
+Old s = Early (s .terminal)
+
+old-lasts : Lasting Old
+unfolding withProfile withRecord managed answered
+old-lasts = record { profile = λ s v h. h; told = λ s a h. h; read = λ s h. h; first = λ s h. h }
+
+-- a phase makes as many zeros due as it did
+due-same : (q : Phase) → Holds Old q → unsuppliedIn q ≡ unsuppliedInBefore q
+unfolding Holds unsuppliedIn unsuppliedInBefore
+due-same (asks w) h = asking-same w h
+due-same (hears h) held = refl
+due-same (decides outcome reason s) h = refl
+
+-- ---- from a phase on
+
+-- entries that are played so from a phase on, and add these numbers: by the rules before, and by today's
+abbrev pub Then : Phase → List Entry → List ℕ → Type 0
+Then q es ns = (play : PlaysBefore q es) × (addedByBefore play ≡ ns)
+
+abbrev pub Now : Phase → List Entry → List ℕ → Type 0
+Now q es ns = (play : Plays q es) × (addedBy play ≡ ns)
+
+-- two lists with the same first number and the same others
+one-more : {n m : ℕ} {ns ms : List ℕ} → n ≡ m → ns ≡ ms → n ∷ ns ≡ m ∷ ms
+one-more {n} {m} {ns} e f = ap (λ (x : ℕ). x ∷ ns) e ∙ ap (λ (l : List ℕ). m ∷ l) f
+
+module _ (w : Asked) (a : List ℕ) (h : Old (situationOf w)) where
+  turned : turn w a ≡ turnBefore w a
+  turned = turn-same w a (early-none (situationOf w .terminal) h)
+
+  kept : Holds Old (turn w a)
+  kept = turn-holds Old old-lasts w a h
+
+  counted : unsuppliedIn (turn w a) ≡ unsuppliedInBefore (turnBefore w a)
+  counted = due-same (turn w a) kept ∙ ap unsuppliedInBefore turned
+
+module _ (s : Situation) (p : List ℕ) (h : Old s) where
+  replied : Holds Old (after (issuer s) p)
+  unfolding after issuerHeard
+  replied = replied-holds Old s h _ _
+
+  reply-counted : unsuppliedIn (after (issuer s) p) ≡ unsuppliedInBefore (afterBefore (issuer s) p)
+  unfolding after afterBefore
+  reply-counted = due-same (after (issuer s) p) replied
+
+pub plays-then : {q : Phase} {es : List Entry} (play : Plays q es) → Holds Old q → Then q es (addedBy play)
+unfolding Holds addedBy addedByBefore allowed allowedBefore after afterBefore
+plays-then (exchanged {w} {c} {a} {es} f ok play) h =
+    let rest = subst (λ (q : Phase). Then q es (addedBy play)) (turned w a h) (plays-then play (kept w a h)) in (
+      exchangedBefore (f ∙ command-same w h) ok (rest .0),
+      one-more refl (one-more (sym (counted w a h)) (rest .1)),
+    )
+plays-then (heard {h = terminal} f fits ok play) h = absurd h
+plays-then (heard {h = issuer s} {k} {p} {es} f fits ok play) h =
+    let rest = plays-then play (replied s p h) in (
+      heardBefore f fits ok (rest .0),
+      one-more (sym (reply-counted s p h)) (rest .1),
+    )
+plays-then (heard {h = attendant s} f fits ok play) h =
+    absurd (false≢true (sym (not-due (s .terminal) (s .profile) (s .facts) (early-none (s .terminal) (h .0))) ∙ h .1 .due))
+plays-then (decided f) h = (decidedBefore f, refl)
+
+pub plays-now : {q : Phase} {es : List Entry} (play : PlaysBefore q es) → Holds Old q → Now q es (addedByBefore play)
+unfolding Holds addedBy addedByBefore allowed allowedBefore after afterBefore
+plays-now (exchangedBefore {w} {c} {a} {es} f ok play) h =
+    let rest =
+    subst (λ (q : Phase). Now q es (addedByBefore play)) (sym (turned w a h))
+    (plays-now play (subst (Holds Old) (turned w a h) (kept w a h))) in (
+      exchanged (f ∙ sym (command-same w h)) ok (rest .0),
+      one-more refl (one-more (counted w a h) (rest .1)),
+    )
+plays-now (heardBefore {h = terminal} f fits ok play) h = absurd h
+plays-now (heardBefore {h = issuer s} {k} {p} {es} f fits ok play) h =
+    let rest = plays-now play (replied s p h) in (
+      heard f fits ok (rest .0),
+      one-more (reply-counted s p h) (rest .1),
+    )
+plays-now (heardBefore {h = attendant s} f fits ok play) h = absurd (false≢true fits)
+plays-now (decidedBefore f) h = (decided f, refl)
+
+-- ---- whole sessions
+
+-- a valid START of at most 74 bytes has 74
+shorter-one : (n : ℕ) → validLength n ≡ true → n ≤ startLength → n ≡ startLength
+unfolding validLength
+shorter-one n h few = by (eqb n startLength) refl h
+  where
+    by : (t : Bool) → eqb n startLength ≡ t → (t || eqb n fullLength) ≡ true → n ≡ startLength
+    by true e valid = eqb-true n startLength e
+    by false e valid = absurd (omega (arith, few, eqb-true n fullLength valid))
+
+module _ (p : List ℕ) where
+  whole : validStart p ≡ true → length p ≤ startLength → length p ≡ startLength
+  unfolding validStart
+  whole valid few = shorter-one (length p) (each-held (startTests p) valid 0) few
+
+  pub valid-then : validStart p ≡ true → length p ≡ startLength → validBefore p ≡ true
+  unfolding validBefore every
+  valid-then valid e = pick-yes _ _ _ (eq-eqb (length p) startLength e) ∙ pick-yes _ _ _ valid
+
+  valid-now : validBefore p ≡ true → (length p ≡ startLength) × (validStart p ≡ true)
+  unfolding validBefore
+  valid-now h =
+      let held = first-held _ _ h in
+      (eqb-true (length p) startLength (held .0), first-held _ _ (held .1) .0)
+
+-- after START
+begins-old : (p : List ℕ) → length p ≡ startLength → Holds Old (after terminal p)
+unfolding Holds after opened begun situationOf
+begins-old p e = (p, (e, refl))
+
+begins-counted : (p : List ℕ) → length p ≡ startLength → unsuppliedIn (after terminal p) ≡ unsuppliedInBefore (afterBefore terminal p)
+unfolding after afterBefore
+begins-counted p e = due-same (after terminal p) (begins-old p e)
+
+-- a session with such a START, by today's rules and by those before
+pub session-then : {es : List Entry} (play : Plays opens es) → Short es → Then opens es (addedBy play)
+unfolding addedBy addedByBefore allowed allowedBefore after afterBefore Short
+session-then (heard {k} {p} {es} f fits ok play) short =
+    let e = whole p fits short in
+    let rest = plays-then play (begins-old p e) in (
+      heardBefore f (valid-then p fits e) ok (rest .0),
+      one-more (sym (begins-counted p e)) (rest .1),
+    )
+
+-- by the rules before, every START has 74 bytes
+pub session-now : {es : List Entry} (play : PlaysBefore opens es) → Now opens es (addedByBefore play)
+unfolding addedBy addedByBefore allowed allowedBefore after afterBefore
+session-now (heardBefore {k} {p} {es} f fits ok play) =
+    let valid = valid-now p fits in
+    let rest = plays-now play (begins-old p (valid .0)) in (
+      heard f (valid .1) ok (rest .0),
+      one-more (begins-counted p (valid .0)) (rest .1),
+    )

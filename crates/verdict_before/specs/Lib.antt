@@ -1,0 +1,6 @@
+-- The rules as they were before cardholder verification (02, R-7).
+pub mod Before
+pub mod Filled
+pub mod Sessions
+pub mod Verdict
+pub mod Zeroed
