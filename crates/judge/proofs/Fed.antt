@@ -38,7 +38,7 @@ use Rattle.verdict_judged.proofs.Zeroing.{zeros-more, zerosIn, zeroed-right, ze
 use Rattle.verdict_judged.proofs.Loop.{block-payload, block-entry}
 use Rattle.judge_stages.specs.Stages.{saidAt}
 use Rattle.judge_follow.specs.declared.Judgement.{Judgement}
-use Rattle.judge_follow.specs.Following.{fed as follows, begun as fresh}
+use Rattle.judge_follow.specs.Following.{fed as follows, led, begun as fresh}
 use Rattle.judge_follow.proofs.Tracking.{Tracks, tracks-begun, fed-tracks, said}
 use Rattle.judge.specs.declared.UnderWay.{UnderWay}
 use Rattle.judge.specs.Feeding.{begun, fedBy, fed, fedAll, closedBy, closed}
@@ -64,7 +64,7 @@ module _ (u : UnderWay) (p : List ℕ) (es : List Entry) (bytes : areBytes p ≡
   one-longer = length-append es (e ∷ [])
 
   along-good : t .good ≡ true → Along (fed u p) (es ++ (entryIn p ∷ []))
-  unfolding fed fedBy entryIn
+  unfolding fed fedBy led entryIn
   along-good g =
       let on = steps .good g in
       let index = on .0 in
@@ -72,16 +72,22 @@ module _ (u : UnderWay) (p : List ℕ) (es : List Entry) (bytes : areBytes p ≡
       let moved : Tracks (length (es ++ (e ∷ []))) (zerosOf (es ++ (e ∷ []))) (follows (u .dialogue) (u .reader .blocks) (kindIn p) (payloadIn p)) (progressOf (es ++ (e ∷ []))) =
       transport (λ i. Tracks (sym one-longer i) (sym (zeros-more es e) i) (follows (u .dialogue) (sym index i) (kindIn p) (payloadIn p)) (sym (progress-more es e) i)) further
       in
-      subst (λ (v : UnderWay). Along v (es ++ (e ∷ []))) (sym (pick-yes _ _ _ g))
-      (record { tracks = moved; step = λ z. on .1 z ∙ sym one-longer })
+      record {
+        tracks = subst (λ (j : Judgement). Tracks (length (es ++ (e ∷ []))) (zerosOf (es ++ (e ∷ []))) j (progressOf (es ++ (e ∷ [])))) (sym (pick-yes _ _ _ g)) moved;
+        step = λ z. on .1 z ∙ sym one-longer;
+      }
 
   along-other : t .good ≡ false → Along (fed u p) es
-  unfolding fed fedBy
-  along-other n = subst (λ (v : UnderWay). Along v es) (sym (pick-no _ _ _ n)) (record { tracks = a .tracks; step = steps .other n })
+  unfolding fed fedBy led
+  along-other n =
+      record {
+        tracks = subst (λ (j : Judgement). Tracks (length es) (zerosOf es) j (progressOf es)) (sym (pick-no _ _ _ n)) (a .tracks);
+        step = steps .other n;
+      }
 
 reader-on : (u : UnderWay) (p : List ℕ) → fed u p .reader ≡ next (u .reader) p .reader
 unfolding fed fedBy
-reader-on u p = picked (λ (v : UnderWay). v .reader ≡ next (u .reader) p .reader) (next (u .reader) p .good) _ _ (λ y. refl) (λ n. refl)
+reader-on u p = refl
 
 -- ---- pieces in a row
 

@@ -1,7 +1,6 @@
 -- The definitions of a judgement under way, case by case, as the code puts them together.
 -- Assumes nothing.
 use mathlib.Core.Path.{_≡_, sym, ap, _∙_}
-use mathlib.Core.Bool.{true, false}
 use mathlib.Core.List.{List}
 use Prim.Native.Nat.{ℕ}
 use lib.Dec.{eqb}
@@ -17,21 +16,17 @@ use Rattle.verdict.specs.declared.Answer.{Answer}
 use Rattle.verdict.specs.declared.Finding.{Finding}
 use Rattle.judge_stages.specs.Stages.{saidAt}
 use Rattle.judge_follow.specs.declared.Judgement.{Judgement}
-use Rattle.judge_follow.specs.Following.{fed as follows}
+use Rattle.judge_follow.specs.Following.{led}
 use Rattle.judge.specs.declared.UnderWay.{UnderWay}
 use Rattle.judge.specs.Feeding.{fedBy, fed, closedBy, closed}
 
 module _ (u : UnderWay) (p : List ℕ) (t : Taken) (e : t ≡ next (u .reader) p) where
-  pub fed-good : t .good ≡ true → (kind : ℕ) (q : List ℕ) (j : Judgement) → kind ≡ kindIn p → q ≡ payloadIn p
-      → j ≡ follows (u .dialogue) (u .reader .blocks) kind q → _≡_ {A = UnderWay} (record { reader = t .reader; dialogue = j }) (fed u p)
+  pub fed-on : (kind : ℕ) (q : List ℕ) (j : Judgement) → kind ≡ kindIn p → q ≡ payloadIn p
+      → j ≡ led (t .good) (u .dialogue) (u .reader .blocks) kind q → _≡_ {A = UnderWay} (record { reader = t .reader; dialogue = j }) (fed u p)
   unfolding fed fedBy
-  fed-good g kind q j ek eq ej =
-      (λ i. record { reader = t .reader; dialogue = (ej ∙ (λ k. follows (u .dialogue) (u .reader .blocks) (ek k) (eq k))) i })
-      ∙ (sym (pick-yes _ _ _ g) ∙ ap (fedBy u p) e)
-
-  pub fed-other : t .good ≡ false → _≡_ {A = UnderWay} (record { reader = t .reader; dialogue = u .dialogue }) (fed u p)
-  unfolding fed fedBy
-  fed-other n = sym (pick-no _ _ _ n) ∙ ap (fedBy u p) e
+  fed-on kind q j ek eq ej =
+      (λ i. record { reader = t .reader; dialogue = (ej ∙ (λ k. led (t .good) (u .dialogue) (u .reader .blocks) (ek k) (eq k))) i })
+      ∙ ap (fedBy u p) e
 
 module _ (u : UnderWay) (d : Damage) (e : d ≡ damageOf (u .reader)) where
   pub closed-damaged : (d .code ≡ 0 → ⊥) → finds (says Unreadable (d .place) (d .code)) 0 ≡ closed u

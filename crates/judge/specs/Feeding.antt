@@ -13,7 +13,7 @@ use Rattle.verdict.specs.Saying.{says, finds}
 use Rattle.verdict.specs.declared.Verdict.the-variants.{Unreadable}
 use Rattle.verdict.specs.declared.Finding.{Finding}
 use Rattle.judge_stages.specs.Stages.{saidAt}
-use Rattle.judge_follow.specs.Following.{begun as fresh, fed as follows}
+use Rattle.judge_follow.specs.Following.{begun as fresh, led}
 use Rattle.judge.specs.declared.UnderWay.{UnderWay}
 
 abbrev pub begun : UnderWay
@@ -21,10 +21,7 @@ begun = record { reader = unread; dialogue = fresh }
 
 -- one piece further; the entry of a good block has the number of the blocks before it
 unfoldable pub fedBy : UnderWay → List ℕ → Taken → UnderWay
-fedBy u p t =
-    pick (t .good)
-    (record { reader = t .reader; dialogue = follows (u .dialogue) (u .reader .blocks) (kindIn p) (payloadIn p) })
-    (record { reader = t .reader; dialogue = u .dialogue })
+fedBy u p t = record { reader = t .reader; dialogue = led (t .good) (u .dialogue) (u .reader .blocks) (kindIn p) (payloadIn p) }
 
 unfoldable pub fed : UnderWay → List ℕ → UnderWay
 fed u p = fedBy u p (next (u .reader) p)

@@ -26,17 +26,12 @@ pub fn begin() -> UnderWay
 pub fn feed(u: UnderWay, piece: &[u8]) -> UnderWay
     ensures { λ r. ⌜ r ≡ fed u (now (piece .entry)) ⌝ }
 {
-    let before = u.reader;
-    let index = before.blocks;
-    let taken = next(before, piece);
+    let due = u.reader;
+    let index = due.blocks;
+    let taken = next(due, piece);
     let reader = taken.reader;
-    let dialogue = u.dialogue;
-    if taken.good {
-        return UnderWay {
-            reader,
-            dialogue: follow::feed(dialogue, index, kind(piece), payload(piece)),
-        };
-    }
+    let before = u.dialogue;
+    let dialogue = follow::feed(before, taken.good, index, kind(piece), payload(piece));
     UnderWay { reader, dialogue }
 }
 

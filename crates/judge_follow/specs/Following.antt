@@ -1,5 +1,6 @@
 -- One entry read by the judge, as its code does it. Nobody need believe it: that it finds the verdict is proved (proofs/Tracking).
 -- Assumes nothing.
+use mathlib.Core.Bool.{Bool}
 use mathlib.Core.List.{List}
 use Prim.Native.Nat.{ℕ}
 use lib.Dec.{eqb}
@@ -82,3 +83,7 @@ fedAt (Broken place) j index kind p = j
 
 unfoldable pub fed : Judgement → ℕ → ℕ → List ℕ → Judgement
 fed j index kind p = fedAt (j .stage) j index kind p
+
+-- what a block holds that is not good is no entry
+unfoldable pub led : Bool → Judgement → ℕ → ℕ → List ℕ → Judgement
+led good j index kind p = pick good (fed j index kind p) j

@@ -19,7 +19,7 @@ use tape_read::SILENCE;
 ghost use mathlib.Core.Path.{_≡_};
 ghost use lib.ListN.{length};
 ghost use Rattle.commands.specs.Commands.{longest};
-ghost use Rattle.judge_follow.specs.Following.{begun, stageOf, staged, advanced, atCommand, atSilence, atAnswer, atDecision, spoken, wordAt, fed};
+ghost use Rattle.judge_follow.specs.Following.{begun, stageOf, staged, advanced, atCommand, atSilence, atAnswer, atDecision, spoken, wordAt, led};
 
 pub fn begin() -> Judgement
     ensures { λ r. ⌜ r ≡ begun ⌝ }
@@ -159,10 +159,14 @@ fn at_word(j: Judgement, index: usize, kind: u8, payload: &[u8]) -> Judgement
     }
 }
 
-// The entry at an index, read: nothing may follow a decision or a closing silence, and what is broken stays broken.
-pub fn feed(j: Judgement, index: usize, kind: u8, payload: &[u8]) -> Judgement
-    ensures { λ r. ⌜ r ≡ fed j index kind (now (payload .entry)) ⌝ }
+// The entry at an index, where the block that holds it is good: nothing may follow a decision or a closing silence, and what is broken
+// stays broken. The test stands here and not in the caller, for whom it would be one more copy of the judgement (docs/SPEED.md).
+pub fn feed(j: Judgement, good: bool, index: usize, kind: u8, payload: &[u8]) -> Judgement
+    ensures { λ r. ⌜ r ≡ led good j index kind (now (payload .entry)) ⌝ }
 {
+    if !good {
+        return j;
+    }
     let due = j.stage;
     match due {
         Stage::Word => at_word(j, index, kind, payload),
