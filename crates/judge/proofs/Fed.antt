@@ -73,7 +73,9 @@ module _ (u : UnderWay) (p : List ℕ) (es : List Entry) (bytes : areBytes p ≡
       transport (λ i. Tracks (sym one-longer i) (sym (zeros-more es e) i) (follows (u .dialogue) (sym index i) (kindIn p) (payloadIn p)) (sym (progress-more es e) i)) further
       in
       record {
-        tracks = subst (λ (j : Judgement). Tracks (length (es ++ (e ∷ []))) (zerosOf (es ++ (e ∷ []))) j (progressOf (es ++ (e ∷ [])))) (sym (pick-yes _ _ _ g)) moved;
+        tracks =
+            subst (λ (j : Judgement). Tracks (length (es ++ (e ∷ []))) (zerosOf (es ++ (e ∷ []))) j (progressOf (es ++ (e ∷ []))))
+            (sym (pick-yes _ _ _ g)) moved;
         step = λ z. on .1 z ∙ sym one-longer;
       }
 
