@@ -68,9 +68,12 @@ module _ (u : UnderWay) (p : List ℕ) (es : List Entry) (bytes : areBytes p ≡
   along-good g =
       let on = steps .good g in
       let index = on .0 in
-      let further = fed-tracks (length es) (zerosOf es) (u .dialogue) (progressOf es) (kindIn p) (payloadIn p) (block-payload p bytes) (a .tracks) in
-      let moved : Tracks (length (es ++ (e ∷ []))) (zerosOf (es ++ (e ∷ []))) (follows (u .dialogue) (u .reader .blocks) (kindIn p) (payloadIn p)) (progressOf (es ++ (e ∷ []))) =
-      transport (λ i. Tracks (sym one-longer i) (sym (zeros-more es e) i) (follows (u .dialogue) (sym index i) (kindIn p) (payloadIn p)) (sym (progress-more es e) i)) further
+      let further = fed-tracks (length es) (zerosOf es) (u .dialogue) (progressOf es) (kindIn p) (payloadIn p) (block-payload p bytes)
+      (a .tracks) in
+      let moved : Tracks (length (es ++ (e ∷ []))) (zerosOf (es ++ (e ∷ []))) (follows (u .dialogue) (u .reader .blocks) (kindIn p)
+      (payloadIn p)) (progressOf (es ++ (e ∷ []))) =
+      transport (λ i. Tracks (sym one-longer i) (sym (zeros-more es e) i) (follows (u .dialogue) (sym index i) (kindIn p) (payloadIn p))
+      (sym (progress-more es e) i)) further
       in
       record {
         tracks =
@@ -107,12 +110,14 @@ unfolding fedAll readerAfter
 reader-after [] u = refl
 reader-after (p ∷ ps) u = reader-after ps (fed u p) ∙ ap (λ (r : Reader). readerAfter r ps) (reader-on u p)
 
-along-all : (ps : List (List ℕ)) (u : UnderWay) (es : List Entry) → Bytes ps → Along u es → Along (fedAll u ps) (es ++ entriesRead (u .reader) ps)
+along-all : (ps : List (List ℕ)) (u : UnderWay) (es : List Entry) → Bytes ps → Along u es
+    → Along (fedAll u ps) (es ++ entriesRead (u .reader) ps)
 unfolding fedAll entriesRead
 along-all [] u es b a = subst (Along u) (sym (append-nil es)) a
 along-all (p ∷ ps) u es b a =
     let v = fed u p in
-    let same : entriesRead (v .reader) ps ≡ entriesRead (next (u .reader) p .reader) ps = ap (λ (r : Reader). entriesRead r ps) (reader-on u p) in
+    let same : entriesRead (v .reader) ps ≡ entriesRead (next (u .reader) p .reader) ps = ap (λ (r : Reader). entriesRead r ps)
+    (reader-on u p) in
     either (next (u .reader) p .good)
     (λ g.
     let more : (es ++ (entryIn p ∷ [])) ++ entriesRead (v .reader) ps ≡ es ++ entriesRead (u .reader) (p ∷ ps) =
@@ -176,11 +181,13 @@ module _ (t : List ℕ) (bytes : areBytes t ≡ true) where
   fed-finds = picked Right (eqb (d .code) 0) _ _ right-whole right-damaged
 
 -- fed piece by piece, a tape gets a verdict and a number that are right of it
-pub fed-right : (t : List ℕ) → areBytes t ≡ true → Judged t (closed (fedAll begun (piecesOf t)) .answer) × Zeroed t (closed (fedAll begun (piecesOf t)) .zeros)
+pub fed-right : (t : List ℕ) → areBytes t ≡ true → Judged t (closed (fedAll begun (piecesOf t)) .answer) × Zeroed t (closed
+    (fedAll begun (piecesOf t)) .zeros)
 fed-right t bytes = fed-finds t bytes
 
 -- and so the very ones that it gets whole (`judge`): verdict, place, code and number
-pub fed-whole : (t : List ℕ) → areBytes t ≡ true → (f : Finding) → Judged t (f .answer) → Zeroed t (f .zeros) → closed (fedAll begun (piecesOf t)) ≡ f
+pub fed-whole : (t : List ℕ) → areBytes t ≡ true → (f : Finding) → Judged t (f .answer) → Zeroed t (f .zeros)
+    → closed (fedAll begun (piecesOf t)) ≡ f
 fed-whole t bytes f a z =
     let g = closed (fedAll begun (piecesOf t)) in
     let right = fed-right t bytes in
@@ -205,7 +212,8 @@ unfolding rest blockAt cut fedAll
 rest-turn v k t there =
     let more : length t / blockSize + 1 - k ≡ suc (length t / blockSize + 1 - (k + 1)) = omega arith in
     ap (λ (n : ℕ). fedAll v (cut n (drop (k * blockSize) t))) more
-    ∙ ap (λ (s : List ℕ). fedAll (fed v (take blockSize (drop (k * blockSize) t))) (cut (length t / blockSize + 1 - (k + 1)) s)) (rest-next k t)
+    ∙ ap (λ (s : List ℕ). fedAll (fed v (take blockSize (drop (k * blockSize) t))) (cut (length t / blockSize + 1 - (k + 1)) s))
+    (rest-next k t)
 
 pub rest-over : (v : UnderWay) (k : ℕ) (t : List ℕ) → length t / blockSize < k → rest v k t ≡ v
 unfolding rest cut fedAll

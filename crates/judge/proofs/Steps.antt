@@ -22,7 +22,8 @@ use Rattle.judge.specs.Feeding.{fedBy, fed, closedBy, closed}
 
 module _ (u : UnderWay) (p : List ℕ) (t : Taken) (e : t ≡ next (u .reader) p) where
   pub fed-on : (kind : ℕ) (q : List ℕ) (j : Judgement) → kind ≡ kindIn p → q ≡ payloadIn p
-      → j ≡ led (t .good) (u .dialogue) (u .reader .blocks) kind q → _≡_ {A = UnderWay} (record { reader = t .reader; dialogue = j }) (fed u p)
+      → j ≡ led (t .good) (u .dialogue) (u .reader .blocks) kind q → _≡_ {A = UnderWay} (record { reader = t .reader; dialogue = j })
+      (fed u p)
   unfolding fed fedBy
   fed-on kind q j ek eq ej =
       (λ i. record { reader = t .reader; dialogue = (ej ∙ (λ k. led (t .good) (u .dialogue) (u .reader .blocks) (ek k) (eq k))) i })
@@ -33,7 +34,8 @@ module _ (u : UnderWay) (d : Damage) (e : d ≡ damageOf (u .reader)) where
   unfolding closed closedBy
   closed-damaged n = sym (pick-no _ _ _ (ne-eqb (d .code) 0 n)) ∙ ap (closedBy u) e
 
-  pub closed-whole : d .code ≡ 0 → (a : Answer) → a ≡ saidAt (u .dialogue .stage) (u .reader .blocks) → finds a (u .dialogue .zeros) ≡ closed u
+  pub closed-whole : d .code ≡ 0 → (a : Answer) → a ≡ saidAt (u .dialogue .stage) (u .reader .blocks)
+      → finds a (u .dialogue .zeros) ≡ closed u
   unfolding closed closedBy
   closed-whole y a ea =
       ap (λ (x : Answer). finds x (u .dialogue .zeros)) ea ∙ (sym (pick-yes _ _ _ (eq-eqb (d .code) 0 y)) ∙ ap (closedBy u) e)

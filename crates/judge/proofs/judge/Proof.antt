@@ -37,8 +37,11 @@ loop-again c =
     let t = c .before .before .before .before .before .before .args .tape .now in
     let l = c .before .before .before .loop in
     let there : l .k ≤ length t / blockSize = omega (arith, c .before .before .loop-test .taken) in
-    let next = c .feed .ensures ∙ ap (fed (l .u)) (c .before .block-at .ensures) in
-    (omega (arith, c .before .before .loop-test .taken), ap (λ (v : UnderWay). rest v (l .k + 1) t) next ∙ (sym (rest-turn (l .u) (l .k) t there) ∙ l .inv .1))
+    let next = c .feed .ensures ∙ ap (fed (l .u)) (c .before .block-at .ensures) in (
+      omega (arith, c .before .before .loop-test .taken),
+      ap (λ (v : UnderWay). rest v (l .k + 1) t) next
+          ∙ (sym (rest-turn (l .u) (l .k) t there) ∙ l .inv .1),
+    )
 
 returns : tie.Need-returns Inv-loop μ-loop
 returns c =
