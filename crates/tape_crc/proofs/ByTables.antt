@@ -2,13 +2,13 @@
 -- moved down by eight bits and joined with what the first table has for the byte that fell out. So an entry of table k is
 -- what its place leaves when k further bytes of zeros are shifted out after it, and four bytes are taken apart into four
 -- places. Assumes nothing.
-use mathlib.Core.Path.{_≡_, sym, ap, ap₂, subst, _∙_}
+use mathlib.Core.Path.{_≡_, sym, ap, ap₂, _∙_}
 use mathlib.Core.List.{List, [], _∷_}
 use Prim.Native.Nat.{ℕ, zero, suc, _+_, _*_, _/_, _%_, _^_, _≤_, _<_}
 use native.Mathlib.Nat.{add-suc, not-suc-le-zero, le-of-suc-le-suc}
 use native.Mathlib.Numerals.{add-one}
 use native.Mathlib.Omega.{arith}
-use lib.Bits.{bitXor, xor-comm, xor-lt}
+use lib.Bits.{bitXor, xor-comm}
 use lib.ListN.{length, getD, drop}
 use lib.Pow.{shr-shr}
 use lib.Seq.{drop-cons}
@@ -16,7 +16,7 @@ use borrow.Author.Tests.{eqb-true}
 use Rattle.tape_crc.specs.Check.{divided, byteIn, runningOf}
 use Rattle.tape_crc.specs.Tables.{moved, movedOn, Remainders, Follows, InTurn, Tables}
 use Rattle.tape_crc.proofs.Xor.{xor-assoc}
-use Rattle.tape_crc.proofs.Division.{divided-xor, divided-more, divided-apart, divided-below}
+use Rattle.tape_crc.proofs.Division.{divided-xor, divided-more, divided-apart}
 use Rattle.tape_crc.proofs.Entries.{entry}
 use Rattle.tape_crc.proofs.ByTable.{remainder, byte-out}
 use Rattle.tape_crc.proofs.Together.{four-at-once}
@@ -24,9 +24,6 @@ use Rattle.tape_crc.proofs.Together.{four-at-once}
 -- the four bytes at a place of a list as a number, the first one lowest
 abbrev pub word : ℕ → List ℕ → ℕ
 word i s = getD s i 0 + getD s (i + 1) 0 * 0x100 + getD s (i + 2) 0 * 0x1_0000 + getD s (i + 3) 0 * 0x100_0000
-
-word-below : (i : ℕ) (s : List ℕ) → ((j : ℕ) → getD s j 0 < 256) → word i s < 2 ^ 32
-word-below i s byte = omega (arith, byte i, byte (i + 1), byte (i + 2), byte (i + 3))
 
 ahead : (s : List ℕ) (i k : ℕ) → i + k < length s → drop (i + k) s ≡ getD s (i + k) 0 ∷ drop (i + suc k) s
 ahead s i k inside = drop-cons s (i + k) 0 inside ∙ ap (λ (m : ℕ). getD s (i + k) 0 ∷ drop m s) (sym (add-suc i k))
@@ -102,7 +99,7 @@ module _ {first one two three : List ℕ} (h : Tables first (one ∷ two ∷ thr
       (bitXor (bitXor (getD three (x % 256) 0) (getD first (x / 0x100_0000) 0)) (getD one (x / 0x1_0000 % 256) 0))
       (getD two (x / 0x100 % 256) 0)
 
-  four-by-tables : (x : ℕ) → x < 2 ^ 32 → divided 32 x ≡ joined x
+  pub four-by-tables : (x : ℕ) → x < 2 ^ 32 → divided 32 x ≡ joined x
   four-by-tables x below =
       four-apart x
       ∙ (sorted (divided 32 (x % 256)) (divided 24 (x / 0x100 % 256)) (divided 16 (x / 0x1_0000 % 256)) (divided 8 (x / 0x100_0000))
@@ -113,21 +110,16 @@ module _ {first one two three : List ℕ} (h : Tables first (one ∷ two ∷ thr
       (later 0 (omega arith) (x / 0x1_0000 % 256) (omega arith)))
       (later 1 (omega arith) (x / 0x100 % 256) (omega arith))))
 
-  -- a turn keeps the register at 32 bits
-  pub joined-below : (x : ℕ) → x < 2 ^ 32 → joined x < 2 ^ 32
-  joined-below x below = subst (λ (y : ℕ). y < 2 ^ 32) (four-by-tables x below) (divided-below 32 x below)
-
-  -- the four bytes at a place, taken in by the tables: what is left to take in is the rest
-  pub turn-of-four : (r i : ℕ) (s : List ℕ) (w : ℕ) → w ≡ word i s → r < 2 ^ 32 → i + 4 ≤ length s → ((j : ℕ) → getD s j 0 < 256)
-      → runningOf (joined (bitXor r w)) (drop (i + 4) s) ≡ runningOf r (drop i s)
-  unfolding runningOf
-  turn-of-four r i s w e small inside byte =
-      ap (λ (x : ℕ). runningOf (joined (bitXor r x)) (drop (i + 4) s)) e
-      ∙ (ap (λ (y : ℕ). runningOf y (drop (i + 4) s)) (sym taken) ∙ sym (ap (runningOf r) (four-ahead s i inside)))
-    where
-      taken : byteIn (byteIn (byteIn (byteIn r (getD s i 0)) (getD s (i + 1) 0)) (getD s (i + 2) 0)) (getD s (i + 3) 0)
-          ≡ joined (bitXor r (word i s))
-      taken =
-          four-at-once r (getD s i 0) (getD s (i + 1) 0) (getD s (i + 2) 0) (getD s (i + 3) 0)
-          (byte i) (byte (i + 1)) (byte (i + 2)) (byte (i + 3))
-          ∙ four-by-tables (bitXor r (word i s)) (xor-lt 32 r (word i s) small (word-below i s byte))
+-- the four bytes at a place, taken in at once: what is left to take in is the rest
+pub turn-of-four : (r i : ℕ) (s : List ℕ) (w : ℕ) → w ≡ word i s → i + 4 ≤ length s → ((j : ℕ) → getD s j 0 < 256)
+    → runningOf (divided 32 (bitXor r w)) (drop (i + 4) s) ≡ runningOf r (drop i s)
+unfolding runningOf
+turn-of-four r i s w e inside byte =
+    ap (λ (x : ℕ). runningOf (divided 32 (bitXor r x)) (drop (i + 4) s)) e
+    ∙ (ap (λ (y : ℕ). runningOf y (drop (i + 4) s)) (sym taken) ∙ sym (ap (runningOf r) (four-ahead s i inside)))
+  where
+    taken : byteIn (byteIn (byteIn (byteIn r (getD s i 0)) (getD s (i + 1) 0)) (getD s (i + 2) 0)) (getD s (i + 3) 0)
+        ≡ divided 32 (bitXor r (word i s))
+    taken =
+        four-at-once r (getD s i 0) (getD s (i + 1) 0) (getD s (i + 2) 0) (getD s (i + 3) 0)
+        (byte i) (byte (i + 1)) (byte (i + 2)) (byte (i + 3))

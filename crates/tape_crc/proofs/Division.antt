@@ -14,7 +14,7 @@ use Rattle.tape_crc.specs.Check.{divisor, shifted, divided}
 use Rattle.tape_crc.proofs.Xor.{xor-half, xor-odd, xor-inner, differ-times}
 
 -- the choice of the rule as a product: the bit that falls out times the divisor
-shifted-times : (r : ℕ) → shifted r ≡ bitXor (r / 2) (r % 2 * divisor)
+pub shifted-times : (r : ℕ) → shifted r ≡ bitXor (r / 2) (r % 2 * divisor)
 unfolding shifted
 shifted-times r =
     picked (λ (x : ℕ). x ≡ bitXor (r / 2) (r % 2 * divisor)) (eqb (r % 2) 1) _ _
@@ -67,7 +67,7 @@ divided-apart n x =
     ∙ xor-comm (x / 2 ^ n) (divided n (x % 2 ^ n))))
 
 -- a register of 32 bits stays one
-shifted-below : (r : ℕ) → r < 2 ^ 32 → shifted r < 2 ^ 32
+pub shifted-below : (r : ℕ) → r < 2 ^ 32 → shifted r < 2 ^ 32
 unfolding shifted divisor
 shifted-below r h =
     picked (λ (x : ℕ). x < 2 ^ 32) (eqb (r % 2) 1) _ _

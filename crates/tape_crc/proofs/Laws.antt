@@ -1,13 +1,14 @@
 -- What callers cite of the check: it may be taken in parts, one after the other; it is a number of 32 bits; and the value
 -- published for it comes out. Assumes nothing.
-use mathlib.Core.Path.{_≡_, refl}
+use mathlib.Core.Path.{_≡_, refl, sym, ap, _∙_}
 use mathlib.Core.Bool.{true}
 use mathlib.Core.List.{List, [], _∷_, _++_}
 use Prim.Native.Nat.{ℕ, _^_, _<_}
 use native.Mathlib.Omega.{arith}
 use lib.Bits.{bitXor, xor-lt}
-use lib.ListN.{take}
+use lib.ListN.{length, take, drop}
 use lib.Pow.{areBytes}
+use lib.Seq.{drop-length}
 use Rattle.slices.specs.Choice.{pick}
 use Rattle.tape_crc.specs.Check.{divisor, shifted, divided, byteIn, runningOf, ones, checkOf, covered, blockCheckOf}
 use Rattle.tape_crc.proofs.Division.{divided-below}
@@ -23,6 +24,11 @@ pub running-append : (r : ℕ) (s t : List ℕ) → runningOf r (s ++ t) ≡ run
 unfolding runningOf
 running-append r [] t = refl
 running-append r (b ∷ s) t = running-append (byteIn r b) s t
+
+-- nothing is left to take in
+pub taken-all : {x : ℕ} (r i : ℕ) (s : List ℕ) → i ≡ length s → runningOf r (drop i s) ≡ x → r ≡ x
+unfolding runningOf
+taken-all r i s end e = sym (ap (λ (k : ℕ). runningOf r (drop k s)) end ∙ ap (runningOf r) (drop-length s)) ∙ e
 
 pub running-below : (r : ℕ) (s : List ℕ) → r < 2 ^ 32 → areBytes s ≡ true → runningOf r s < 2 ^ 32
 unfolding runningOf byteIn

@@ -6,3 +6,4 @@ pub mod Bytes
 pub mod Together
 pub mod Laws
 pub mod ByTables
+pub mod Parts

@@ -9,10 +9,11 @@ use table_after_one::AFTER_ONE;
 use table_after_three::AFTER_THREE;
 use table_after_two::AFTER_TWO;
 ghost use mathlib.Core.Path.{_≡_};
-ghost use mathlib.Core.List.{[], _∷_};
+ghost use mathlib.Core.List.{[], _∷_, _++_};
 ghost use Prim.Native.Nat.{ℕ, _+_, _*_, _/_, _≤_};
 ghost use lib.ListN.{length, getD, drop};
-ghost use Rattle.tape_crc.specs.Check.{runningOf, checkOf, blockCheckOf};
+ghost use Rattle.tape_crc.specs.Check.{shifted, divided, runningOf, checkOf, blockCheckOf};
+ghost use Rattle.tape_crc.specs.Parts.{part, pair as pairOf};
 ghost use Rattle.tape_crc.specs.Tables.{Remainders, Tables};
 
 // Where the register starts, and the last value's complement.
@@ -21,7 +22,17 @@ const ONES: u32 = 0xFFFF_FFFF;
 // How many bytes of a block its check covers.
 const COVERED: usize = 508;
 
-// The register one slice further: by fours, and then the one to three bytes that are left.
+// How many bytes each of two parts has that are taken in side by side, and both.
+const PART: usize = 252;
+
+const PAIR: usize = 504;
+
+// What a one above the register's top bit leaves when the bits of a part are shifted out.
+const ABOVE_LEAVES: u32 = 0xE95C_1271;
+
+const DIVISOR: u32 = 0xEDB8_8320;
+
+// The register one slice further.
 pub fn running(register: u32, s: &[u8]) -> u32
     ensures { λ r. ⌜ r ≡ runningOf register (now (s .entry)) ⌝ }
 {
@@ -30,9 +41,101 @@ pub fn running(register: u32, s: &[u8]) -> u32
     let one = AFTER_ONE;
     let two = AFTER_TWO;
     let three = AFTER_THREE;
-    let r = by_fours(register, s, &none, &one, &two, &three);
-    let done = s.len() / 4 * 4;
-    by_bytes(r, &s[done..], &none)
+    by_tables(register, s, &none, &one, &two, &three)
+}
+
+// By pairs of parts, then by fours, and then the one to three bytes that are left.
+fn by_tables(
+    register: u32,
+    s: &[u8],
+    none: &[u32; 256],
+    one: &[u32; 256],
+    two: &[u32; 256],
+    three: &[u32; 256],
+) -> u32
+    requires { ⌜ Tables (now none) (now one ∷ now two ∷ now three ∷ []) ⌝ }
+    ensures { λ r. ⌜ r ≡ runningOf register (now (s .entry)) ⌝ }
+{
+    let p = by_pairs(register, s, none, one, two, three);
+    let rest = &s[s.len() / PAIR * PAIR..];
+    let r = by_fours(p, rest, none, one, two, three);
+    by_bytes(r, &rest[rest.len() / 4 * 4..], none)
+}
+
+// The register after as many pairs of parts as there are: the bytes that are left take it to where the slice ends.
+fn by_pairs(
+    register: u32,
+    s: &[u8],
+    none: &[u32; 256],
+    one: &[u32; 256],
+    two: &[u32; 256],
+    three: &[u32; 256],
+) -> u32
+    requires { ⌜ Tables (now none) (now one ∷ now two ∷ now three ∷ []) ⌝ }
+    ensures { λ r. ⌜ runningOf r (drop (length (now (s .entry)) / pairOf * pairOf) (now (s .entry))) ≡ runningOf register (now (s .entry)) ⌝ }
+{
+    let mut r = register;
+    let mut i = 0;
+    while PAIR <= s.len() - i {
+        r = pair(
+            r,
+            &s[i..i + PART],
+            &s[i + PART..i + PAIR],
+            none,
+            one,
+            two,
+            three,
+        );
+        i += PAIR;
+    }
+    r
+}
+
+// The register after two parts, one behind the other. The turns of one part wait for each other, so the second is taken in beside
+// the first, from nothing; then what the first left goes past as many zeros as the second has bytes, and the two are joined.
+fn pair(
+    register: u32,
+    first: &[u8],
+    second: &[u8],
+    none: &[u32; 256],
+    one: &[u32; 256],
+    two: &[u32; 256],
+    three: &[u32; 256],
+) -> u32
+    requires { ⌜ Tables (now none) (now one ∷ now two ∷ now three ∷ []) × (length (now first) ≡ part) × (length (now second) ≡ part) ⌝ }
+    ensures { λ r. ⌜ r ≡ runningOf register (now (first .entry) ++ now (second .entry)) ⌝ }
+{
+    let mut r = register;
+    let mut q = 0;
+    let mut i = 0;
+    while i < PART {
+        r = turn(r ^ word(first, i), none, one, two, three);
+        q = turn(q ^ word(second, i), none, one, two, three);
+        i += 4;
+    }
+    past_part(r) ^ q
+}
+
+// The register past a part of zeros, bit by bit from the top: what a bit leaves is what the one above it leaves, shifted once more.
+fn past_part(register: u32) -> u32
+    ensures { λ r. ⌜ r ≡ divided (8 * part) register ⌝ }
+{
+    let mut left = ABOVE_LEAVES;
+    let mut r = 0;
+    let mut k: u32 = 32;
+    while 0 < k {
+        k -= 1;
+        left = shift(left);
+        r = r ^ (register >> k) % 2 * left;
+    }
+    r
+}
+
+// One bit.
+fn shift(r: u32) -> u32
+    ensures { λ x. ⌜ x ≡ shifted r ⌝ }
+{
+    r / 2 ^ r % 2 * DIVISOR
 }
 
 // The register after as many fours as there are: the bytes that are left take it to where the slice ends.
@@ -50,16 +153,23 @@ fn by_fours(
     let mut r = register;
     let mut i = 0;
     while 4 <= s.len() - i {
-        let x = r ^ word(s, i);
-        // A place that takes longer to find is looked up later, so that the joins do not wait for it.
-        let first = three[(x % 256) as usize];
-        let fourth = none[(x / 0x100_0000) as usize];
-        let third = one[(x / 0x1_0000 % 256) as usize];
-        let second = two[(x / 0x100 % 256) as usize];
-        r = first ^ fourth ^ third ^ second;
+        r = turn(r ^ word(s, i), none, one, two, three);
         i += 4;
     }
     r
+}
+
+// Four bytes, which stand in the register already, shifted out.
+fn turn(x: u32, none: &[u32; 256], one: &[u32; 256], two: &[u32; 256], three: &[u32; 256]) -> u32
+    requires { ⌜ Tables (now none) (now one ∷ now two ∷ now three ∷ []) ⌝ }
+    ensures { λ r. ⌜ r ≡ divided 32 x ⌝ }
+{
+    // A place that takes longer to find is looked up later, so that the joins do not wait for it.
+    let first = three[(x % 256) as usize];
+    let fourth = none[(x / 0x100_0000) as usize];
+    let third = one[(x / 0x1_0000 % 256) as usize];
+    let second = two[(x / 0x100 % 256) as usize];
+    first ^ fourth ^ third ^ second
 }
 
 // Four bytes as a number, the first one lowest.

@@ -1,12 +1,12 @@
 -- `tape_crc::by_bytes` meets its contract. The loop's invariant: the register so far, taken over the bytes that are left, gives
 -- what the whole gives. Assumes nothing.
-use mathlib.Core.Path.{_≡_, refl, sym, ap, _∙_}
-use Prim.Native.Nat.{ℕ, _≤_, _-_}
+use mathlib.Core.Path.{_≡_, refl, _∙_}
+use Prim.Native.Nat.{_≤_, _-_}
 use native.Mathlib.Omega.{arith}
 use lib.ListN.{length, drop}
-use lib.Seq.{drop-length}
 use Rattle.tape_crc.specs.Check.{runningOf}
 use Rattle.tape_crc.proofs.ByTable.{turn}
+use Rattle.tape_crc.proofs.Laws.{taken-all}
 use Rattle.tape_crc.proofs.by_bytes.Statement.{statement}
 use Rattle.tape_crc.proofs.by_bytes.Tie as tie
 
@@ -24,12 +24,7 @@ loop-again c =
     (omega arith, turn (start .pre) (l .r) (l .i) (start .args .s .now) (omega arith) byte ∙ l .inv .1)
 
 returns : tie.Need-returns Inv-loop μ-loop
-unfolding runningOf
-returns c =
-    let s = c .before .before .args .s .now in
-    let l = c .before .loop in
-    let end : l .i ≡ length s = omega arith in
-    sym (ap (λ (i : ℕ). runningOf (l .r) (drop i s)) end ∙ ap (runningOf (l .r)) (drop-length s)) ∙ l .inv .1
+returns c = taken-all (c .before .loop .r) (c .before .loop .i) (c .before .before .args .s .now) (omega arith) (c .before .loop .inv .1)
 
 pub by-bytes-spec : {M : Type 1} → statement M
 by-bytes-spec =
