@@ -1,8 +1,8 @@
 // What is asked for.
-use book_line::NO_NUMBER;
-use book_line::decimal;
 use slices::alike;
 use slices::part;
+use text_lines::decimal::NO_NUMBER;
+use text_lines::decimal::decimal;
 
 pub const NOTHING: u8 = 0;
 

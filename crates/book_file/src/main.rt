@@ -13,13 +13,13 @@ mod say;
 mod store;
 
 use book::Book;
-use book_line::NO_NUMBER;
 use book_line::entry_said;
 use book_open::Opening;
 use book_open::reopen;
 use slices::part;
 use store::Input;
 use tape_read::block_at;
+use text_lines::decimal::NO_NUMBER;
 
 // One block more than a book can have is enough to know that a file is too long.
 const ROOM: usize = 2_097_664;

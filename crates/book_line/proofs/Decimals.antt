@@ -11,7 +11,7 @@ use Rattle.slices.proofs.Choice.{pick-yes, pick-no, and-both, either}
 use Rattle.text_hex.specs.Digits.{among, digit}
 use Rattle.verdict_line.specs.Line.{decimal}
 use Rattle.verdict_line.proofs.Digits.{decimal-small, decimal-large, large-length, by-tenths}
-use Rattle.book_line.specs.Lines.{noNumber, numberFrom, numberIn}
+use Rattle.text_lines.specs.Decimal.{noNumber, numberFrom, numberIn}
 use Rattle.book_line.proofs.Words.{free, free-append}
 
 digit-is : (x : ℕ) → x < 10 → digit (0x30 + x) ≡ x

@@ -19,7 +19,8 @@ use Rattle.verdict.specs.declared.Finding.{Finding}
 use Rattle.verdict_line.specs.Line.{wordOf, decimal, fieldOf, lineOf}
 use Rattle.book_block.specs.Entries.{made}
 use Rattle.book_answer.specs.Answers.{verdictNumber, entryOf}
-use Rattle.book_line.specs.Lines.{noNumber, wordIn, numberIn, verdictNamed, closes, fieldsSaid, entrySaid}
+use Rattle.text_lines.specs.Decimal.{noNumber, numberIn}
+use Rattle.book_line.specs.Lines.{wordIn, verdictNamed, closes, fieldsSaid, entrySaid}
 use Rattle.book_line.proofs.Words.{free, free-append, first-end, word-first, word-after, word-last, word-end}
 use Rattle.book_line.proofs.Decimals.{some-digits, number-back, decimal-free}
 

@@ -1,14 +1,14 @@
 -- What a line says of a tape: verdict, place and code as the judge's program writes them (01, "The tape"), and behind them nothing, or
 -- one number more, which is not entered (02, R-6 and R-11). Assumes nothing.
-use mathlib.Core.Bool.{Bool, true, false, _&&_}
-use mathlib.Core.List.{List, [], _∷_}
-use Prim.Native.Nat.{ℕ, _+_, _*_}
-use lib.Dec.{eqb, leb, ltb}
+use mathlib.Core.Bool.{Bool, true, false}
+use mathlib.Core.List.{List}
+use Prim.Native.Nat.{ℕ, _+_}
+use lib.Dec.{eqb, leb}
 use lib.ListN.{length, take, drop}
 use Rattle.slices.specs.Choice.{pick}
 use Rattle.slices.specs.Tests.{alike}
-use Rattle.text_hex.specs.Digits.{digit}
 use Rattle.text_lines.specs.Lines.{lineEnd, wordEnd, afterWord}
+use Rattle.text_lines.specs.Decimal.{noNumber, numberIn}
 use Rattle.verdict.specs.declared.Verdict.the-variants.{Pass, Fail, Inconclusive, Unreadable}
 use Rattle.verdict_line.specs.Line.{wordOf}
 use Rattle.book_block.specs.Entries.{pass, fail, inconclusive, unreadable, made}
@@ -17,20 +17,6 @@ use Rattle.book_block.specs.declared.Entry.{Entry}
 -- the first word of a text
 unfoldable pub wordIn : List ℕ → List ℕ
 wordIn s = take (wordEnd s 0) (drop 0 s)
-
--- what is no number of four bytes
-abbrev pub noNumber : ℕ
-noNumber = 0x100000000
-
--- the number n with the decimal digits that follow it
-unfoldable pub numberFrom : ℕ → List ℕ → ℕ
-numberFrom n [] = n
-numberFrom n (b ∷ s) =
-    pick (ltb (digit b) 10 && ltb (10 * n + digit b) noNumber) (numberFrom (10 * n + digit b) s) noNumber
-
--- a number: at least one digit, and nothing else
-unfoldable pub numberIn : List ℕ → ℕ
-numberIn s = pick (eqb (length s) 0) noNumber (numberFrom 0 s)
 
 -- the number of the verdict that a word names; 0: none
 unfoldable pub verdictNamed : List ℕ → ℕ

@@ -5,18 +5,14 @@ use book_block::INCONCLUSIVE;
 use book_block::PASS;
 use book_block::UNREADABLE;
 use slices::alike;
-use slices::byte;
 use slices::part;
-use text_hex::digit_of;
 use text_lines::after_word;
+use text_lines::decimal::NO_NUMBER;
+use text_lines::decimal::decimal;
 use text_lines::line_end;
 use text_lines::word_end;
 ghost use mathlib.Core.Path.{_≡_};
-ghost use Prim.Native.Nat.{_≤_};
-ghost use Rattle.book_line.specs.Lines.{wordIn, numberIn, verdictNamed, closes, nothing, fieldsSaid, entrySaid};
-
-// What is no number of four bytes.
-pub const NO_NUMBER: usize = 0x1_0000_0000;
+ghost use Rattle.book_line.specs.Lines.{wordIn, verdictNamed, closes, nothing, fieldsSaid, entrySaid};
 
 // What a line says of a tape; no verdict where it is not one whole line of the judge's. A fourth number is not entered.
 pub fn entry_said(tape: u32, text: &[u8]) -> Entry
@@ -27,30 +23,6 @@ pub fn entry_said(tape: u32, text: &[u8]) -> Entry
         return fields_said(tape, part(text, 0, end));
     }
     nothing_said(tape)
-}
-
-// The decimal number that a text is, or NO_NUMBER.
-pub fn decimal(s: &[u8]) -> usize
-    ensures { λ r. ⌜ (r ≡ numberIn (now (s .entry))) × (r ≤ 0x100000000) ⌝ }
-{
-    if s.len() == 0 {
-        return NO_NUMBER;
-    }
-    let mut n = 0;
-    let mut i = 0;
-    while i < s.len() {
-        let d = digit_of(byte(s, i));
-        if 10 <= d {
-            return NO_NUMBER;
-        }
-        let more = 10 * n + d;
-        if NO_NUMBER <= more {
-            return NO_NUMBER;
-        }
-        n = more;
-        i += 1;
-    }
-    n
 }
 
 // Verdict, place and code, and nothing behind them but one number.

@@ -1,19 +1,18 @@
 -- A line read a byte at a time: how one byte takes each reading on, and what ends it.
 -- Assumes nothing.
 use mathlib.Core.Path.{_≡_, ap, ap₂, _∙_}
-use mathlib.Core.Bool.{true, false, _&&_}
+use mathlib.Core.Bool.{true, false}
 use mathlib.Core.List.{List}
-use Prim.Native.Nat.{ℕ, _+_, _*_, _≤_, _<_}
+use Prim.Native.Nat.{ℕ, _+_, _≤_, _<_}
 use native.Mathlib.Numerals.{add-one}
 use lib.Dec.{eqb, ltb}
 use lib.ListN.{length, getD, drop, drop-of-length-le}
 use lib.Seq.{drop-cons}
-use borrow.Author.Tests.{eq-eqb, ne-eqb, lt-ltb, ltb-true, le-ltb}
+use borrow.Author.Tests.{eq-eqb, ne-eqb, lt-ltb, le-ltb}
 use Rattle.slices.specs.Choice.{pick}
-use Rattle.slices.proofs.Choice.{pick-yes, pick-no, and-both}
+use Rattle.slices.proofs.Choice.{pick-yes, pick-no}
 use Rattle.text_hex.specs.Digits.{digit}
-use Rattle.text_hex.proofs.Extra.{and-no}
-use Rattle.play.specs.Lines.{named, allDigits, numberFrom, noNumber}
+use Rattle.play.specs.Lines.{named, allDigits}
 
 -- the first word
 module _ (w s : List ℕ) (i : ℕ) where
@@ -56,19 +55,3 @@ module _ (s : List ℕ) (i d : ℕ) (told : d ≡ digit (getD s i 0)) (h : i < l
 pub digits-end : (s : List ℕ) (i : ℕ) → length s ≤ i → allDigits (drop i s) ≡ true
 unfolding allDigits
 digits-end s i h = ap allDigits (drop-of-length-le s h)
-
--- a number
-module _ (n : ℕ) (s : List ℕ) (i d : ℕ) (told : d ≡ digit (getD s i 0)) (h : i < length s) where
-  one-further : numberFrom n (drop i s) ≡ pick (ltb d 10 && ltb (10 * n + d) noNumber) (numberFrom (10 * n + d) (drop (i + 1) s)) noNumber
-  unfolding numberFrom
-  one-further = ap (numberFrom n) (drop-cons s i 0 h) ∙ (rw (add-one, told))
-
-  pub number-next : d < 10 → 10 * n + d < noNumber → numberFrom n (drop i s) ≡ numberFrom (10 * n + d) (drop (i + 1) s)
-  number-next k l = one-further ∙ pick-yes _ _ _ (and-both _ _ (lt-ltb _ _ k) (lt-ltb _ _ l))
-
-  pub number-stop : (d < 10 → 10 * n + d < noNumber → ⊥) → numberFrom n (drop i s) ≡ noNumber
-  number-stop not-both = one-further ∙ pick-no _ _ _ (and-no _ _ (λ k l. not-both (ltb-true _ _ k) (ltb-true _ _ l)))
-
-pub number-end : (n : ℕ) (s : List ℕ) (i : ℕ) → length s ≤ i → numberFrom n (drop i s) ≡ n
-unfolding numberFrom
-number-end n s i h = ap (numberFrom n) (drop-of-length-le s h)

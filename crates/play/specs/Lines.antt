@@ -1,8 +1,8 @@
 -- What a line of `play` asks, and what is wrong with one that asks nothing.
 -- Assumes nothing.
-use mathlib.Core.Bool.{Bool, true, false, _&&_}
+use mathlib.Core.Bool.{Bool, true, false}
 use mathlib.Core.List.{List, [], _∷_}
-use Prim.Native.Nat.{ℕ, _+_, _*_, _%_}
+use Prim.Native.Nat.{ℕ, _%_}
 use lib.Dec.{eqb, ltb}
 use lib.ListN.{length}
 use Rattle.slices.specs.Choice.{pick}
@@ -38,17 +38,3 @@ faultOf kind rest =
     (pick (eqb (length rest) 0) 0
     (pick (eqb kind silence) 2
     (pick (allDigits rest) (pick (eqb (length rest % 2) 0) 0 4) 3)))
-
--- what is no session number, since those have four bytes
-abbrev pub noNumber : ℕ
-noNumber = 0x100000000
-
--- the number n with the decimal digits that follow it
-unfoldable pub numberFrom : ℕ → List ℕ → ℕ
-numberFrom n [] = n
-numberFrom n (b ∷ s) =
-    pick (ltb (digit b) 10 && ltb (10 * n + digit b) noNumber) (numberFrom (10 * n + digit b) s) noNumber
-
--- a session number: at least one digit, and nothing else
-unfoldable pub sessionNumber : List ℕ → ℕ
-sessionNumber s = pick (eqb (length s) 0) noNumber (numberFrom 0 s)

@@ -7,8 +7,7 @@ use tape_read::SILENCE;
 use tape_read::START;
 use text_hex::digit_of;
 ghost use mathlib.Core.Path.{_≡_};
-ghost use Prim.Native.Nat.{_≤_};
-ghost use Rattle.play.specs.Lines.{named, kindOf, allDigits, faultOf, sessionNumber};
+ghost use Rattle.play.specs.Lines.{named, kindOf, allDigits, faultOf};
 
 // What can be wrong.
 pub const UNKNOWN: u8 = 1;
@@ -20,9 +19,6 @@ pub const NO_DIGITS: u8 = 3;
 pub const ODD: u8 = 4;
 
 const SPACE: usize = 0x20;
-
-// What is no session number.
-pub const NO_NUMBER: usize = 0x1_0000_0000;
 
 // The kind of the event that the first word names; 0 for any other word.
 pub fn kind_of(line: &[u8]) -> u8
@@ -98,28 +94,4 @@ fn all_digits(s: &[u8]) -> bool
         i += 1;
     }
     true
-}
-
-// The decimal number that a text is, or NO_NUMBER.
-pub fn session_number(s: &[u8]) -> usize
-    ensures { λ r. ⌜ (r ≡ sessionNumber (now (s .entry))) × (r ≤ 0x100000000) ⌝ }
-{
-    if s.len() == 0 {
-        return NO_NUMBER;
-    }
-    let mut n = 0;
-    let mut i = 0;
-    while i < s.len() {
-        let d = digit_of(byte(s, i));
-        if 10 <= d {
-            return NO_NUMBER;
-        }
-        let more = 10 * n + d;
-        if NO_NUMBER <= more {
-            return NO_NUMBER;
-        }
-        n = more;
-        i += 1;
-    }
-    n
 }

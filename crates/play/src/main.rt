@@ -28,10 +28,10 @@ mod streams;
 use call::next;
 use kernel::Session;
 use libc::STDERR_FILENO;
-use line::NO_NUMBER;
-use line::session_number;
 use tape_read::TAPE;
 use tape_write::Writer;
+use text_lines::decimal::NO_NUMBER;
+use text_lines::decimal::decimal;
 ghost use Prim.Native.Nat.{_≤_};
 
 // A line of the longest word and the longest payload: eight bytes, and the digits of 4,096.
@@ -69,7 +69,7 @@ fn number_asked() -> usize
     }
     let mut digits = io::buffer();
     let n = os::arg(2, &mut digits);
-    session_number(&digits[..n])
+    decimal(&digits[..n])
 }
 
 // The tape's file, or below 0 where it cannot be opened for writing.

@@ -1,3 +1,4 @@
 pub mod Ends
 pub mod Counting
 pub mod Pinned
+pub mod ByDigits

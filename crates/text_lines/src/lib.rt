@@ -1,4 +1,5 @@
 // Bytes as text, for programs that read and print a line at a time.
+pub mod decimal;
 mod lines;
 mod numbers;
 

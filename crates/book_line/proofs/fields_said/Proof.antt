@@ -7,7 +7,8 @@ use borrow.Author.Needs.{needs}
 use lib.Dec.{leb}
 use Rattle.slices.proofs.Choice.{pick-yes, pick-no}
 use Rattle.text_lines.specs.Lines.{afterWord}
-use Rattle.book_line.specs.Lines.{wordIn, numberIn, noNumber, closes, verdictNamed, fieldsSaid}
+use Rattle.text_lines.specs.Decimal.{numberIn, noNumber}
+use Rattle.book_line.specs.Lines.{wordIn, closes, verdictNamed, fieldsSaid}
 use Rattle.book_line.proofs.Numbers.{over, under}
 use Rattle.book_line.proofs.fields_said.Statement.{statement}
 use Rattle.book_line.proofs.fields_said.Tie as tie

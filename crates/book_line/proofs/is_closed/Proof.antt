@@ -7,7 +7,8 @@ use borrow.Author.Tests.{eq-eqb, ne-eqb}
 use lib.Dec.{eqb}
 use lib.ListN.{length}
 use Rattle.slices.proofs.Choice.{pick-yes, pick-no}
-use Rattle.book_line.specs.Lines.{wordIn, numberIn, closes}
+use Rattle.text_lines.specs.Decimal.{numberIn}
+use Rattle.book_line.specs.Lines.{wordIn, closes}
 use Rattle.book_line.proofs.Numbers.{over, under}
 use Rattle.book_line.proofs.is_closed.Statement.{statement}
 use Rattle.book_line.proofs.is_closed.Tie as tie

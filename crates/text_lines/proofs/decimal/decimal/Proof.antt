@@ -1,4 +1,4 @@
--- `book_line::decimal` meets its contract. The loop's invariant: n with the digits that are left is the number of the whole text.
+-- `decimal::decimal` meets its contract. The loop's invariant: n with the digits that are left is the number of the whole text.
 -- Assumes nothing.
 use mathlib.Core.Path.{_≡_, refl, sym, ap, _∙_}
 use Prim.Native.Nat.{_-_, _<_}
@@ -8,10 +8,10 @@ use borrow.Author.Needs.{needs}
 use borrow.Author.Tests.{eq-eqb, ne-eqb}
 use Rattle.slices.proofs.Choice.{pick-yes, pick-no}
 use Rattle.text_hex.specs.Digits.{digit}
-use Rattle.book_line.specs.Lines.{numberFrom, numberIn, noNumber}
-use Rattle.book_line.proofs.Numbers.{number-next, number-stop, number-end}
-use Rattle.book_line.proofs.decimal.Statement.{statement}
-use Rattle.book_line.proofs.decimal.Tie as tie
+use Rattle.text_lines.specs.Decimal.{numberFrom, numberIn, noNumber}
+use Rattle.text_lines.proofs.ByDigits.{number-next, number-stop, number-end}
+use Rattle.text_lines.proofs.decimal.decimal.Statement.{statement}
+use Rattle.text_lines.proofs.decimal.decimal.Tie as tie
 
 abbrev Inv-loop : tie.InvT-loop
 Inv-loop s n₀ i₀ n i = (n < noNumber) × (numberFrom n (drop i s) ≡ numberFrom 0 s)
