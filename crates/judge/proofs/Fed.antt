@@ -35,7 +35,7 @@ use Rattle.verdict_judged.specs.Zeroed.{Zeroed}
 use Rattle.verdict_judged.specs.Progress.{Progress, begun as opened, reads, readsAll, newBy, progressOf, concluded, finally, verdictOf}
 use Rattle.verdict_judged.proofs.Meaning.{progress-more, verdict-right, right-verdict}
 use Rattle.verdict_judged.proofs.Zeroing.{zeros-more, zerosIn, zeroed-right, zeroed-once}
-use Rattle.verdict_judged.proofs.Loop.{block-payload, block-entry}
+use Rattle.verdict_judged.proofs.Blockwise.{block-payload, block-entry}
 use Rattle.judge_stages.specs.Stages.{saidAt}
 use Rattle.judge_follow.specs.declared.Judgement.{Judgement}
 use Rattle.judge_follow.specs.Following.{fed as follows, led, begun as fresh}

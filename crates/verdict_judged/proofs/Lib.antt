@@ -2,7 +2,7 @@ pub mod Once
 pub mod Exactly
 pub mod Meaning
 pub mod Taking
-pub mod Loop
+pub mod Blockwise
 pub mod Endings
 pub mod Silence
 pub mod Stored
