@@ -1,23 +1,27 @@
 -- Worked answers to GENERATE AC that hold the definitions to document 01, each by computation.
 -- Assumes nothing.
 use mathlib.Core.Path.{_≡_, refl}
-use mathlib.Core.Bool.{Bool, true, false, not}
 use mathlib.Core.List.{List, [], _∷_, _++_, map}
 use Prim.Native.Nat.{ℕ}
-use lib.Dec.{eqb}
 use lib.ListN.{replicate}
+use Rattle.slices.specs.Choice.{pick}
+use Rattle.decide_cryptogram.specs.Cryptograms.{givenBy, allowedBy}
+use Rattle.decide_cryptogram.specs.declared.Cryptogram.the-variants.{Aac, Tc, Arqc}
+use Rattle.decide_cryptogram.specs.declared.Given.{Given}
+use Rattle.decide_cryptogram.specs.declared.Given.the-variants.{Of, Reserved}
+use Rattle.decide_cryptogram.specs.declared.Request.{Request}
+use Rattle.decide_cryptogram.specs.declared.Request.the-variants.{First, Second}
 use Rattle.answer_common.specs.Forms.{lacks}
 use Rattle.answer_cryptogram.specs.Cryptogram.{informationOf, cryptogramOf, cryptogramWrong, cryptogramLines, cryptogramReason}
-use Rattle.answer_cryptogram.specs.Cryptogram.{allows}
 use Rattle.answer_common.proofs.Opened.{one, two, good, joinedAll, opened}
 
-judge : (ℕ → Bool) → List ℕ → ℕ
-unfolding opened lacks informationOf cryptogramOf cryptogramWrong cryptogramLines cryptogramReason allows
-judge allowed a = cryptogramReason allowed a
+judge : Request → List ℕ → ℕ
+unfolding opened lacks pick givenBy allowedBy informationOf cryptogramOf cryptogramWrong cryptogramLines cryptogramReason
+judge request a = cryptogramReason (allowedBy request) a
 
 -- a request that allows all three types
-abbrev all : ℕ → Bool
-all kind = allows (record { aac = true; tc = true; arqc = true }) kind
+abbrev all : Request
+all = First Tc
 
 abbrev information : ℕ → List ℕ
 information b = two 0x9F 0x27 (b ∷ [])
@@ -82,27 +86,28 @@ none-joined : judge all (good (one 0x80 [])) ≡ 5
 unfolding judge
 none-joined = refl
 
--- the types that a request allows
+-- AAC, TC, ARQC and the fourth type, as answers to each request
 abbrev kinds : List ℕ
 kinds = 0x00 ∷ 0x40 ∷ 0x80 ∷ 0xC0 ∷ []
 
-asked : List (ℕ → Bool)
-asked =
-    allows (record { aac = true; tc = false; arqc = false })
-    ∷ allows (record { aac = false; tc = true; arqc = false })
-    ∷ allows (record { aac = false; tc = false; arqc = true })
-    ∷ allows (record { aac = false; tc = false; arqc = false })
-    ∷ []
+abbrev asked : List Request
+asked = First Tc ∷ First Arqc ∷ First Aac ∷ Second Tc ∷ Second Aac ∷ []
 
-allowed : map (λ w. map (λ b. judge w (good (one 0x77 (information b ++ counter ++ cryptogram)))) kinds) asked
-    ≡ (0 ∷ 10 ∷ 10 ∷ 10 ∷ []) ∷ (10 ∷ 0 ∷ 10 ∷ 10 ∷ []) ∷ (10 ∷ 10 ∷ 0 ∷ 10 ∷ []) ∷ (10 ∷ 10 ∷ 10 ∷ 10 ∷ []) ∷ []
-unfolding judge asked
+allowed : map (λ request. map (λ b. judge request (good (one 0x77 (information b ++ counter ++ cryptogram)))) kinds) asked
+    ≡ (0 ∷ 0 ∷ 0 ∷ 10 ∷ [])
+    ∷ (0 ∷ 10 ∷ 0 ∷ 10 ∷ [])
+    ∷ (0 ∷ 10 ∷ 10 ∷ 10 ∷ [])
+    ∷ (0 ∷ 0 ∷ 10 ∷ 10 ∷ [])
+    ∷ (0 ∷ 10 ∷ 10 ∷ 10 ∷ [])
+    ∷ []
+unfolding judge
 allowed = refl
 
-read : List ℕ → ℕ
+read : List ℕ → Given
 unfolding judge
 read a = cryptogramOf a
 
-types : map (λ b. read (good (one 0x77 (counter ++ information b ++ cryptogram)))) (0x3F ∷ 0x40 ∷ 0x8A ∷ 0xFF ∷ []) ≡ 0 ∷ 1 ∷ 2 ∷ 3 ∷ []
+types : map (λ b. read (good (one 0x77 (counter ++ information b ++ cryptogram)))) (0x3F ∷ 0x40 ∷ 0x8A ∷ 0xFF ∷ [])
+    ≡ Of Aac ∷ Of Tc ∷ Of Arqc ∷ Reserved ∷ []
 unfolding read
 types = refl

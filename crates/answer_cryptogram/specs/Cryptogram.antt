@@ -1,17 +1,17 @@
 -- The answer to GENERATE AC: cryptogram information (9F27), transaction counter (9F36), cryptogram (9F26) and, where the
 -- card has any, issuer data (9F10). 01, "What the card must answer".
 -- Assumes nothing.
-use mathlib.Core.Bool.{Bool, true, false, not, _&&_, _||_}
+use mathlib.Core.Bool.{Bool, not, _&&_, _||_}
 use mathlib.Core.List.{List, [], _∷_, _++_}
-use Prim.Native.Nat.{ℕ, _/_}
+use Prim.Native.Nat.{ℕ}
 use lib.ListN.{length, getD}
 use Rattle.slices.specs.Choice.{pick, firstOf}
 use Rattle.slices.specs.Tests.{between}
-use Rattle.slices.specs.Tables.{beside}
 use Rattle.answer_common.specs.Answer.{isOne, inside, frame}
 use Rattle.answer_common.specs.Named.{direct, valueOf, anyTwice, anyWrong}
 use Rattle.answer_common.specs.Forms.{template, joined, bothForms, lacks}
-use Rattle.answer_cryptogram.specs.declared.Allowed.{Allowed}
+use Rattle.decide_cryptogram.specs.Cryptograms.{givenBy}
+use Rattle.decide_cryptogram.specs.declared.Given.{Given}
 
 -- those that must be there, and all that are named
 abbrev pub mandatoryNames : List ℕ
@@ -24,16 +24,16 @@ cryptogramNames = mandatoryNames ++ (0x9F10 ∷ [])
 unfoldable pub informationOf : List ℕ → List ℕ
 informationOf a = pick (isOne joined a) (inside joined a) (valueOf (direct template a 0x9F27))
 
--- the cryptogram's type, the top two bits of that byte: 0 AAC, 1 TC, 2 ARQC
-unfoldable pub cryptogramOf : List ℕ → ℕ
-cryptogramOf a = getD (informationOf a) 0 0 / 64
+-- the cryptogram that the answer gives, by that byte
+unfoldable pub cryptogramOf : List ℕ → Given
+cryptogramOf a = givenBy (getD (informationOf a) 0 0)
 
 -- joined values of 11-43 bytes: 1, 2, 8 and 0-32
 unfoldable pub cryptogramWrong : List ℕ → Bool
 cryptogramWrong a =
     anyWrong cryptogramNames (direct template a) || (isOne joined a && not (between 11 43 (length (inside joined a))))
 
-unfoldable pub cryptogramLines : (ℕ → Bool) → List ℕ → List (Bool × ℕ)
+unfoldable pub cryptogramLines : (Given → Bool) → List ℕ → List (Bool × ℕ)
 cryptogramLines allowed a =
     (anyTwice cryptogramNames (direct template a), 4)
     ∷ (cryptogramWrong a, 5)
@@ -41,10 +41,6 @@ cryptogramLines allowed a =
     ∷ (not (allowed (cryptogramOf a)), 10)
     ∷ []
 
--- `allowed` are the types that the request allows
-unfoldable pub cryptogramReason : (ℕ → Bool) → List ℕ → ℕ
+-- `allowed` are the answers that the request allows
+unfoldable pub cryptogramReason : (Given → Bool) → List ℕ → ℕ
 cryptogramReason allowed a = firstOf (frame bothForms a ++ cryptogramLines allowed a)
-
--- which types a request allows: never the fourth, 3
-unfoldable pub allows : Allowed → ℕ → Bool
-allows w kind = beside false kind ((0, w .aac) ∷ (1, w .tc) ∷ (2, w .arqc) ∷ [])

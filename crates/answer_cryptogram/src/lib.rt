@@ -8,33 +8,19 @@ use answer_common::forms::lacks;
 use answer_common::named::any_times_in_checked;
 use answer_common::named::any_wrong_in_checked;
 use answer_common::named::value_in_checked;
+use decide_cryptogram::Given;
+use decide_cryptogram::Request;
+use decide_cryptogram::allowed;
+use decide_cryptogram::given_by;
 use slices::byte;
 ghost use mathlib.Core.Path.{_≡_};
 ghost use Rattle.slices.specs.Choice.{firstOf};
-ghost use Rattle.answer_cryptogram.specs.Cryptogram.{informationOf, cryptogramOf, cryptogramWrong, cryptogramLines};
-ghost use Rattle.answer_cryptogram.specs.Cryptogram.{cryptogramReason, allows as allowsOf};
+ghost use Rattle.decide_cryptogram.specs.Cryptograms.{allowedBy};
+ghost use Rattle.answer_cryptogram.specs.Cryptogram.{informationOf, cryptogramOf, cryptogramWrong, cryptogramLines, cryptogramReason};
 
 const NAMES: [usize; 4] = [0x9F27, 0x9F36, 0x9F26, 0x9F10];
 
 const MANDATORY: [usize; 3] = [0x9F27, 0x9F36, 0x9F26];
-
-// The types that a request allows.
-pub struct Allowed {
-    pub aac: bool,
-    pub tc: bool,
-    pub arqc: bool,
-}
-
-fn allows(allowed: Allowed, kind: usize) -> bool
-    ensures { λ r. ⌜ r ≡ allowsOf allowed kind ⌝ }
-{
-    match kind {
-        0 => allowed.aac,
-        1 => allowed.tc,
-        2 => allowed.arqc,
-        _ => false,
-    }
-}
 
 // Bytes that begin with that of 9F27.
 fn information(answer: &[u8]) -> &[u8]
@@ -47,11 +33,10 @@ fn information(answer: &[u8]) -> &[u8]
     }
 }
 
-// The cryptogram's type: 0 AAC, 1 TC, 2 ARQC, 3 none of them.
-pub fn cryptogram(answer: &[u8]) -> usize
+pub fn cryptogram(answer: &[u8]) -> Given
     ensures { λ r. ⌜ r ≡ cryptogramOf (now (answer .entry)) ⌝ }
 {
-    byte(information(answer), 0) / 64
+    given_by(byte(information(answer), 0) as u8)
 }
 
 fn is_wrong(answer: &[u8]) -> bool
@@ -70,8 +55,8 @@ fn is_wrong(answer: &[u8]) -> bool
 }
 
 // Reasons 4 to 10; 0 where none of them applies.
-fn content_reason(allowed: Allowed, answer: &[u8]) -> usize
-    ensures { λ r. ⌜ r ≡ firstOf (cryptogramLines (allowsOf allowed) (now (answer .entry))) ⌝ }
+fn content_reason(request: Request, answer: &[u8]) -> usize
+    ensures { λ r. ⌜ r ≡ firstOf (cryptogramLines (allowedBy request) (now (answer .entry))) ⌝ }
 {
     let names = NAMES;
     let mandatory = MANDATORY;
@@ -84,20 +69,20 @@ fn content_reason(allowed: Allowed, answer: &[u8]) -> usize
     if lacks(answer, &mandatory) {
         return 8;
     }
-    if !allows(allowed, cryptogram(answer)) {
+    if !allowed(request, cryptogram(answer)) {
         return 10;
     }
     0
 }
 
 // The lowest reason that applies; 0 where none does.
-pub fn cryptogram_reason(allowed: Allowed, answer: &[u8]) -> usize
-    ensures { λ r. ⌜ r ≡ cryptogramReason (allowsOf allowed) (now (answer .entry)) ⌝ }
+pub fn cryptogram_reason(request: Request, answer: &[u8]) -> usize
+    ensures { λ r. ⌜ r ≡ cryptogramReason (allowedBy request) (now (answer .entry)) ⌝ }
 {
     let expected = [TEMPLATE, JOINED];
     let why = frame_reason(answer, &expected);
     if why != 0 {
         return why;
     }
-    content_reason(allowed, answer)
+    content_reason(request, answer)
 }

@@ -30,6 +30,7 @@ use Rattle.answer_select.specs.Select.{selectTag, selectNames, innerNames, inne
 use Rattle.answer_select.specs.Select.{selectLines, selectReason}
 use Rattle.answer_gpo.specs.Options.{optionNames, profileOf, locatorOf, optionsWrong, optionsLines, optionsReason}
 use Rattle.answer_record.specs.Records.{again, anyAgain, recordTwice, recordLines, recordReason, valueIn, incomplete, completeReason}
+use Rattle.decide_cryptogram.specs.declared.Given.{Given}
 use Rattle.answer_cryptogram.specs.Cryptogram.{cryptogramOf, cryptogramLines, cryptogramReason}
 
 -- the first lines pass, and so do the others
@@ -196,7 +197,7 @@ module _ (there : ℕ → Bool) (list : List ℕ) (e : completeReason there list
   pub complete-list : fillable list ≡ true
   complete-list = not-false _ (complete-clear .1 .0)
 
-module _ (allowed : ℕ → Bool) (a : List ℕ) (e : cryptogramReason allowed a ≡ 0) where
+module _ (allowed : Given → Bool) (a : List ℕ) (e : cryptogramReason allowed a ≡ 0) where
   pub cryptogram-clear : AllClear (frame bothForms a) × AllClear (cryptogramLines allowed a)
   unfolding cryptogramReason cryptogramLines
   cryptogram-clear =

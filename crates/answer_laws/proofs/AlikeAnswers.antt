@@ -5,7 +5,7 @@ use mathlib.Core.Path.{_≡_, refl, sym, ap, ap₂, _∙_}
 use mathlib.Core.Bool.{Bool, true, false, not, _&&_, _||_, false≢true}
 use mathlib.Core.List.{List, [], _∷_, _++_, map}
 use mathlib.Core.Option.{Option}
-use Prim.Native.Nat.{ℕ, _/_}
+use Prim.Native.Nat.{ℕ}
 use lib.Dec.{eqb}
 use lib.ListN.{take, drop, length, getD}
 use Rattle.slices.specs.Choice.{pick, firstOf}
@@ -29,6 +29,8 @@ use Rattle.answer_select.specs.Select.{selectTag, selectNames, innerNames, inne
 use Rattle.answer_select.specs.Select.{selectLines, selectReason}
 use Rattle.answer_gpo.specs.Options.{optionNames, profileOf, locatorOf, optionsWrong, optionsLines, optionsReason}
 use Rattle.answer_record.specs.Records.{again, anyAgain, recordTwice, recordLines, recordReason, valueIn}
+use Rattle.decide_cryptogram.specs.Cryptograms.{givenBy}
+use Rattle.decide_cryptogram.specs.declared.Given.{Given}
 use Rattle.answer_cryptogram.specs.Cryptogram.{mandatoryNames, cryptogramNames, informationOf, cryptogramOf, cryptogramWrong}
 use Rattle.answer_cryptogram.specs.Cryptogram.{cryptogramLines, cryptogramReason}
 use Rattle.answer_laws.specs.AlikeAnswers.{SameNamed, SelectAlike, FormAlike}
@@ -135,11 +137,11 @@ module _ (a b : List ℕ) (same : FormAlike optionNames a b) where
       (one-more 7 _ _ (ap tooMany afl)
       (one-more 8 [] [] (lacks-same optionNames a b same optionNames (λ name l. l)) refl)))))
 
-module _ (allowed : ℕ → Bool) (a b : List ℕ) (same : FormAlike cryptogramNames a b) where
+module _ (allowed : Given → Bool) (a b : List ℕ) (same : FormAlike cryptogramNames a b) where
   pub cryptogram-facts : cryptogramOf a ≡ cryptogramOf b
   unfolding cryptogramOf informationOf listed anyOf pick
   cryptogram-facts =
-      ap (λ (v : List ℕ). getD v 0 0 / 64)
+      ap (λ (v : List ℕ). givenBy (getD v 0 0))
       (by-form (same .is-joined) (same .values) (ap valueOf (in-form cryptogramNames a b same 0x9F27 refl)))
 
   pub cryptogram-alike : cryptogramReason allowed a ≡ cryptogramReason allowed b
@@ -150,4 +152,4 @@ module _ (allowed : ℕ → Bool) (a b : List ℕ) (same : FormAlike cryptogramN
       (one-more 5 _ _ (ap₂ _||_ (wrong-alike cryptogramNames _ _ (in-form cryptogramNames a b same))
       (ap₂ (λ (t : Bool) (v : List ℕ). t && not (between 11 43 (length v))) (same .is-joined) (same .values)))
       (one-more 8 _ _ (lacks-same cryptogramNames a b same mandatoryNames named-too)
-      (one-more 10 [] [] (ap (λ (k : ℕ). not (allowed k)) cryptogram-facts) refl))))
+      (one-more 10 [] [] (ap (λ (given : Given). not (allowed given)) cryptogram-facts) refl))))

@@ -5,7 +5,7 @@ use mathlib.Core.Path.{_≡_, refl, sym, ap, ap₂, _∙_}
 use mathlib.Core.Bool.{Bool, true, false, not, _||_, or-false}
 use mathlib.Core.List.{List, [], _++_}
 use mathlib.Core.Logic.{_⊎_, inl, inr}
-use Prim.Native.Nat.{ℕ, _+_, _/_}
+use Prim.Native.Nat.{ℕ, _+_}
 use native.Mathlib.Omega.{arith}
 use lib.Dec.{ltb, eqb}
 use lib.ListN.{length, getD, length-append, List·getD-append}
@@ -24,6 +24,8 @@ use Rattle.answer_common.proofs.Present.{of-size}
 use Rattle.answer_common.proofs.Limits.{between-in, between-above}
 use Rattle.answer_common.proofs.Alike.{frame-alike}
 use Rattle.answer_common.specs.Forms.{template, joined, bothForms, lacks}
+use Rattle.decide_cryptogram.specs.Cryptograms.{givenBy}
+use Rattle.decide_cryptogram.specs.declared.Given.{Given}
 use Rattle.answer_cryptogram.specs.Cryptogram.{mandatoryNames, cryptogramNames, informationOf, cryptogramOf, cryptogramWrong}
 use Rattle.answer_cryptogram.specs.Cryptogram.{cryptogramLines, cryptogramReason}
 use Rattle.answer_common.proofs.Absent.{not-direct, one-form}
@@ -44,13 +46,13 @@ module _ (a b information counter cryptogram issuer : List ℕ) (same : SameCryp
   not-template : isOne template a ≡ false
   not-template = one-form joined template a (λ e. omega arith) (same .is-joined)
 
-  -- both tell the type of cryptogram that stands in 9F27's byte
-  pub same-type : (cryptogramOf a ≡ getD information 0 0 / 64) × (cryptogramOf b ≡ getD information 0 0 / 64)
+  -- both give what 9F27's byte gives
+  pub same-type : (cryptogramOf a ≡ givenBy (getD information 0 0)) × (cryptogramOf b ≡ givenBy (getD information 0 0))
   unfolding cryptogramOf informationOf valueOf told
   same-type = (
-    ap (λ (v : List ℕ). getD v 0 0 / 64) (pick-yes _ _ _ (same .is-joined) ∙ same .values)
-        ∙ ap (λ (n : ℕ). n / 64) (List·getD-append information _ 0 0 (let size = same .one-byte in omega arith)),
-    ap (λ (v : List ℕ). getD v 0 0 / 64) (pick-no _ _ _ not-joined ∙ ap valueOf (same .information-told)),
+    ap (λ (v : List ℕ). givenBy (getD v 0 0)) (pick-yes _ _ _ (same .is-joined) ∙ same .values)
+        ∙ ap givenBy (List·getD-append information _ 0 0 (let size = same .one-byte in omega arith)),
+    ap (λ (v : List ℕ). givenBy (getD v 0 0)) (pick-no _ _ _ not-joined ∙ ap valueOf (same .information-told)),
   )
 
   joined-size : length (inside joined a) ≡ 11 + length issuer
@@ -142,10 +144,10 @@ module _ (a b information counter cryptogram issuer : List ℕ) (same : SameCryp
       (and-yes refl _ (same .is-template)
       ∙ three-there (λ x y z. pick (eqb (times x) 0) true (pick (eqb (times y) 0) true (pick (eqb (times z) 0) true false))))
 
-  pub same-cryptogram : (allowed : ℕ → Bool) → cryptogramReason allowed a ≡ cryptogramReason allowed b
+  pub same-cryptogram : (allowed : Given → Bool) → cryptogramReason allowed a ≡ cryptogramReason allowed b
   unfolding cryptogramReason cryptogramLines
   same-cryptogram allowed =
       frame-alike bothForms a b (same .frames) _ _
       (one-more 4 _ _ same-twice
       (one-more 5 _ _ (wrong-joined ∙ sym wrong-template)
-      (one-more 8 _ _ same-lacks (one-more 10 [] [] (ap (λ (k : ℕ). not (allowed k)) (same-type .0 ∙ sym (same-type .1))) refl))))
+      (one-more 8 _ _ same-lacks (one-more 10 [] [] (ap (λ (given : Given). not (allowed given)) (same-type .0 ∙ sym (same-type .1))) refl))))

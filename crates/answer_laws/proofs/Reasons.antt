@@ -16,6 +16,7 @@ use Rattle.slices.specs.Tables.{anyOf}
 use Rattle.answer_select.specs.Select.{selectLines, selectReason}
 use Rattle.answer_gpo.specs.Options.{optionsLines, optionsReason}
 use Rattle.answer_record.specs.Records.{recordLines, recordReason, incomplete, completeReason, afterRecords}
+use Rattle.decide_cryptogram.specs.declared.Given.{Given}
 use Rattle.answer_cryptogram.specs.Cryptogram.{cryptogramLines, cryptogramReason}
 
 small : (lines : List (Bool × ℕ)) → anyOf (map (λ l. leb 256 (l .1)) lines) ≡ false → firstOf lines < 256
@@ -41,7 +42,7 @@ pub record-small : (names : List ℕ) (before : ℕ → Bool) (a : List ℕ) →
 unfolding recordReason frame recordLines anyOf pick
 record-small names before a = small _ refl
 
-pub cryptogram-small : (allowed : ℕ → Bool) (a : List ℕ) → cryptogramReason allowed a < 256
+pub cryptogram-small : (allowed : Given → Bool) (a : List ℕ) → cryptogramReason allowed a < 256
 unfolding cryptogramReason frame cryptogramLines anyOf pick
 cryptogram-small allowed a = small _ refl
 

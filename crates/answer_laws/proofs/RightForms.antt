@@ -26,6 +26,7 @@ use Rattle.answer_common.proofs.Accepted.{or-clear}
 use Rattle.answer_common.proofs.Present.{of-size, there-so, may-be-so, must-be, may-be, none-twice, none-wrong, none-missing, by-name}
 use Rattle.answer_common.specs.Forms.{template, joined, bothForms, lacks}
 use Rattle.answer_gpo.specs.Options.{optionNames, locatorOf, optionsWrong, optionsLines, optionsReason}
+use Rattle.decide_cryptogram.specs.declared.Given.{Given}
 use Rattle.answer_cryptogram.specs.Cryptogram.{mandatoryNames, cryptogramNames, cryptogramOf, cryptogramWrong, cryptogramLines}
 use Rattle.answer_cryptogram.specs.Cryptogram.{cryptogramReason}
 use Rattle.answer_common.proofs.Absent.{not-direct, one-form}
@@ -114,7 +115,7 @@ module _ (a : List ℕ) where
   pub options-exactly : (optionsReason a ≡ 0) ↔ RightOptions a
   options-exactly = (options-right, right-options)
 
-module _ (allowed : ℕ → Bool) (a : List ℕ) where
+module _ (allowed : Given → Bool) (a : List ℕ) where
   cryptogram-apart : cryptogramReason allowed a ≡ 0 → isOne template a ≡ true → CryptogramApart a
   unfolding cryptogramLines cryptogramWrong lacks listed anyOf ruleFor rules beside pick
   cryptogram-apart e y =

@@ -12,6 +12,7 @@ use Rattle.answer_common.specs.Named.{direct}
 use Rattle.answer_common.specs.Right.{Framed, There, MayBe, Sized}
 use Rattle.answer_common.specs.Forms.{template, joined, bothForms}
 use Rattle.answer_gpo.specs.Options.{locatorOf}
+use Rattle.decide_cryptogram.specs.declared.Given.{Given}
 use Rattle.answer_cryptogram.specs.Cryptogram.{cryptogramOf}
 
 -- GPO: 77 with 82 and 94, or 80 with both values joined
@@ -38,7 +39,7 @@ pub record CryptogramApart (a : List ℕ) : Type 0 where
 abbrev pub CryptogramJoined : List ℕ → Type 0
 CryptogramJoined a = (isOne joined a ≡ true) × Sized 11 43 (inside joined a)
 
-pub record RightCryptogram (allowed : ℕ → Bool) (a : List ℕ) : Type 0 where
+pub record RightCryptogram (allowed : Given → Bool) (a : List ℕ) : Type 0 where
   pub framed : Framed bothForms a
   pub told : CryptogramApart a ⊎ CryptogramJoined a
   pub as-asked : allowed (cryptogramOf a) ≡ true

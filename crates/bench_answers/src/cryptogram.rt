@@ -1,10 +1,8 @@
 // Answers to GENERATE AC.
-use answer_cryptogram::Allowed;
 use answer_cryptogram::cryptogram_reason;
-use decide_requests::requests::Cryptogram;
-use decide_requests::requests::Given;
-use decide_requests::requests::first_allowed;
-use decide_requests::requests::second_allowed;
+use decide_cryptogram::Cryptogram;
+use decide_cryptogram::Given;
+use decide_cryptogram::Request;
 use slices::byte;
 use text_hex::unhex;
 use text_lines::after_word;
@@ -15,9 +13,9 @@ pub fn answer(turn: u8, words: &[u8]) {
     let n = unhex(after_word(words), &mut bytes);
     let asked = request(words);
     if turn == b'1' {
-        print_answer(allowed_first(asked), &bytes[0..n]);
+        print_answer(Request::First(asked), &bytes[0..n]);
     } else {
-        print_answer(allowed_second(asked), &bytes[0..n]);
+        print_answer(Request::Second(asked), &bytes[0..n]);
     }
 }
 
@@ -30,35 +28,21 @@ fn request(word: &[u8]) -> Cryptogram {
     }
 }
 
-fn allowed_first(asked: Cryptogram) -> Allowed {
-    Allowed {
-        aac: first_allowed(asked, Given::Of(Cryptogram::Aac)),
-        tc: first_allowed(asked, Given::Of(Cryptogram::Tc)),
-        arqc: first_allowed(asked, Given::Of(Cryptogram::Arqc)),
-    }
-}
-
-fn allowed_second(asked: Cryptogram) -> Allowed {
-    Allowed {
-        aac: second_allowed(asked, Given::Of(Cryptogram::Aac)),
-        tc: second_allowed(asked, Given::Of(Cryptogram::Tc)),
-        arqc: second_allowed(asked, Given::Of(Cryptogram::Arqc)),
-    }
-}
-
-fn print_answer(allowed: Allowed, answer: &[u8]) {
-    let why = cryptogram_reason(allowed, answer);
+fn print_answer(request: Request, answer: &[u8]) {
+    let why = cryptogram_reason(request, answer);
     text_print::number(why);
     if why == 0 {
         print_type(answer_cryptogram::cryptogram(answer));
     }
 }
 
-fn print_type(kind: usize) {
-    match kind {
-        0 => text_print::text(b" AAC"),
-        1 => text_print::text(b" TC"),
-        2 => text_print::text(b" ARQC"),
-        _ => text_print::text(b" ?"),
+fn print_type(given: Given) {
+    match given {
+        Given::Of(cryptogram) => match cryptogram {
+            Cryptogram::Aac => text_print::text(b" AAC"),
+            Cryptogram::Tc => text_print::text(b" TC"),
+            Cryptogram::Arqc => text_print::text(b" ARQC"),
+        },
+        Given::Reserved => text_print::text(b" ?"),
     }
 }

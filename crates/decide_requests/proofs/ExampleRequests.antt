@@ -1,7 +1,6 @@
--- The requests, the answers that they allow and the issuer's reply on named cases: 01's case L, the errors seen in approved
--- products, and every case of the small tables. Everything here is computed. Assumes nothing.
+-- The requests and the issuer's reply on named cases: 01's case L, the errors seen in approved products, and every case of the
+-- small tables. Everything here is computed. Assumes nothing.
 use mathlib.Core.Path.{_≡_, refl}
-use mathlib.Core.Bool.{Bool, true, false}
 use mathlib.Core.List.{List, [], _∷_, map}
 use mathlib.Core.Option.{Option, some, none}
 use Prim.Native.Nat.{ℕ}
@@ -14,14 +13,12 @@ use Rattle.decide_requests.specs.declared.reply.HostReply.{HostReply}
 use Rattle.decide_requests.specs.declared.reply.HostReply.the-variants.{Approve, Decline, Unable}
 use Rattle.decide_requests.specs.declared.reply.HostHeard.{HostHeard}
 use Rattle.decide_requests.specs.declared.reply.HostHeard.the-variants.{Said, Nothing}
-use Rattle.decide_requests.specs.declared.requests.Cryptogram.{Cryptogram}
-use Rattle.decide_requests.specs.declared.requests.Cryptogram.the-variants.{Aac, Tc, Arqc}
-use Rattle.decide_requests.specs.declared.requests.Given.{Given}
-use Rattle.decide_requests.specs.declared.requests.Given.the-variants.{Of, Reserved}
+use Rattle.decide_cryptogram.specs.declared.Cryptogram.{Cryptogram}
+use Rattle.decide_cryptogram.specs.declared.Cryptogram.the-variants.{Aac, Tc, Arqc}
 use Rattle.decide_tvr.specs.Bits.{joined, meet}
 use Rattle.slices.specs.Tables.{beside}
 use Rattle.session_records.specs.Slots.{Facts}
-use Rattle.decide_requests.specs.Requests.{issuerCode, codeMatch, byType, firstRequest, whenUnable, secondRequest, p1Of, givenBy, firstAllowed, secondAllowed}
+use Rattle.decide_requests.specs.Requests.{issuerCode, codeMatch, byType, firstRequest, whenUnable, secondRequest}
 use Rattle.decide_requests.specs.Replies.{codeIn, saidBy, replyOf, responseCode}
 
 -- ---- requests
@@ -83,32 +80,6 @@ seconds =
 seconds-right : map (λ row. secondRequest (row .0) (row .1) (row .2) (row .3)) seconds ≡ map (λ row. row .4) seconds
 unfolding secondRequest whenUnable codeMatch issuerCode joined meet beside pick
 seconds-right = refl
-
-p1s : map p1Of (Aac ∷ Tc ∷ Arqc ∷ []) ≡ 0x00 ∷ 0x40 ∷ 0x80 ∷ []
-p1s = refl
-
--- ---- answers
-
--- the top two bits count, and the other six are free
-givens : map givenBy (0x00 ∷ 0x3F ∷ 0x40 ∷ 0x7F ∷ 0x80 ∷ 0xBF ∷ 0xC0 ∷ 0xFF ∷ [])
-    ≡ Of Aac ∷ Of Aac ∷ Of Tc ∷ Of Tc ∷ Of Arqc ∷ Of Arqc ∷ Reserved ∷ Reserved ∷ []
-unfolding givenBy pick
-givens = refl
-
--- what each of TC, ARQC, AAC and the reserved type is as an answer
-abbrev answers : (Given → Bool) → List Bool
-answers allowed = map allowed (Of Tc ∷ Of Arqc ∷ Of Aac ∷ Reserved ∷ [])
-
-first-answers : map (λ asked. answers (firstAllowed asked)) (Tc ∷ Arqc ∷ Aac ∷ [])
-    ≡ (true ∷ true ∷ true ∷ false ∷ [])
-    ∷ (false ∷ true ∷ true ∷ false ∷ [])
-    ∷ (false ∷ false ∷ true ∷ false ∷ [])
-    ∷ []
-first-answers = refl
-
-second-answers : map (λ asked. answers (secondAllowed asked)) (Tc ∷ Aac ∷ [])
-    ≡ (true ∷ false ∷ true ∷ false ∷ []) ∷ (false ∷ false ∷ true ∷ false ∷ []) ∷ []
-second-answers = refl
 
 -- ---- the issuer's reply
 

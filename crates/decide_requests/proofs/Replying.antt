@@ -4,8 +4,8 @@ use mathlib.Core.List.{List}
 use Prim.Native.Nat.{ℕ}
 use Rattle.decide_requests.specs.Replies.{responseCode}
 use Rattle.decide_requests.specs.declared.reply.HostReply.the-variants.{Unable}
-use Rattle.decide_requests.specs.declared.requests.Cryptogram.{Cryptogram}
-use Rattle.decide_requests.specs.declared.requests.Cryptogram.the-variants.{Aac, Tc, Arqc}
+use Rattle.decide_cryptogram.specs.declared.Cryptogram.{Cryptogram}
+use Rattle.decide_cryptogram.specs.declared.Cryptogram.the-variants.{Aac, Tc, Arqc}
 
 -- beside 'unable' the issuer's code does not count
 pub unable-code : (request : Cryptogram) (x y : List ℕ) → responseCode Unable request x ≡ responseCode Unable request y

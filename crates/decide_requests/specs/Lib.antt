@@ -1,3 +1,3 @@
--- From TVR and action codes to a decision, as document 01 has it: requests, the answers that they allow, the issuer's reply.
+-- From TVR and action codes to a decision, as document 01 has it: requests, the issuer's reply.
 pub mod Requests
 pub mod Replies

@@ -11,8 +11,8 @@ use Rattle.decide_requests.specs.declared.reply.HostReply.{HostReply}
 use Rattle.decide_requests.specs.declared.reply.HostReply.the-variants.{Approve, Decline, Unable}
 use Rattle.decide_requests.specs.declared.reply.HostHeard.{HostHeard}
 use Rattle.decide_requests.specs.declared.reply.HostHeard.the-variants.{Said, Nothing}
-use Rattle.decide_requests.specs.declared.requests.Cryptogram.{Cryptogram}
-use Rattle.decide_requests.specs.declared.requests.Cryptogram.the-variants.{Aac, Tc, Arqc}
+use Rattle.decide_cryptogram.specs.declared.Cryptogram.{Cryptogram}
+use Rattle.decide_cryptogram.specs.declared.Cryptogram.the-variants.{Aac, Tc, Arqc}
 
 -- the two bytes after the first
 unfoldable pub codeIn : List ℕ → List ℕ

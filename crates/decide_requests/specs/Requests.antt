@@ -1,19 +1,17 @@
--- What the terminal asks of the card, and which answers a request allows: 01, "From facts to a decision", and 003, 7.7.
+-- What the terminal asks of the card: 01, "From facts to a decision", and 003, 7.7.
 -- Assumes nothing.
-use mathlib.Core.Bool.{Bool, true, false}
+use mathlib.Core.Bool.{Bool}
 use mathlib.Core.List.{List}
 use mathlib.Core.Option.{Option, some, none}
-use Prim.Native.Nat.{ℕ, _/_}
+use Prim.Native.Nat.{ℕ}
 use lib.Dec.{eqb}
 use lib.ListN.{replicate}
 use Rattle.slices.specs.Choice.{pick}
 use Rattle.start_fields.specs.Reading.{Terminal}
 use Rattle.decide_requests.specs.declared.reply.HostReply.{HostReply}
 use Rattle.decide_requests.specs.declared.reply.HostReply.the-variants.{Approve, Decline, Unable}
-use Rattle.decide_requests.specs.declared.requests.Cryptogram.{Cryptogram}
-use Rattle.decide_requests.specs.declared.requests.Cryptogram.the-variants.{Aac, Tc, Arqc}
-use Rattle.decide_requests.specs.declared.requests.Given.{Given}
-use Rattle.decide_requests.specs.declared.requests.Given.the-variants.{Of, Reserved}
+use Rattle.decide_cryptogram.specs.declared.Cryptogram.{Cryptogram}
+use Rattle.decide_cryptogram.specs.declared.Cryptogram.the-variants.{Aac, Tc, Arqc}
 use Rattle.decide_tvr.specs.Bits.{joined, meet}
 use Rattle.session_records.specs.Slots.{Facts}
 
@@ -58,42 +56,3 @@ unfoldable pub secondRequest : HostReply → Terminal → Facts → List ℕ →
 secondRequest Approve t told tvr = Tc
 secondRequest Decline t told tvr = Aac
 secondRequest Unable t told tvr = whenUnable (t .kind) (defaultMatch t told tvr)
-
--- P1 of GENERATE AC: 01, "The commands"
-abbrev pub p1Of : Cryptogram → ℕ
-p1Of Aac = 0x00
-p1Of Tc = 0x40
-p1Of Arqc = 0x80
-
--- the cryptogram that an answer gives, by the top two bits of 9F27: 01, "What the card must answer"
-unfoldable pub givenBy : ℕ → Given
-givenBy cid =
-    pick (eqb (cid / 64) 0) (Of Aac)
-    (pick (eqb (cid / 64) 1) (Of Tc)
-    (pick (eqb (cid / 64) 2) (Of Arqc) Reserved))
-
--- the first answer: to TC any, to ARQC no TC, to AAC an AAC
-abbrev pub answersFirst : Cryptogram → Cryptogram → Bool
-answersFirst Tc given = true
-answersFirst Arqc Tc = false
-answersFirst Arqc Arqc = true
-answersFirst Arqc Aac = true
-answersFirst Aac Tc = false
-answersFirst Aac Arqc = false
-answersFirst Aac Aac = true
-
-abbrev pub firstAllowed : Cryptogram → Given → Bool
-firstAllowed asked (Of given) = answersFirst asked given
-firstAllowed asked Reserved = false
-
--- the second answer: an AAC, or a TC where one was asked for
-abbrev pub answersSecond : Cryptogram → Cryptogram → Bool
-answersSecond asked Aac = true
-answersSecond asked Arqc = false
-answersSecond Tc Tc = true
-answersSecond Arqc Tc = false
-answersSecond Aac Tc = false
-
-abbrev pub secondAllowed : Cryptogram → Given → Bool
-secondAllowed asked (Of given) = answersSecond asked given
-secondAllowed asked Reserved = false

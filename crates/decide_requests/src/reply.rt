@@ -2,7 +2,7 @@
 ghost use mathlib.Core.Path.{_≡_};
 ghost use Rattle.decimal_dates.specs.Decimal.{zerosOnly};
 ghost use Rattle.decide_requests.specs.Replies.{codeIn, replyOf, isReply, responseCode};
-use super::requests::Cryptogram;
+use decide_cryptogram::Cryptogram;
 
 pub enum HostReply {
     Approve,

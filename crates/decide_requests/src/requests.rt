@@ -1,28 +1,17 @@
-// What the terminal asks of the card, and which answers a request allows.
+// What the terminal asks of the card.
 ghost use mathlib.Core.Path.{_≡_};
 ghost use Rattle.start_fields.specs.Reading.{readingOf, bytesOf};
 ghost use Rattle.session_records.specs.Slots.{toldIn};
 ghost use Rattle.decide_tvr.specs.Bits.{meet};
-ghost use Rattle.decide_requests.specs.Requests.{issuerCode, codeMatch, denialMatch, onlineMatch, defaultMatch, byType, firstRequest, whenUnable, secondRequest, p1Of, givenBy, answersFirst, firstAllowed, answersSecond, secondAllowed};
+ghost use Rattle.decide_requests.specs.Requests.{issuerCode, codeMatch, denialMatch, onlineMatch, defaultMatch};
+ghost use Rattle.decide_requests.specs.Requests.{byType, firstRequest, whenUnable, secondRequest};
 use super::reply::HostReply;
+use decide_cryptogram::Cryptogram;
 use decide_tvr::bits;
 use session_records::slots::has;
 use session_records::slots::value;
 use start_fields::fields;
 use start_fields::fields::Field;
-
-// A cryptogram, asked for or given.
-pub enum Cryptogram {
-    Aac,
-    Tc,
-    Arqc,
-}
-
-// What 9F27 says: a cryptogram, or the type that stands for none.
-pub enum Given {
-    Of(Cryptogram),
-    Reserved,
-}
 
 // Whether the TVR has a bit of the issuer's code, as the records told it; one that is absent is five bytes of `absent`.
 fn issuer_match(told: &[u8], tag: usize, absent: u8, tvr: [u8; 5]) -> bool
@@ -119,77 +108,5 @@ pub fn second_request(reply: HostReply, start: &[u8], told: &[u8], tvr: [u8; 5])
             let default = default_match(start, told, tvr);
             when_unable(fields::kind(start), default)
         }
-    }
-}
-
-// P1 of GENERATE AC.
-pub fn p1(asked: Cryptogram) -> u8
-    ensures { λ r. ⌜ r ≡ p1Of asked ⌝ }
-{
-    match asked {
-        Cryptogram::Aac => 0x00,
-        Cryptogram::Tc => 0x40,
-        Cryptogram::Arqc => 0x80,
-    }
-}
-
-pub fn given_by(cid: u8) -> Given
-    ensures { λ r. ⌜ r ≡ givenBy cid ⌝ }
-{
-    match cid / 64 {
-        0 => Given::Of(Cryptogram::Aac),
-        1 => Given::Of(Cryptogram::Tc),
-        2 => Given::Of(Cryptogram::Arqc),
-        _ => Given::Reserved,
-    }
-}
-
-fn answers_first(asked: Cryptogram, answer: Cryptogram) -> bool
-    ensures { λ r. ⌜ r ≡ answersFirst asked answer ⌝ }
-{
-    match asked {
-        Cryptogram::Tc => true,
-        Cryptogram::Arqc => match answer {
-            Cryptogram::Tc => false,
-            Cryptogram::Arqc => true,
-            Cryptogram::Aac => true,
-        },
-        Cryptogram::Aac => match answer {
-            Cryptogram::Tc => false,
-            Cryptogram::Arqc => false,
-            Cryptogram::Aac => true,
-        },
-    }
-}
-
-pub fn first_allowed(asked: Cryptogram, answer: Given) -> bool
-    ensures { λ r. ⌜ r ≡ firstAllowed asked answer ⌝ }
-{
-    match answer {
-        Given::Of(cryptogram) => answers_first(asked, cryptogram),
-        Given::Reserved => false,
-    }
-}
-
-fn answers_second(asked: Cryptogram, answer: Cryptogram) -> bool
-    ensures { λ r. ⌜ r ≡ answersSecond asked answer ⌝ }
-{
-    match answer {
-        Cryptogram::Aac => true,
-        Cryptogram::Arqc => false,
-        Cryptogram::Tc => match asked {
-            Cryptogram::Tc => true,
-            Cryptogram::Arqc => false,
-            Cryptogram::Aac => false,
-        },
-    }
-}
-
-pub fn second_allowed(asked: Cryptogram, answer: Given) -> bool
-    ensures { λ r. ⌜ r ≡ secondAllowed asked answer ⌝ }
-{
-    match answer {
-        Given::Of(cryptogram) => answers_second(asked, cryptogram),
-        Given::Reserved => false,
     }
 }

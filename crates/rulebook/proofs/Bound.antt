@@ -17,6 +17,9 @@ use Rattle.answer_afl.specs.Entries.{mostRecords, toRead}
 use Rattle.answer_afl.proofs.Counting.{read-length}
 use Rattle.answer_gpo.specs.Options.{profileOf, locatorOf}
 use Rattle.answer_record.specs.Records.{afterRecords}
+use Rattle.decide_cryptogram.specs.declared.Cryptogram.the-variants.{Aac, Tc, Arqc}
+use Rattle.decide_cryptogram.specs.declared.Given.{Given}
+use Rattle.decide_cryptogram.specs.declared.Given.the-variants.{Of, Reserved}
 use Rattle.answer_cryptogram.specs.Cryptogram.{cryptogramOf}
 use Rattle.answer_laws.proofs.AcceptedAnswers.{options-entries}
 use Rattle.decide_verification.specs.Verification.{resultsDue}
@@ -83,11 +86,12 @@ module _ (s : Situation) where
   online-few =
       picked (λ (p : Phase). toCome p ≤ 4) _ _ _ (λ e. let h = replied-few Unable [] in omega arith) (λ e. omega arith)
 
-  by-first-few : (type : ℕ) → toCome (byFirst type s) ≤ 4
+  by-first-few : (given : Given) → toCome (byFirst given s) ≤ 4
   unfolding byFirst settled toCome
-  by-first-few type =
-      picked (λ (p : Phase). toCome p ≤ 4) (eqb type 1) _ _ (λ e. omega arith) (λ e.
-      picked (λ (p : Phase). toCome p ≤ 4) (eqb type 0) _ _ (λ f. omega arith) (λ f. online-few))
+  by-first-few (Of Tc) = omega arith
+  by-first-few (Of Aac) = omega arith
+  by-first-few (Of Arqc) = online-few
+  by-first-few Reserved = omega arith
 
 all-read-few : (s : Situation) → toCome (allRead s) ≤ afterLast
 unfolding allRead ended toCome

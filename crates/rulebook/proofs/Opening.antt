@@ -39,63 +39,64 @@ use Rattle.start_fields.specs.Reading.{readingOf as o105}
 use Rattle.start_valid.specs.Start.{validLength as o106, validKind as o107, validDigits as o108, validRandom as o109}
 use Rattle.start_valid.specs.Start.{validPercentages as o110, validThreshold as o111, validAid as o112, validStart as o113}
 use Rattle.start_valid.specs.Start.{terminalOf as o114, beginsSession as o115}
-use Rattle.answer_afl.specs.Cursor.{fromEntry as o116, entryAt as o117, start as o118, isLeft as o119, recordAt as o120}
-use Rattle.answer_afl.specs.Cursor.{stepped as o121, remaining as o122}
-use Rattle.answer_afl.specs.Entries.{firstEntry as o123, entries as o124, wholeEntries as o125, sfi as o126, records as o127}
-use Rattle.answer_afl.specs.Entries.{fileRight as o128, entryRight as o129, entriesRight as o130, recordsOf as o131}
-use Rattle.answer_afl.specs.Entries.{recordCount as o132, tooMany as o133, run as o134, readEntry as o135, readAll as o136}
-use Rattle.answer_afl.specs.Entries.{toRead as o137}
-use Rattle.answer_common.specs.Answer.{sizeBad as o138, statusBad as o139, only as o140, outer as o141, theOne as o142}
-use Rattle.answer_common.specs.Answer.{tagged as o143, valueUnder as o144, isOne as o145, inside as o146, outerBad as o147}
-use Rattle.answer_common.specs.Answer.{frame as o148}
-use Rattle.answer_common.specs.CardNumber.{halves as o149, digits as o150, onlyF as o151, cardNumber as o152}
-use Rattle.answer_common.specs.Content.{meets as o153, rowsFor as o154, namesFor as o155, rules as o156, ruleFor as o157}
-use Rattle.answer_common.specs.Content.{rightValue as o158}
-use Rattle.answer_common.specs.Forms.{lacks as o159}
-use Rattle.answer_common.specs.Named.{membersIn as o160, listed as o161, named as o162, among as o163, direct as o164}
-use Rattle.answer_common.specs.Named.{standing as o165, times as o166, told as o167, valueOf as o168, wrongValue as o169}
-use Rattle.answer_common.specs.Named.{anyTimes as o170, anyWrong as o171}
-use Rattle.session_records.specs.Runs.{noRun as o172, keptRun as o173, runHeld as o174, inRun as o175}
-use Rattle.session_records.specs.Slots.{orElse as o176, room as o177, nowhere as o178, placed as o179, total as o180}
-use Rattle.session_records.specs.Slots.{recordSlot as o181, slotFor as o182, cellIn as o183, read as o184, toldIn as o185}
-use Rattle.session_records.specs.Slots.{keptAt as o186, keptIn as o187, keptTold as o188, keptObjects as o189}
-use Rattle.session_records.specs.Slots.{keptPlaces as o190, full as o191, emptyStore as o192, told as o193, withRecord as o194}
-use Rattle.cvm_rules.specs.Conditions.{satisfied as o195}
-use Rattle.cvm_rules.specs.Methods.{methodOf as o196, supported as o197, succeeds as o198, pinBits as o199, triedBits as o200}
-use Rattle.cvm_rules.specs.Turns.{triedTurn as o201, tried as o202, turnOf as o203}
-use Rattle.cvm.specs.Lists.{limitOf as o204, limitX as o205, limitY as o206, rulesOf as o207, rulesIn as o208, isResult as o209}
-use Rattle.cvm.specs.Lists.{areResults as o210, inApplicationCurrency as o211}
-use Rattle.cvm.specs.Verified.{following as o212, verifiedFrom as o213, verified as o214}
-use Rattle.decide_tvr.specs.Bits.{joined as o215, meet as o216, flag as o217}
-use Rattle.decide_tvr.specs.Results.{differentVersions as o218, expired as o219, notYetEffective as o220, riskManaged as o221}
-use Rattle.decide_tvr.specs.Results.{atFloorLimit as o222, drawn as o223, restrictions as o224, risks as o225}
-use Rattle.decide_tvr.specs.Results.{tvrAfterRecords as o226, tsiAfterRecords as o227, tsiAfterFirstAnswer as o228}
-use Rattle.decide_tvr.specs.Selection.{biased as o229, chosen as o230, selected as o231}
-use Rattle.decide_requests.specs.Replies.{codeIn as o232, saidBy as o233, replyOf as o234, isReply as o235, responseCode as o236}
-use Rattle.decide_requests.specs.Requests.{issuerCode as o237, codeMatch as o238, byType as o239, firstRequest as o240}
-use Rattle.decide_requests.specs.Requests.{whenUnable as o241, secondRequest as o242, givenBy as o243}
-use Rattle.decide_verification.specs.Verification.{verificationSupported as o244, resultsDue as o245, verificationList as o246}
-use Rattle.decide_verification.specs.Verification.{resultsWanted as o247, circumstancesOf as o248, tvrAfterResults as o249}
-use Rattle.decide_verification.specs.Verification.{tsiAfterResults as o250}
-use Rattle.dol_wanted.specs.Wanted.{andThen as o251, sizeAt as o252, firstWanted as o253, asks as o254, wantedStep as o255}
-use Rattle.dol_wanted.specs.Wanted.{entriesOf as o256, total as o257, totalBy as o258, totalOf as o259, fits as o260}
-use Rattle.dol_wanted.specs.Wanted.{fillable as o261, tally as o262}
-use Rattle.dol_values.specs.Known.{ownField as o263, valueBy as o264, valueFor as o265, withFormat as o266, supplied as o267}
-use Rattle.dol_values.specs.Shape.{shaped as o268, formatOf as o269}
-use Rattle.dol_fill.specs.Filled.{entryBytes as o270, firstBytes as o271, filled as o272, filledBy as o273, filledList as o274}
-use Rattle.dol_fill.specs.Filled.{filling as o275, missing as o276, missingIn as o277, missingBy as o278, unsupplied as o279}
-use Rattle.dol_fill.specs.Filled.{summed as o280}
-use Rattle.commands.specs.Commands.{selectCommand as o281, optionsCommand as o282, recordCommand as o283, withLength as o284}
-use Rattle.commands.specs.Commands.{cryptogramCommand as o285, sizeIn as o286, dataSize as o287}
-use Rattle.answer_select.specs.Select.{inner as o288, pdolOf as o289, begins as o290, nameWrong as o291, selectTwice as o292}
-use Rattle.answer_select.specs.Select.{selectWrong as o293, selectLines as o294, selectReason as o295}
-use Rattle.answer_record.specs.Records.{again as o296, anyAgain as o297, recordTwice as o298, recordLines as o299}
-use Rattle.answer_record.specs.Records.{recordReason as o300, valueIn as o301, namedIn as o302, incomplete as o303}
-use Rattle.answer_record.specs.Records.{completeReason as o304, afterRecords as o305}
-use Rattle.answer_gpo.specs.Options.{profileOf as o306, locatorOf as o307, optionsWrong as o308, optionsLines as o309}
-use Rattle.answer_gpo.specs.Options.{optionsReason as o310}
-use Rattle.answer_cryptogram.specs.Cryptogram.{informationOf as o311, cryptogramOf as o312, cryptogramWrong as o313}
-use Rattle.answer_cryptogram.specs.Cryptogram.{cryptogramLines as o314, cryptogramReason as o315, allows as o316}
+use Rattle.decide_cryptogram.specs.Cryptograms.{givenBy as o116, allowedBy as o117}
+use Rattle.answer_afl.specs.Cursor.{fromEntry as o118, entryAt as o119, start as o120, isLeft as o121, recordAt as o122}
+use Rattle.answer_afl.specs.Cursor.{stepped as o123, remaining as o124}
+use Rattle.answer_afl.specs.Entries.{firstEntry as o125, entries as o126, wholeEntries as o127, sfi as o128, records as o129}
+use Rattle.answer_afl.specs.Entries.{fileRight as o130, entryRight as o131, entriesRight as o132, recordsOf as o133}
+use Rattle.answer_afl.specs.Entries.{recordCount as o134, tooMany as o135, run as o136, readEntry as o137, readAll as o138}
+use Rattle.answer_afl.specs.Entries.{toRead as o139}
+use Rattle.answer_common.specs.Answer.{sizeBad as o140, statusBad as o141, only as o142, outer as o143, theOne as o144}
+use Rattle.answer_common.specs.Answer.{tagged as o145, valueUnder as o146, isOne as o147, inside as o148, outerBad as o149}
+use Rattle.answer_common.specs.Answer.{frame as o150}
+use Rattle.answer_common.specs.CardNumber.{halves as o151, digits as o152, onlyF as o153, cardNumber as o154}
+use Rattle.answer_common.specs.Content.{meets as o155, rowsFor as o156, namesFor as o157, rules as o158, ruleFor as o159}
+use Rattle.answer_common.specs.Content.{rightValue as o160}
+use Rattle.answer_common.specs.Forms.{lacks as o161}
+use Rattle.answer_common.specs.Named.{membersIn as o162, listed as o163, named as o164, among as o165, direct as o166}
+use Rattle.answer_common.specs.Named.{standing as o167, times as o168, told as o169, valueOf as o170, wrongValue as o171}
+use Rattle.answer_common.specs.Named.{anyTimes as o172, anyWrong as o173}
+use Rattle.session_records.specs.Runs.{noRun as o174, keptRun as o175, runHeld as o176, inRun as o177}
+use Rattle.session_records.specs.Slots.{orElse as o178, room as o179, nowhere as o180, placed as o181, total as o182}
+use Rattle.session_records.specs.Slots.{recordSlot as o183, slotFor as o184, cellIn as o185, read as o186, toldIn as o187}
+use Rattle.session_records.specs.Slots.{keptAt as o188, keptIn as o189, keptTold as o190, keptObjects as o191}
+use Rattle.session_records.specs.Slots.{keptPlaces as o192, full as o193, emptyStore as o194, told as o195, withRecord as o196}
+use Rattle.cvm_rules.specs.Conditions.{satisfied as o197}
+use Rattle.cvm_rules.specs.Methods.{methodOf as o198, supported as o199, succeeds as o200, pinBits as o201, triedBits as o202}
+use Rattle.cvm_rules.specs.Turns.{triedTurn as o203, tried as o204, turnOf as o205}
+use Rattle.cvm.specs.Lists.{limitOf as o206, limitX as o207, limitY as o208, rulesOf as o209, rulesIn as o210, isResult as o211}
+use Rattle.cvm.specs.Lists.{areResults as o212, inApplicationCurrency as o213}
+use Rattle.cvm.specs.Verified.{following as o214, verifiedFrom as o215, verified as o216}
+use Rattle.decide_tvr.specs.Bits.{joined as o217, meet as o218, flag as o219}
+use Rattle.decide_tvr.specs.Results.{differentVersions as o220, expired as o221, notYetEffective as o222, riskManaged as o223}
+use Rattle.decide_tvr.specs.Results.{atFloorLimit as o224, drawn as o225, restrictions as o226, risks as o227}
+use Rattle.decide_tvr.specs.Results.{tvrAfterRecords as o228, tsiAfterRecords as o229, tsiAfterFirstAnswer as o230}
+use Rattle.decide_tvr.specs.Selection.{biased as o231, chosen as o232, selected as o233}
+use Rattle.decide_requests.specs.Replies.{codeIn as o234, saidBy as o235, replyOf as o236, isReply as o237, responseCode as o238}
+use Rattle.decide_requests.specs.Requests.{issuerCode as o239, codeMatch as o240, byType as o241, firstRequest as o242}
+use Rattle.decide_requests.specs.Requests.{whenUnable as o243, secondRequest as o244}
+use Rattle.decide_verification.specs.Verification.{verificationSupported as o245, resultsDue as o246, verificationList as o247}
+use Rattle.decide_verification.specs.Verification.{resultsWanted as o248, circumstancesOf as o249, tvrAfterResults as o250}
+use Rattle.decide_verification.specs.Verification.{tsiAfterResults as o251}
+use Rattle.dol_wanted.specs.Wanted.{andThen as o252, sizeAt as o253, firstWanted as o254, asks as o255, wantedStep as o256}
+use Rattle.dol_wanted.specs.Wanted.{entriesOf as o257, total as o258, totalBy as o259, totalOf as o260, fits as o261}
+use Rattle.dol_wanted.specs.Wanted.{fillable as o262, tally as o263}
+use Rattle.dol_values.specs.Known.{ownField as o264, valueBy as o265, valueFor as o266, withFormat as o267, supplied as o268}
+use Rattle.dol_values.specs.Shape.{shaped as o269, formatOf as o270}
+use Rattle.dol_fill.specs.Filled.{entryBytes as o271, firstBytes as o272, filled as o273, filledBy as o274, filledList as o275}
+use Rattle.dol_fill.specs.Filled.{filling as o276, missing as o277, missingIn as o278, missingBy as o279, unsupplied as o280}
+use Rattle.dol_fill.specs.Filled.{summed as o281}
+use Rattle.commands.specs.Commands.{selectCommand as o282, optionsCommand as o283, recordCommand as o284, withLength as o285}
+use Rattle.commands.specs.Commands.{cryptogramCommand as o286, sizeIn as o287, dataSize as o288}
+use Rattle.answer_select.specs.Select.{inner as o289, pdolOf as o290, begins as o291, nameWrong as o292, selectTwice as o293}
+use Rattle.answer_select.specs.Select.{selectWrong as o294, selectLines as o295, selectReason as o296}
+use Rattle.answer_record.specs.Records.{again as o297, anyAgain as o298, recordTwice as o299, recordLines as o300}
+use Rattle.answer_record.specs.Records.{recordReason as o301, valueIn as o302, namedIn as o303, incomplete as o304}
+use Rattle.answer_record.specs.Records.{completeReason as o305, afterRecords as o306}
+use Rattle.answer_gpo.specs.Options.{profileOf as o307, locatorOf as o308, optionsWrong as o309, optionsLines as o310}
+use Rattle.answer_gpo.specs.Options.{optionsReason as o311}
+use Rattle.answer_cryptogram.specs.Cryptogram.{informationOf as o312, cryptogramOf as o313, cryptogramWrong as o314}
+use Rattle.answer_cryptogram.specs.Cryptogram.{cryptogramLines as o315, cryptogramReason as o316}
 use Rattle.rulebook.specs.Machine.{due as o317, sayable as o318, next as o319, andOn as o320}
 use Rattle.rulebook.specs.Phase.{situationOf as o321, commandOf as o322, dueKind as o323, decisionOf as o324}
 use Rattle.rulebook.specs.Phase.{decided as o325, ended as o326, tvrOf as o327, tsiOf as o328}
@@ -105,9 +106,9 @@ use Rattle.rulebook.specs.Situation.{begun as o333, knownIn as o334, lis
 use Rattle.rulebook.specs.Turn.{goesOn as o336, opened as o337, selected as o338, managed as o339, requested as o340}
 use Rattle.rulebook.specs.Turn.{verifying as o341, allRead as o342, readOn as o343, withProfile as o344, optioned as o345}
 use Rattle.rulebook.specs.Turn.{withRecord as o346, recorded as o347, answered as o348, replied as o349, online as o350}
-use Rattle.rulebook.specs.Turn.{byFirst as o351, firstAllows as o352, secondAllows as o353, firstAnswered as o354}
-use Rattle.rulebook.specs.Turn.{secondAnswered as o355, turn as o356, allowed as o357, replyMade as o358, heard as o359}
-use Rattle.rulebook.specs.Turn.{verifiedBy as o360, after as o361}
+use Rattle.rulebook.specs.Turn.{byFirst as o351, firstAnswered as o352, bySecond as o353, secondAnswered as o354}
+use Rattle.rulebook.specs.Turn.{turn as o355, allowed as o356, replyMade as o357, heard as o358, verifiedBy as o359}
+use Rattle.rulebook.specs.Turn.{after as o360}
 
 -- the state that a session's entries lead to
 unfoldable pub reached : List Entry → Option Machine
@@ -124,5 +125,5 @@ unfolding o0 o1 o2 o3 o4 o5 o6 o7 o8 o9 o10 o11 o12 o13 o14 o15 o16 o17 o18 o19 
     o270 o271 o272 o273 o274 o275 o276 o277 o278 o279 o280 o281 o282 o283 o284 o285 o286 o287 o288 o289 o290 o291 o292 o293 o294
     o295 o296 o297 o298 o299 o300 o301 o302 o303 o304 o305 o306 o307 o308 o309 o310 o311 o312 o313 o314 o315 o316 o317 o318 o319
     o320 o321 o322 o323 o324 o325 o326 o327 o328 o329 o330 o331 o332 o333 o334 o335 o336 o337 o338 o339 o340 o341 o342 o343 o344
-    o345 o346 o347 o348 o349 o350 o351 o352 o353 o354 o355 o356 o357 o358 o359 o360 o361 run
+    o345 o346 o347 o348 o349 o350 o351 o352 o353 o354 o355 o356 o357 o358 o359 o360 run
 reached es = run es (at opens)

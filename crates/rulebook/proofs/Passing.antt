@@ -14,6 +14,11 @@ use Rattle.answer_gpo.specs.Options.{optionsReason, profileOf, locatorOf}
 use Rattle.answer_afl.specs.Entries.{toRead}
 use Rattle.answer_common.specs.Content.{namesFor}
 use Rattle.answer_record.specs.Records.{recordReason, afterRecords}
+use Rattle.decide_cryptogram.specs.Cryptograms.{allowedBy}
+use Rattle.decide_cryptogram.specs.declared.Cryptogram.the-variants.{Aac, Tc, Arqc}
+use Rattle.decide_cryptogram.specs.declared.Given.{Given}
+use Rattle.decide_cryptogram.specs.declared.Given.the-variants.{Of, Reserved}
+use Rattle.decide_cryptogram.specs.declared.Request.the-variants.{First, Second}
 use Rattle.answer_cryptogram.specs.Cryptogram.{cryptogramReason, cryptogramOf}
 use Rattle.decide_requests.specs.declared.reply.HostReply.{HostReply}
 use Rattle.decide_requests.specs.declared.reply.HostReply.the-variants.{Unable}
@@ -22,7 +27,7 @@ use Rattle.rulebook.specs.Situation.{Situation, listIn}
 use Rattle.rulebook.specs.Phase.{Asked, selecting, optioning, reading, first, second, terminal, issuer, attendant, Phase, asks, hears}
 use Rattle.rulebook.specs.Phase.{decides, situationOf, decided, ended, tvrOf, tsiOf}
 use Rattle.rulebook.specs.Turn.{goesOn, selected, managed, requested, verifying, allRead, readOn, withProfile, optioned, withRecord}
-use Rattle.rulebook.specs.Turn.{recorded, answered, replied, online, byFirst, firstAllows, secondAllows, firstAnswered, secondAnswered, turn}
+use Rattle.rulebook.specs.Turn.{recorded, answered, replied, online, byFirst, firstAnswered, secondAnswered, turn}
 
 -- where the results of cardholder verification are awaited: they are due, and nothing mandatory is missing
 pub record Awaited (s : Situation) : Type 0 where
@@ -75,12 +80,13 @@ module _ (Q : Situation → Type 0) where
     unfolding replied ended Holds situationOf
     replied-holds reply code = picked (Holds Q) (fillable (listIn s 0x8D)) _ _ (λ y. q) (λ n. q)
 
-    first-holds : (type : ℕ) → Holds Q (byFirst type s)
+    first-holds : (given : Given) → Holds Q (byFirst given s)
     unfolding byFirst decided online Holds
-    first-holds type =
-        picked (Holds Q) (eqb type 1) _ _ (λ y. q) (λ n.
-        picked (Holds Q) (eqb type 0) _ _ (λ y. q) (λ m.
-        picked (Holds Q) (eqb (s .terminal .kind) 0) _ (hears (issuer s)) (λ y. replied-holds Unable []) (λ l. q)))
+    first-holds (Of Tc) = q
+    first-holds (Of Aac) = q
+    first-holds (Of Arqc) =
+        picked (Holds Q) (eqb (s .terminal .kind) 0) _ (hears (issuer s)) (λ y. replied-holds Unable []) (λ l. q)
+    first-holds Reserved = q
 
   module _ (lasts : Lasting Q) where
     read-holds : (s : Situation) (rest : List (ℕ × ℕ)) → Q s → Holds Q (readOn s rest)
@@ -101,5 +107,5 @@ module _ (Q : Situation → Type 0) where
         goes-holds s q (recordReason (namesFor (s .terminal)) (λ tag. isSome (s .facts tag)) a) _
         (read-holds (withRecord s a) rest (lasts .told s a q))
     turn-holds (first s request) a q =
-        goes-holds s q (cryptogramReason (firstAllows request) a) _ (first-holds (answered s) (lasts .first s q) (cryptogramOf a))
-    turn-holds (second s request code) a q = goes-holds s q (cryptogramReason (secondAllows request) a) _ q
+        goes-holds s q (cryptogramReason (allowedBy (First request)) a) _ (first-holds (answered s) (lasts .first s q) (cryptogramOf a))
+    turn-holds (second s request code) a q = goes-holds s q (cryptogramReason (allowedBy (Second request)) a) _ q

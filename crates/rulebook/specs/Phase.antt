@@ -7,8 +7,8 @@ use Rattle.slices.specs.Writing.{zeros}
 use Rattle.dol_fill.specs.Filled.{filling}
 use Rattle.tape_read.specs.Entries.{start, host, results}
 use Rattle.commands.specs.Commands.{selectCommand, optionsCommand, recordCommand, cryptogramCommand}
-use Rattle.decide_requests.specs.Requests.{p1Of}
-use Rattle.decide_requests.specs.declared.requests.Cryptogram.{Cryptogram}
+use Rattle.decide_cryptogram.specs.Cryptograms.{p1Of}
+use Rattle.decide_cryptogram.specs.declared.Cryptogram.{Cryptogram}
 use Rattle.rulebook.specs.Situation.{Situation, knownIn, listIn}
 
 -- what the card was asked

@@ -4,7 +4,7 @@
 use mathlib.Core.Bool.{Bool}
 use mathlib.Core.List.{List, [], _∷_}
 use mathlib.Core.Option.{Option, none, some}
-use Prim.Native.Nat.{ℕ, _*_}
+use Prim.Native.Nat.{ℕ}
 use lib.Dec.{eqb}
 use Rattle.slices.specs.Choice.{pick}
 use Rattle.tlv_list.specs.Objects.{isSome}
@@ -21,9 +21,14 @@ use Rattle.answer_record.specs.Records.{recordReason, namedIn, afterRecords}
 use Rattle.answer_cryptogram.specs.Cryptogram.{cryptogramReason, cryptogramOf}
 use Rattle.decide_tvr.specs.Results.{tvrAfterRecords, tsiAfterRecords, tsiAfterFirstAnswer}
 use Rattle.decide_verification.specs.Verification.{resultsDue, resultsWanted, tvrAfterResults, tsiAfterResults}
-use Rattle.decide_requests.specs.Requests.{firstRequest, secondRequest, givenBy, firstAllowed, secondAllowed}
+use Rattle.decide_cryptogram.specs.Cryptograms.{allowedBy}
+use Rattle.decide_cryptogram.specs.declared.Cryptogram.{Cryptogram}
+use Rattle.decide_cryptogram.specs.declared.Cryptogram.the-variants.{Aac, Tc, Arqc}
+use Rattle.decide_cryptogram.specs.declared.Given.{Given}
+use Rattle.decide_cryptogram.specs.declared.Given.the-variants.{Of, Reserved}
+use Rattle.decide_cryptogram.specs.declared.Request.the-variants.{First, Second}
+use Rattle.decide_requests.specs.Requests.{firstRequest, secondRequest}
 use Rattle.decide_requests.specs.Replies.{codeIn, replyOf, isReply, responseCode}
-use Rattle.decide_requests.specs.declared.requests.Cryptogram.{Cryptogram}
 use Rattle.decide_requests.specs.declared.reply.HostReply.{HostReply}
 use Rattle.decide_requests.specs.declared.reply.HostReply.the-variants.{Unable}
 use Rattle.decide_requests.specs.declared.reply.HostHeard.{HostHeard}
@@ -110,24 +115,27 @@ replied s reply code =
 unfoldable pub online : Situation → Phase
 online s = pick (eqb (s .terminal .kind) 0) (replied s Unable []) (hears (issuer s))
 
--- a TC approves, an AAC declines, an ARQC goes online
-unfoldable pub byFirst : ℕ → Situation → Phase
-byFirst type s = pick (eqb type 1) (decided approved s) (pick (eqb type 0) (decided declined s) (online s))
-
-unfoldable pub firstAllows : Cryptogram → ℕ → Bool
-firstAllows request type = firstAllowed request (givenBy (64 * type))
-
-unfoldable pub secondAllows : Cryptogram → ℕ → Bool
-secondAllows request type = secondAllowed request (givenBy (64 * type))
+-- a TC approves, an AAC declines, an ARQC goes online; the reserved type does not come here, since no request allows it
+unfoldable pub byFirst : Given → Situation → Phase
+byFirst (Of Tc) s = decided approved s
+byFirst (Of Aac) s = decided declined s
+byFirst (Of Arqc) s = online s
+byFirst Reserved s = decided declined s
 
 -- after the first GENERATE AC
 unfoldable pub firstAnswered : Situation → Cryptogram → List ℕ → Phase
-firstAnswered s request a = goesOn (cryptogramReason (firstAllows request) a) s (byFirst (cryptogramOf a) (answered s))
+firstAnswered s request a = goesOn (cryptogramReason (allowedBy (First request)) a) s (byFirst (cryptogramOf a) (answered s))
+
+-- the second answer decides: a TC approves, an AAC declines; the others do not come here, since no second request allows them
+unfoldable pub bySecond : Given → ℕ
+bySecond (Of Tc) = approved
+bySecond (Of Aac) = declined
+bySecond (Of Arqc) = declined
+bySecond Reserved = declined
 
 -- after the second
 unfoldable pub secondAnswered : Situation → Cryptogram → List ℕ → Phase
-secondAnswered s request a =
-    goesOn (cryptogramReason (secondAllows request) a) s (decided (pick (eqb (cryptogramOf a) 1) approved declined) s)
+secondAnswered s request a = goesOn (cryptogramReason (allowedBy (Second request)) a) s (decided (bySecond (cryptogramOf a)) s)
 
 -- after any answer of the card
 unfoldable pub turn : Asked → List ℕ → Phase

@@ -18,8 +18,8 @@ use Rattle.answer_afl.specs.Entries.{toRead, recordCount}
 use Rattle.answer_gpo.specs.Options.{optionsReason}
 use Rattle.decide_tvr.specs.Selection.{selected}
 use Rattle.decide_requests.specs.Requests.{firstRequest}
-use Rattle.decide_requests.specs.declared.requests.Cryptogram.{Cryptogram}
-use Rattle.decide_requests.specs.declared.requests.Cryptogram.the-variants.{Tc, Arqc}
+use Rattle.decide_cryptogram.specs.declared.Cryptogram.{Cryptogram}
+use Rattle.decide_cryptogram.specs.declared.Cryptogram.the-variants.{Tc, Arqc}
 
 -- a terminal of a type whose action codes are all zero, and an issuer's codes that are
 unfoldable pub plain : ℕ → Terminal

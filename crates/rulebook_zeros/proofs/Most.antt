@@ -34,7 +34,10 @@ use Rattle.answer_cryptogram.specs.Cryptogram.{cryptogramOf}
 use Rattle.answer_afl.specs.Entries.{toRead}
 use Rattle.decide_verification.specs.Verification.{resultsDue}
 use Rattle.decide_requests.specs.Requests.{firstRequest, secondRequest}
-use Rattle.decide_requests.specs.declared.requests.Cryptogram.{Cryptogram}
+use Rattle.decide_cryptogram.specs.declared.Cryptogram.{Cryptogram}
+use Rattle.decide_cryptogram.specs.declared.Cryptogram.the-variants.{Aac, Tc, Arqc}
+use Rattle.decide_cryptogram.specs.declared.Given.{Given}
+use Rattle.decide_cryptogram.specs.declared.Given.the-variants.{Of, Reserved}
 use Rattle.decide_requests.specs.declared.reply.HostReply.{HostReply}
 use Rattle.decide_requests.specs.declared.reply.HostReply.the-variants.{Unable}
 use Rattle.decide_requests.specs.Replies.{codeIn, replyOf, responseCode}
@@ -165,11 +168,12 @@ module _ (s : Situation) (short : Short s) where
   online-within =
       picked (Within mostEntries) (eqb (s .terminal .kind) 0) _ _ (λ y. replied-within Unable []) (λ n. (short, omega arith))
 
-  by-first-within : (type : ℕ) → Within mostEntries (byFirst type s)
+  by-first-within : (given : Given) → Within mostEntries (byFirst given s)
   unfolding byFirst decided unsuppliedIn leftIn
-  by-first-within type =
-      picked (Within mostEntries) (eqb type 1) _ _ (λ y. (tt, omega arith)) (λ n.
-      picked (Within mostEntries) (eqb type 0) _ _ (λ y. (tt, omega arith)) (λ f. online-within))
+  by-first-within (Of Tc) = (tt, omega arith)
+  by-first-within (Of Aac) = (tt, omega arith)
+  by-first-within (Of Arqc) = online-within
+  by-first-within Reserved = (tt, omega arith)
 
 all-read-within : (s : Situation) → Short s → Within (2 * mostEntries) (allRead s)
 unfolding allRead ended unsuppliedIn leftIn

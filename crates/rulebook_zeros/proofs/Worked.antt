@@ -16,7 +16,7 @@ use Rattle.dol_wanted.specs.Wanted.{andThen, sizeAt, firstWanted, asks as asksF
 use Rattle.dol_values.specs.Shape.{formatOf}
 use Rattle.dol_values.specs.Known.{ownField, valueBy, valueFor, withFormat, supplied}
 use Rattle.dol_fill.specs.Filled.{missing, missingIn, missingBy, unsupplied}
-use Rattle.decide_requests.specs.declared.requests.Cryptogram.{Cryptogram}
+use Rattle.decide_cryptogram.specs.declared.Cryptogram.{Cryptogram}
 use Rattle.rulebook.specs.Situation.{Situation, knownIn, listIn}
 use Rattle.rulebook.specs.Phase.{selecting, optioning, reading, first, second}
 use Rattle.rulebook_zeros.specs.Zeros.{unsuppliedAsking}

@@ -2,14 +2,12 @@
 use answer_common::content::NAMES;
 use answer_common::content::names_for;
 use answer_cryptogram as cryptogram;
-use answer_cryptogram::Allowed;
 use answer_gpo::options_reason;
 use answer_record::record_reason;
 use commands::write;
-use decide_requests::requests::Cryptogram;
-use decide_requests::requests::first_allowed;
-use decide_requests::requests::given_by;
-use decide_requests::requests::second_allowed;
+use decide_cryptogram::Cryptogram;
+use decide_cryptogram::Given;
+use decide_cryptogram::Request;
 use decide_tvr::results::tsi_after_first_answer;
 use session_moves::Step;
 use session_moves::command::missing;
@@ -32,9 +30,8 @@ ghost use mathlib.Core.List.{[]};
 ghost use Prim.Native.Nat.{_≤_};
 ghost use lib.ListN.{take};
 ghost use Rattle.answer_common.specs.Content.{recordNames, namesFor};
-ghost use Rattle.answer_cryptogram.specs.Cryptogram.{allows};
 ghost use Rattle.rulebook.specs.Phase.{selecting, optioning, reading as readingRecord, first as firstAsked, second as secondAsked};
-ghost use Rattle.rulebook.specs.Turn.{turn, firstAllows, secondAllows};
+ghost use Rattle.rulebook.specs.Turn.{bySecond, turn};
 ghost use Rattle.session_state.specs.Reading.{early, late, recordsLeft};
 ghost use Rattle.session_moves.specs.Moves.{played, moved};
 ghost use Rattle.session_answers.specs.Keeping.{keeping, answeredState};
@@ -94,26 +91,6 @@ pub fn on_record(s: State, a: &[u8], buf: &mut [u8]) -> Step
     read_on(with_told(s, with_record(store, &names[..n], a)), buf)
 }
 
-fn allowed_first(request: Cryptogram) -> Allowed
-    ensures { λ r. ⌜ allows r ≡ firstAllows request ⌝ }
-{
-    Allowed {
-        aac: first_allowed(request, given_by(0x00)),
-        tc: first_allowed(request, given_by(0x40)),
-        arqc: first_allowed(request, given_by(0x80)),
-    }
-}
-
-fn allowed_second(request: Cryptogram) -> Allowed
-    ensures { λ r. ⌜ allows r ≡ secondAllows request ⌝ }
-{
-    Allowed {
-        aac: second_allowed(request, given_by(0x00)),
-        tc: second_allowed(request, given_by(0x40)),
-        arqc: second_allowed(request, given_by(0x80)),
-    }
-}
-
 fn after_first(s: State) -> State
     ensures { λ r. ⌜ r ≡ answeredState s ⌝ }
 {
@@ -128,23 +105,32 @@ pub fn on_first(s: State, request: Cryptogram, a: &[u8], buf: &mut [u8]) -> Step
     ensures { λ r. ⌜ played r (now (buf .exit)) ≡ moved (turn (firstAsked (late s) request) (now (a .entry))) s (now (buf .entry)) ⌝ }
 {
     let answered = after_first(s);
-    let reason = cryptogram::cryptogram_reason(allowed_first(request), a);
+    let reason = cryptogram::cryptogram_reason(Request::First(request), a);
     if reason != 0 {
         return end(s, reason);
     }
     by_first(cryptogram::cryptogram(a), answered, buf)
 }
 
+fn by_second(given: Given) -> u8
+    ensures { λ r. ⌜ r ≡ bySecond given ⌝ }
+{
+    match given {
+        Given::Of(cryptogram) => match cryptogram {
+            Cryptogram::Tc => 1,
+            Cryptogram::Aac => 2,
+            Cryptogram::Arqc => 2,
+        },
+        Given::Reserved => 2,
+    }
+}
+
 pub fn on_second(s: State, request: Cryptogram, a: &[u8], buf: &mut [u8]) -> Step
     ensures { λ r. ⌜ played r (now (buf .exit)) ≡ moved (turn (secondAsked (late s) request []) (now (a .entry))) s (now (buf .entry)) ⌝ }
 {
-    let why = cryptogram::cryptogram_reason(allowed_second(request), a);
+    let why = cryptogram::cryptogram_reason(Request::Second(request), a);
     if why != 0 {
         return end(s, why);
     }
-    if cryptogram::cryptogram(a) == 1 {
-        decide(s, 1)
-    } else {
-        decide(s, 2)
-    }
+    decide(s, by_second(cryptogram::cryptogram(a)))
 }

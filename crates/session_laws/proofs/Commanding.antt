@@ -20,7 +20,7 @@ use Rattle.session_records.specs.Slots.{Facts}
 use Rattle.commands.specs.Commands.{longest, sizeIn}
 use Rattle.commands.proofs.Sizes.{data-length, data-most}
 use Rattle.commands.proofs.Shapes.{aid-most, select-most, options-most, record-most, cryptogram-most}
-use Rattle.decide_requests.specs.Requests.{p1Of}
+use Rattle.decide_cryptogram.specs.Cryptograms.{p1Of}
 use Rattle.rulebook.specs.Situation.{knownIn, listIn}
 use Rattle.rulebook.specs.Phase.{Asked, selecting, optioning, reading, first, second, Phase, asks, hears, decides, situationOf, commandOf}
 use Rattle.session_state.specs.Reading.{startIn}

@@ -24,12 +24,17 @@ use Rattle.answer_cryptogram.specs.Cryptogram.{cryptogramReason, cryptogramOf}
 use Rattle.start_valid.proofs.Laws.{valid-length}
 use Rattle.decide_verification.specs.Verification.{resultsDue}
 use Rattle.decide_requests.specs.Replies.{codeIn, replyOf}
-use Rattle.decide_requests.specs.declared.requests.Cryptogram.{Cryptogram}
+use Rattle.decide_cryptogram.specs.Cryptograms.{allowedBy}
+use Rattle.decide_cryptogram.specs.declared.Cryptogram.{Cryptogram}
+use Rattle.decide_cryptogram.specs.declared.Cryptogram.the-variants.{Aac, Tc, Arqc}
+use Rattle.decide_cryptogram.specs.declared.Given.{Given}
+use Rattle.decide_cryptogram.specs.declared.Given.the-variants.{Of, Reserved}
+use Rattle.decide_cryptogram.specs.declared.Request.the-variants.{First, Second}
 use Rattle.decide_requests.specs.declared.reply.HostReply.{HostReply}
 use Rattle.decide_requests.specs.declared.reply.HostReply.the-variants.{Unable}
 use Rattle.rulebook.specs.Situation.{Situation, listIn, begun as situationBegun}
 use Rattle.rulebook.specs.Phase.{Asked, selecting, optioning, reading, first, second, attendant, Phase, hears, decides, situationOf, terminated, decided, ended, tvrOf, tsiOf}
-use Rattle.rulebook.specs.Turn.{goesOn, opened, selected, managed, requested, verifying, allRead, readOn, optioned, recorded, answered, replied, online, byFirst, firstAllows, secondAllows, firstAnswered, secondAnswered, turn, allowed, replyMade, heard, verifiedBy, after}
+use Rattle.rulebook.specs.Turn.{goesOn, opened, selected, managed, requested, verifying, allRead, readOn, optioned, recorded, answered, replied, online, byFirst, firstAnswered, secondAnswered, turn, allowed, replyMade, heard, verifiedBy, after}
 use Rattle.session_state.specs.Reading.{startIn, situationWith, early, late, recordsLeft, askedBy, heardBy}
 use Rattle.session_phase.specs.declared.Question.{Question}
 use Rattle.session_phase.specs.declared.Question.the-variants.{Select, Options, Record, First, Second}
@@ -97,11 +102,12 @@ module _ (s : State) where
     unfolding online Fits Knows standing changed keptAs speakerOf heardBy tvrOf tsiOf cursorAfter late situationWith
     online-fits = picked (λ (q : Phase). Fits q s) (eqb (z .terminal .kind) 0) _ _ (λ y. replied-fits Unable []) (λ n. refl)
 
-    by-first-fits : (type : ℕ) → Fits (byFirst type z) s
+    by-first-fits : (given : Given) → Fits (byFirst given z) s
     unfolding byFirst decided
-    by-first-fits type =
-        picked (λ (q : Phase). Fits q s) (eqb type 1) _ _ (λ y. decides-fits _ 0 z) (λ n.
-        picked (λ (q : Phase). Fits q s) (eqb type 0) _ _ (λ y. decides-fits _ 0 z) (λ m. online-fits))
+    by-first-fits (Of Tc) = decides-fits _ 0 z
+    by-first-fits (Of Aac) = decides-fits _ 0 z
+    by-first-fits (Of Arqc) = online-fits
+    by-first-fits Reserved = decides-fits _ 0 z
 
   all-read-fits : Fits (allRead (late s)) s
   unfolding allRead ended managed late situationWith
@@ -150,12 +156,12 @@ module _ (s : State) (a : List ℕ) where
   first-fits : (request : Cryptogram) → Turns (first (late s) request)
   unfolding turn keeping firstAnswered answered late situationWith
   first-fits request =
-      goes-fits s (cryptogramReason (firstAllows request) a) (late s) _
+      goes-fits s (cryptogramReason (allowedBy (First request)) a) (late s) _
       (by-first-fits s (s .tvr) (answered (late s) .tsi) (cryptogramOf a))
 
   second-fits : (request : Cryptogram) → Turns (second (late s) request [])
   unfolding turn keeping secondAnswered decided
-  second-fits request = goes-fits s (cryptogramReason (secondAllows request) a) (late s) _ (decides-fits s _ 0 (late s))
+  second-fits request = goes-fits s (cryptogramReason (allowedBy (Second request)) a) (late s) _ (decides-fits s _ 0 (late s))
 
 -- an answer to what the state waits for
 pub turn-fits : (question : Question) (s : State) (a : List ℕ) → Fits (turn (askedBy question s) a) (keeping (askedBy question s) a s)

@@ -1,8 +1,8 @@
 // The commands that are filled from a list, and that of the next record.
 use answer_afl::cursor;
 use commands::write;
-use decide_requests::requests::Cryptogram;
-use decide_requests::requests::p1;
+use decide_cryptogram::Cryptogram;
+use decide_cryptogram::p1;
 use dol_fill::count::unsupplied;
 use session_records::runs::bytes_of;
 use session_records::runs::size_of;
@@ -13,7 +13,7 @@ ghost use lib.ListN.{length};
 ghost use Rattle.slices.specs.Writing.{laid};
 ghost use Rattle.start_fields.specs.Reading.{readingOf};
 ghost use Rattle.dol_fill.specs.Filled.{filling, unsupplied as unsuppliedOf};
-ghost use Rattle.decide_requests.specs.Requests.{p1Of};
+ghost use Rattle.decide_cryptogram.specs.Cryptograms.{p1Of};
 ghost use Rattle.answer_afl.specs.Cursor.{recordAt};
 ghost use Rattle.commands.specs.Commands.{recordCommand, cryptogramCommand, sizeIn};
 ghost use Rattle.session_records.specs.Runs.{inRun};

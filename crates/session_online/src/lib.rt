@@ -1,7 +1,8 @@
 // After the first cryptogram: approved, declined, or the issuer is asked and then the card again.
+use decide_cryptogram::Cryptogram;
+use decide_cryptogram::Given;
 use decide_requests::reply::HostReply;
 use decide_requests::reply::response_code;
-use decide_requests::requests::Cryptogram;
 use decide_requests::requests::second_request;
 use dol_wanted::is_fillable;
 use session_moves::Step;
@@ -71,14 +72,15 @@ fn go_online(s: State, buf: &mut [u8]) -> Step
     }
 }
 
-pub fn by_first(kind: usize, s: State, buf: &mut [u8]) -> Step
-    ensures { λ r. ⌜ played r (now (buf .exit)) ≡ moved (byFirst kind (late s)) s (now (buf .entry)) ⌝ }
+pub fn by_first(given: Given, s: State, buf: &mut [u8]) -> Step
+    ensures { λ r. ⌜ played r (now (buf .exit)) ≡ moved (byFirst given (late s)) s (now (buf .entry)) ⌝ }
 {
-    if kind == 1 {
-        return decide(s, 1);
+    match given {
+        Given::Of(cryptogram) => match cryptogram {
+            Cryptogram::Tc => decide(s, 1),
+            Cryptogram::Aac => decide(s, 2),
+            Cryptogram::Arqc => go_online(s, buf),
+        },
+        Given::Reserved => decide(s, 2),
     }
-    if kind == 0 {
-        return decide(s, 2);
-    }
-    go_online(s, buf)
 }

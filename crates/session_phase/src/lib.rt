@@ -1,7 +1,7 @@
 // What a session waits for, and what a call is answered with.
 mod due;
 
-use decide_requests::requests::Cryptogram;
+use decide_cryptogram::Cryptogram;
 pub use due::awaits;
 pub use due::kind_of;
 pub use due::outcome;

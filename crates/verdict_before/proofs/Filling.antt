@@ -14,7 +14,7 @@ use Rattle.dol_wanted.specs.Wanted.{Wanted, entriesOf, fillable}
 use Rattle.dol_values.specs.Known.{supplied}
 use Rattle.dol_fill.specs.Filled.{entryBytes, filled, filledBy, filledList, filling, missing, missingIn, missingBy, unsupplied}
 use Rattle.commands.specs.Commands.{optionsCommand, cryptogramCommand}
-use Rattle.decide_requests.specs.Requests.{p1Of}
+use Rattle.decide_cryptogram.specs.Cryptograms.{p1Of}
 use Rattle.rulebook.specs.Situation.{knownIn, listIn}
 use Rattle.rulebook.specs.Phase.{Asked, selecting, optioning, reading, first, second, situationOf, commandOf}
 use Rattle.rulebook_zeros.specs.Zeros.{unsuppliedAsking}

@@ -20,7 +20,7 @@ use Rattle.dol_values.specs.declared.Own.{Own}
 use Rattle.dol_values.specs.declared.Own.the-variants.{Of, Nothing}
 use Rattle.dol_fill.specs.Filled.{entryBytes}
 use Rattle.commands.specs.Commands.{selectCommand, optionsCommand, recordCommand, cryptogramCommand}
-use Rattle.decide_requests.specs.Requests.{p1Of}
+use Rattle.decide_cryptogram.specs.Cryptograms.{p1Of}
 use Rattle.rulebook.specs.Situation.{knownIn, listIn}
 use Rattle.rulebook.specs.Phase.{Asked, selecting, optioning, reading, first, second, Phase, asks, hears, decides}
 use Rattle.verdict_before.specs.Before.{recordsBefore}

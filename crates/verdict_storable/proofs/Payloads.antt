@@ -17,9 +17,9 @@ use Rattle.dol_fill.specs.Filled.{filling}
 use Rattle.commands.specs.Commands.{longest}
 use Rattle.commands.proofs.Sizes.{data-length, data-most}
 use Rattle.commands.proofs.Shapes.{select-most, options-most, record-most, cryptogram-most}
-use Rattle.decide_requests.specs.Requests.{p1Of}
-use Rattle.decide_requests.specs.declared.requests.Cryptogram.{Cryptogram}
-use Rattle.decide_requests.specs.declared.requests.Cryptogram.the-variants.{Aac, Tc, Arqc}
+use Rattle.decide_cryptogram.specs.Cryptograms.{p1Of}
+use Rattle.decide_cryptogram.specs.declared.Cryptogram.{Cryptogram}
+use Rattle.decide_cryptogram.specs.declared.Cryptogram.the-variants.{Aac, Tc, Arqc}
 use Rattle.rulebook.specs.Situation.{Situation, knownIn, listIn}
 use Rattle.rulebook.specs.Phase.{Asked, selecting, optioning, reading, first, second, decides, commandOf, decisionOf}
 use Rattle.rulebook.specs.Session.{isPayload}

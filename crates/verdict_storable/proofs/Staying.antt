@@ -9,7 +9,6 @@ use native.Mathlib.Omega.{arith}
 use lib.Dec.{eqb}
 use lib.ListN.{length, drop, getD}
 use lib.Pow.{areBytes}
-use Rattle.slices.specs.Choice.{pick}
 use Rattle.slices.specs.Writing.{zeros}
 use Rattle.slices.proofs.Choice.{picked}
 use Rattle.session_records.specs.Slots.{Facts}
@@ -32,8 +31,12 @@ use Rattle.answer_cryptogram.specs.Cryptogram.{cryptogramReason, cryptogramOf}
 use Rattle.answer_laws.proofs.Reasons.{select-small, options-small, record-small, cryptogram-small, after-small}
 use Rattle.decide_requests.specs.Requests.{secondRequest}
 use Rattle.decide_requests.specs.Replies.{codeIn, responseCode}
-use Rattle.decide_requests.specs.declared.requests.Cryptogram.{Cryptogram}
-use Rattle.decide_requests.specs.declared.requests.Cryptogram.the-variants.{Aac, Tc, Arqc}
+use Rattle.decide_cryptogram.specs.Cryptograms.{allowedBy}
+use Rattle.decide_cryptogram.specs.declared.Cryptogram.{Cryptogram}
+use Rattle.decide_cryptogram.specs.declared.Cryptogram.the-variants.{Aac, Tc, Arqc}
+use Rattle.decide_cryptogram.specs.declared.Given.{Given}
+use Rattle.decide_cryptogram.specs.declared.Given.the-variants.{Of, Reserved}
+use Rattle.decide_cryptogram.specs.declared.Request.the-variants.{First, Second}
 use Rattle.decide_requests.specs.declared.reply.HostReply.{HostReply}
 use Rattle.decide_requests.specs.declared.reply.HostReply.the-variants.{Approve, Decline, Unable}
 use Rattle.decide_tvr.proofs.Laws.{tvr-length, tvr-bytes, tsi-length, tsi-length-on, tsi-bytes, tsi-bytes-on}
@@ -41,9 +44,9 @@ use Rattle.decide_verification.specs.Verification.{resultsDue}
 use Rattle.decide_verification.proofs.Laws.{results-length, results-bytes, performed-length, performed-bytes}
 use Rattle.rulebook.specs.Situation.{Situation, begun, listIn}
 use Rattle.rulebook.specs.Phase.{Asked, selecting, optioning, reading, first, second, Heard, terminal, issuer, attendant, Phase, asks, hears}
-use Rattle.rulebook.specs.Phase.{decides, decided, ended, approved, declined, terminated}
+use Rattle.rulebook.specs.Phase.{decides, decided, ended, terminated}
 use Rattle.rulebook.specs.Turn.{goesOn, opened, selected, managed, requested, verifying, allRead, readOn, withProfile, optioned, withRecord}
-use Rattle.rulebook.specs.Turn.{recorded, answered, replied, online, byFirst, firstAllows, secondAllows, firstAnswered, secondAnswered}
+use Rattle.rulebook.specs.Turn.{recorded, answered, replied, online, byFirst, bySecond, firstAnswered, secondAnswered}
 use Rattle.rulebook.specs.Turn.{turn, heard as issuerHeard, verifiedBy, after}
 use Rattle.verdict_storable.proofs.Values.{profile-bytes, locator-bytes, named-bytes}
 use Rattle.verdict_storable.proofs.Filling.{Told, else-bytes, unless-bytes}
@@ -208,12 +211,13 @@ module _ (s : Situation) (k : Knows s) where
       replied-stays reply (codeIn p) (bytes-cons (getD p 1 0) (getD p 2 0 ∷ []) (bytes-at p h 1)
       (bytes-cons (getD p 2 0) [] (bytes-at p h 2) refl))
 
-  first-stays : (type : ℕ) → Stays (byFirst type s)
+  first-stays : (given : Given) → Stays (byFirst given s)
   unfolding byFirst decided online
-  first-stays type =
-      picked Stays (eqb type 1) (decides approved 0 s) _ (λ y. (k, (omega arith, omega arith))) (λ n.
-      picked Stays (eqb type 0) (decides declined 0 s) _ (λ y. (k, (omega arith, omega arith))) (λ m.
-      picked Stays (eqb (s .terminal .kind) 0) (replied s Unable []) (hears (issuer s)) (λ y. replied-stays Unable [] refl) (λ l. k)))
+  first-stays (Of Tc) = (k, (omega arith, omega arith))
+  first-stays (Of Aac) = (k, (omega arith, omega arith))
+  first-stays (Of Arqc) =
+      picked Stays (eqb (s .terminal .kind) 0) (replied s Unable []) (hears (issuer s)) (λ y. replied-stays Unable [] refl) (λ l. k)
+  first-stays Reserved = (k, (omega arith, omega arith))
 
 -- ---- the records, and verification
 
@@ -244,6 +248,13 @@ after-stays (attendant s) p k bytes = requested-stays (s .facts) (verifiedBy s p
 
 -- ---- whatever the card answers
 
+outcome-byte : (given : Given) → bySecond given < 256
+unfolding bySecond
+outcome-byte (Of Tc) = omega arith
+outcome-byte (Of Aac) = omega arith
+outcome-byte (Of Arqc) = omega arith
+outcome-byte Reserved = omega arith
+
 pub turn-stays : (w : Asked) (a : List ℕ) → Asking w → areBytes a ≡ true → Stays (turn w a)
 unfolding turn selected optioned recorded firstAnswered secondAnswered decided
 turn-stays (selecting s) a k h =
@@ -258,9 +269,10 @@ turn-stays (reading s number file rest) a k h =
     goes-stays s (k .0) (recordReason names before a) _ (record-small names before a)
     (read-stays (withRecord s a) rest (record-knows s (k .0) a h) (k .1 .1))
 turn-stays (first s request) a k h =
-    goes-stays s k (cryptogramReason (firstAllows request) a) _ (cryptogram-small (firstAllows request) a)
+    let allowed = allowedBy (First request) in
+    goes-stays s k (cryptogramReason allowed a) _ (cryptogram-small allowed a)
     (first-stays (answered s) (answered-knows s k) (cryptogramOf a))
 turn-stays (second s request code) a k h =
-    let outcome = pick (eqb (cryptogramOf a) 1) approved declined in
-    goes-stays s (k .0) (cryptogramReason (secondAllows request) a) (decides outcome 0 s) (cryptogram-small (secondAllows request) a)
-    (k .0, (picked (λ (n : ℕ). n < 256) (eqb (cryptogramOf a) 1) approved declined (λ y. omega arith) (λ n. omega arith), omega arith))
+    let allowed = allowedBy (Second request) in
+    goes-stays s (k .0) (cryptogramReason allowed a) (decides (bySecond (cryptogramOf a)) 0 s) (cryptogram-small allowed a)
+    (k .0, (outcome-byte (cryptogramOf a), omega arith))

@@ -7,45 +7,46 @@ use Prim.Native.Nat.{ℕ}
 use lib.ListN.{drop}
 use borrow.Author.Needs.{needs}
 use Rattle.slices.specs.Choice.{firstOf}
+use Rattle.decide_cryptogram.specs.Cryptograms.{allowedBy}
+use Rattle.decide_cryptogram.specs.declared.Request.{Request}
 use Rattle.answer_common.specs.Named.{direct, anyTimes}
-use Rattle.answer_cryptogram.specs.Cryptogram.{cryptogramNames, cryptogramOf, cryptogramLines, allows}
-use Rattle.answer_cryptogram.specs.declared.Allowed.{Allowed}
+use Rattle.answer_cryptogram.specs.Cryptogram.{cryptogramNames, cryptogramOf, cryptogramLines}
 use Rattle.answer_common.proofs.Lines.{line-yes, line-no, last-no}
 use Rattle.answer_common.proofs.Templates.{template-found}
 use Rattle.answer_cryptogram.proofs.content_reason.Statement.{statement}
 use Rattle.answer_cryptogram.proofs.content_reason.Tie as tie
 
 -- the reason is that of the lines from the k-th on
-abbrev From : ℕ → Allowed → List ℕ → Type 0
-From k w a = firstOf (cryptogramLines (allows w) a) ≡ firstOf (drop k (cryptogramLines (allows w) a))
+abbrev From : ℕ → Request → List ℕ → Type 0
+From k request a = firstOf (cryptogramLines (allowedBy request) a) ≡ firstOf (drop k (cryptogramLines (allowedBy request) a))
 
 twice-told : (c : tie.After-any-times-in-checked)
     → c .any-times-in-checked .result ≡ anyTimes 2 cryptogramNames (direct 0x77 (c .before .before .before .before .args .answer .now))
 twice-told c = c .any-times-in-checked .ensures ∙ ap (anyTimes 2 cryptogramNames) (template-found _ (c .before .before .inside .ensures))
 
 at-1 : (c : tie.Else1)
-    → From 1 (c .before .before .before .before .before .args .allowed) (c .before .before .before .before .before .args .answer .now)
+    → From 1 (c .before .before .before .before .before .args .request) (c .before .before .before .before .before .args .answer .now)
 unfolding cryptogramLines
 at-1 c = line-no (twice-told (c .before)) 4 _ (c .if1 .left)
 
 at-2 : (c : tie.Else2)
-    → From 2 (c .before .before .before .before .before .before .before .args .allowed)
+    → From 2 (c .before .before .before .before .before .before .before .args .request)
     (c .before .before .before .before .before .before .before .args .answer .now)
 unfolding cryptogramLines
 at-2 c = at-1 (c .before .before) ∙ line-no (c .before .is-wrong .ensures) 5 _ (c .if2 .left)
 
 at-3 : (c : tie.Else3)
-    → From 3 (c .before .before .before .before .before .before .before .before .before .before .args .allowed)
+    → From 3 (c .before .before .before .before .before .before .before .before .before .before .args .request)
     (c .before .before .before .before .before .before .before .before .before .before .args .answer .now)
 unfolding cryptogramLines
 at-3 c = at-2 (c .before .before .before) ∙ line-no (c .before .lacks .ensures) 8 _ (c .if3 .left)
 
-allowed-told : (c : tie.After-allows)
-    → not (c .allows .result)
-    ≡ not (allows (c .before .before .before .before .before .before .before .before .before .before .before .before .args .allowed)
+allowed-told : (c : tie.After-allowed)
+    → not (c .allowed .result)
+    ≡ not (allowedBy (c .before .before .before .before .before .before .before .before .before .before .before .before .args .request)
     (cryptogramOf
     (c .before .before .before .before .before .before .before .before .before .before .before .before .args .answer .now)))
-allowed-told c = ap not (c .allows .ensures ∙ ap (allows _) (c .before .cryptogram .ensures))
+allowed-told c = ap not (c .allowed .ensures ∙ ap (allowedBy _) (c .before .cryptogram .ensures))
 
 returns : tie.Need-returns
 unfolding cryptogramLines

@@ -10,9 +10,9 @@ use Rattle.start_fields.specs.Reading.{readingOf}
 use Rattle.dol_wanted.specs.Wanted.{fillable}
 use Rattle.dol_fill.specs.Filled.{filling, unsupplied}
 use Rattle.commands.specs.Commands.{cryptogramCommand}
-use Rattle.decide_requests.specs.Requests.{p1Of}
+use Rattle.decide_cryptogram.specs.Cryptograms.{p1Of}
 use Rattle.decide_requests.specs.Replies.{responseCode}
-use Rattle.decide_requests.specs.declared.requests.Cryptogram.{Cryptogram}
+use Rattle.decide_cryptogram.specs.declared.Cryptogram.{Cryptogram}
 use Rattle.rulebook.specs.Situation.{listIn, knownIn}
 use Rattle.rulebook.specs.Phase.{second, Phase, asks, situationOf, commandOf, ended}
 use Rattle.rulebook.specs.Turn.{replied}

@@ -9,8 +9,9 @@ use borrow.Author.Needs.{needs}
 use Rattle.start_fields.specs.Reading.{readingOf}
 use Rattle.dol_fill.specs.Filled.{filling, unsupplied}
 use Rattle.commands.specs.Commands.{cryptogramCommand}
-use Rattle.decide_requests.specs.Requests.{p1Of, firstRequest}
-use Rattle.decide_requests.specs.declared.requests.Cryptogram.{Cryptogram}
+use Rattle.decide_cryptogram.specs.Cryptograms.{p1Of}
+use Rattle.decide_requests.specs.Requests.{firstRequest}
+use Rattle.decide_cryptogram.specs.declared.Cryptogram.{Cryptogram}
 use Rattle.rulebook.specs.Situation.{listIn}
 use Rattle.rulebook.specs.Phase.{first, asks, situationOf, commandOf}
 use Rattle.rulebook.specs.Turn.{requested}

@@ -3,7 +3,7 @@
 use mathlib.Core.Path.{sym, ap, ap₂}
 use borrow.Author.Needs.{needs}
 use Rattle.decide_requests.specs.declared.reply.HostReply.{HostReply}
-use Rattle.decide_requests.specs.declared.requests.Cryptogram.{Cryptogram}
+use Rattle.decide_cryptogram.specs.declared.Cryptogram.{Cryptogram}
 use Rattle.decide_requests.specs.Replies.{responseCode}
 use Rattle.decide_requests.proofs.reply.response_code.Statement.{statement}
 use Rattle.decide_requests.proofs.reply.response_code.Tie as tie

@@ -1,13 +1,13 @@
--- `decide_requests::requests::given_by` meets its contract: each arm is the definition's at those two bits.
+-- `decide_cryptogram::given_by` meets its contract: each arm is the definition's at those two bits.
 -- Assumes nothing.
 use mathlib.Core.Path.{sym, ap, _∙_}
 use Prim.Native.Nat.{ℕ}
 use borrow.Author.Tests.{eq-eqb, ne-eqb}
 use lib.Dec.{eqb}
 use Rattle.slices.proofs.Choice.{pick-yes, pick-no}
-use Rattle.decide_requests.specs.Requests.{givenBy}
-use Rattle.decide_requests.proofs.requests.given_by.Statement.{statement}
-use Rattle.decide_requests.proofs.requests.given_by.Tie as tie
+use Rattle.decide_cryptogram.specs.Cryptograms.{givenBy}
+use Rattle.decide_cryptogram.proofs.given_by.Statement.{statement}
+use Rattle.decide_cryptogram.proofs.given_by.Tie as tie
 
 returns : tie.Need-returns
 unfolding givenBy

@@ -1,10 +1,10 @@
--- `decide_requests::requests::answers_second` meets its contract: each arm is the definition's at that answer and request.
+-- `decide_cryptogram::answers_second` meets its contract: each arm is the definition's at that answer and request.
 -- Assumes nothing.
 use mathlib.Core.Path.{sym, ap, ap₂}
 use borrow.Author.Needs.{needs}
-use Rattle.decide_requests.specs.Requests.{answersSecond}
-use Rattle.decide_requests.proofs.requests.answers_second.Statement.{statement}
-use Rattle.decide_requests.proofs.requests.answers_second.Tie as tie
+use Rattle.decide_cryptogram.specs.Cryptograms.{answersSecond}
+use Rattle.decide_cryptogram.proofs.answers_second.Statement.{statement}
+use Rattle.decide_cryptogram.proofs.answers_second.Tie as tie
 
 returns : tie.Need-returns
 returns c = sym (ap (answersSecond (c .before .before .args .asked)) (c .enum-told .given .1))
