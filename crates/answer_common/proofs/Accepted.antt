@@ -18,7 +18,7 @@ use Rattle.answer_common.specs.Named.{listed, times, wrongValue, anyTime
 use Rattle.answer_common.specs.Right.{Framed}
 use Rattle.slices.proofs.Tables.{or-no}
 use Rattle.answer_common.proofs.Alike.{listed-first, listed-also}
-use Rattle.answer_common.proofs.Lines.{Numbered, line-clear}
+use Rattle.slices.proofs.Lines.{Numbered, line-clear}
 use Rattle.answer_common.proofs.Outer.{size-right}
 
 -- neither of two tests holds

@@ -21,7 +21,7 @@ use Rattle.answer_common.specs.Answer.{valueMost, isOne, inside, frame}
 use Rattle.answer_common.specs.Right.{Framed}
 use Rattle.answer_common.specs.Named.{listed, direct, times, told, valueOf, anyTimes, anyWrong}
 use Rattle.slices.proofs.Tables.{and-yes}
-use Rattle.answer_common.proofs.Lines.{Numbered}
+use Rattle.slices.proofs.Lines.{Numbered}
 use Rattle.answer_common.proofs.Accepted.{AllClear, none-applies, or-clear, any-clear, frame-accepted, named-once, named-right}
 use Rattle.answer_common.proofs.Sizes.{sized}
 use Rattle.answer_common.proofs.Members.{inside-size, direct-size, inner-size}

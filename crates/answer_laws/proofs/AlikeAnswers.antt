@@ -22,7 +22,7 @@ use Rattle.answer_common.specs.Content.{meets, rules, ruleFor, rightValue, reco
 use Rattle.answer_common.specs.Answer.{isOne, inside}
 use Rattle.answer_common.specs.Right.{Alike}
 use Rattle.answer_common.specs.Named.{membersIn, listed, named, among, direct, times, told, valueOf, wrongValue, anyTimes, anyWrong}
-use Rattle.answer_common.proofs.Lines.{one-more}
+use Rattle.slices.proofs.Lines.{one-more}
 use Rattle.answer_common.proofs.Alike.{any-alike, times-alike, wrong-alike, named-alike, tags-alike, frame-alike}
 use Rattle.answer_common.specs.Forms.{template, joined, bothForms, lacks}
 use Rattle.answer_select.specs.Select.{selectTag, selectNames, innerNames, inner, pdolOf, nameWrong, selectTwice, selectWrong}

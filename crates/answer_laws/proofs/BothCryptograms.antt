@@ -19,7 +19,7 @@ use Rattle.answer_common.specs.Content.{meets, rules, ruleFor, rightValue}
 use Rattle.answer_common.specs.Answer.{isOne, inside}
 use Rattle.answer_common.specs.Named.{direct, times, told, valueOf, wrongValue, anyTimes, anyWrong}
 use Rattle.slices.proofs.Tables.{or-no, and-yes, and-no}
-use Rattle.answer_common.proofs.Lines.{one-more}
+use Rattle.slices.proofs.Lines.{one-more}
 use Rattle.answer_common.proofs.Present.{of-size}
 use Rattle.answer_common.proofs.Limits.{between-in, between-above}
 use Rattle.answer_common.proofs.Alike.{frame-alike}

@@ -9,7 +9,7 @@ use lib.Dec.{eqb}
 use lib.ListN.{length}
 use borrow.Author.Tests.{eq-eqb, ne-eqb, le-ltb}
 use Rattle.slices.proofs.Choice.{pick-no, either}
-use Rattle.answer_common.proofs.Lines.{line-no, last-no}
+use Rattle.slices.proofs.Lines.{line-no, last-no}
 use Rattle.tape_read.specs.Entries.{Entry, entry, answer, silence, payloadMost}
 use Rattle.commands.specs.Commands.{longest}
 use Rattle.session_phase.specs.Waiting.{kindOf, awaited, isOver}

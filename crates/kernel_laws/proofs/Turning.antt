@@ -10,7 +10,7 @@ use lib.ListN.{length}
 use borrow.Author.Tests.{eq-eqb, ne-eqb, eqb-true, ltb-false, not-false}
 use Rattle.slices.specs.Choice.{firstOf}
 use Rattle.slices.proofs.Choice.{pick-yes, pick-no, either}
-use Rattle.answer_common.proofs.Lines.{line-clear}
+use Rattle.slices.proofs.Lines.{line-clear}
 use Rattle.tape_read.specs.Entries.{Entry, silence}
 use Rattle.commands.specs.Commands.{longest}
 use Rattle.session_phase.specs.Waiting.{isOver}

@@ -5,3 +5,4 @@ pub mod Cutting
 pub mod Tests
 pub mod Tables
 pub mod Comparing
+pub mod Lines

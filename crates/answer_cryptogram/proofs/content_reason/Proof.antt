@@ -11,7 +11,7 @@ use Rattle.decide_cryptogram.specs.Cryptograms.{allowedBy}
 use Rattle.decide_cryptogram.specs.declared.Request.{Request}
 use Rattle.answer_common.specs.Named.{direct, anyTimes}
 use Rattle.answer_cryptogram.specs.Cryptogram.{cryptogramNames, cryptogramOf, cryptogramLines}
-use Rattle.answer_common.proofs.Lines.{line-yes, line-no, last-no}
+use Rattle.slices.proofs.Lines.{line-yes, line-no, last-no}
 use Rattle.answer_common.proofs.Templates.{template-found}
 use Rattle.answer_cryptogram.proofs.content_reason.Statement.{statement}
 use Rattle.answer_cryptogram.proofs.content_reason.Tie as tie

@@ -10,7 +10,7 @@ use Rattle.slices.specs.Choice.{firstOf}
 use Rattle.answer_afl.specs.Entries.{entriesRight, tooMany}
 use Rattle.answer_common.specs.Named.{direct, anyTimes}
 use Rattle.answer_gpo.specs.Options.{optionNames, locatorOf, optionsLines}
-use Rattle.answer_common.proofs.Lines.{line-yes, line-no, last-no}
+use Rattle.slices.proofs.Lines.{line-yes, line-no, last-no}
 use Rattle.answer_common.proofs.Templates.{template-found}
 use Rattle.answer_gpo.proofs.content_reason.Statement.{statement}
 use Rattle.answer_gpo.proofs.content_reason.Tie as tie

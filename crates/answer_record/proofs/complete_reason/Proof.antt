@@ -5,7 +5,7 @@ use mathlib.Core.Bool.{not}
 use borrow.Author.Needs.{needs}
 use Rattle.answer_record.specs.Records.{incomplete, completeReason, afterRecords}
 use Rattle.dol_wanted.specs.Wanted.{fillable}
-use Rattle.answer_common.proofs.Lines.{line-yes, line-no, last-no}
+use Rattle.slices.proofs.Lines.{line-yes, line-no, last-no}
 use Rattle.answer_record.proofs.complete_reason.Statement.{statement}
 use Rattle.answer_record.proofs.complete_reason.Tie as tie
 

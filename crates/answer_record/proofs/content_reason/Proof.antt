@@ -3,7 +3,7 @@
 use mathlib.Core.Path.{_≡_, sym, ap, _∙_}
 use borrow.Author.Needs.{needs}
 use Rattle.answer_common.specs.Named.{direct, anyWrong}
-use Rattle.answer_common.proofs.Lines.{line-yes, line-no, last-no}
+use Rattle.slices.proofs.Lines.{line-yes, line-no, last-no}
 use Rattle.answer_record.specs.Records.{recordLines}
 use Rattle.answer_record.proofs.Standing.{record-found}
 use Rattle.answer_record.proofs.content_reason.Statement.{statement}

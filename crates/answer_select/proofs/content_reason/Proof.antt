@@ -9,7 +9,7 @@ use borrow.Author.Needs.{needs}
 use Rattle.slices.specs.Choice.{firstOf}
 use Rattle.dol_wanted.specs.Wanted.{fillable}
 use Rattle.answer_common.specs.Named.{direct, anyTimes}
-use Rattle.answer_common.proofs.Lines.{line-yes, line-no, last-no}
+use Rattle.slices.proofs.Lines.{line-yes, line-no, last-no}
 use Rattle.answer_select.specs.Select.{selectNames, pdolOf, selectLines}
 use Rattle.answer_select.proofs.Inside.{select-found}
 use Rattle.answer_select.proofs.content_reason.Statement.{statement}

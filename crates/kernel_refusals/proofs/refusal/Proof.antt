@@ -4,7 +4,7 @@ use mathlib.Core.Path.{_≡_, refl, sym, ap, _∙_}
 use mathlib.Core.Bool.{Bool, true, false, not}
 use borrow.Author.Tests.{eq-eqb, ne-eqb, lt-ltb, le-ltb}
 use borrow.Author.Needs.{needs}
-use Rattle.answer_common.proofs.Lines.{line-yes, line-no, last-no}
+use Rattle.slices.proofs.Lines.{line-yes, line-no, last-no}
 use Rattle.session_phase.specs.Waiting.{isOver}
 use Rattle.kernel_refusals.specs.Refusals.{refusalLines, callRefusal}
 use Rattle.kernel_refusals.proofs.refusal.Statement.{statement}

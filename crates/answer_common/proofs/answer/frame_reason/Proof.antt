@@ -3,7 +3,7 @@
 use mathlib.Core.Path.{sym, _∙_}
 use borrow.Author.Needs.{needs}
 use Rattle.answer_common.specs.Answer.{frame}
-use Rattle.answer_common.proofs.Lines.{line-yes, line-no, last-no}
+use Rattle.slices.proofs.Lines.{line-yes, line-no, last-no}
 use Rattle.answer_common.proofs.Outer.{size-right}
 use Rattle.answer_common.proofs.answer.frame_reason.Statement.{statement}
 use Rattle.answer_common.proofs.answer.frame_reason.Tie as tie
