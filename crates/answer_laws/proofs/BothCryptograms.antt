@@ -150,4 +150,5 @@ module _ (a b information counter cryptogram issuer : List ℕ) (same : SameCryp
       frame-alike bothForms a b (same .frames) _ _
       (one-more 4 _ _ same-twice
       (one-more 5 _ _ (wrong-joined ∙ sym wrong-template)
-      (one-more 8 _ _ same-lacks (one-more 10 [] [] (ap (λ (given : Given). not (allowed given)) (same-type .0 ∙ sym (same-type .1))) refl))))
+      (one-more 8 _ _ same-lacks
+      (one-more 10 [] [] (ap (λ (given : Given). not (allowed given)) (same-type .0 ∙ sym (same-type .1))) refl))))

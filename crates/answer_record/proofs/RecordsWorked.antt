@@ -12,17 +12,21 @@ use Rattle.decimal_dates.specs.Dates.{monthAndDay, validCardDate}
 use Rattle.dol_wanted.specs.Wanted.{andThen, sizeAt, firstWanted, asks, wantedStep, entriesOf, total, fits, fillable}
 use Rattle.answer_common.specs.CardNumber.{halves, digits, onlyF, cardNumber}
 use Rattle.slices.specs.Tables.{beside}
-use Rattle.answer_record.specs.Records.{again, anyAgain, recordTwice, recordLines, recordReason, valueIn, incomplete, completeReason, afterRecords}
+use Rattle.answer_record.specs.Records.{again, anyAgain, recordTwice, recordLines}
+use Rattle.answer_record.specs.Records.{recordReason, valueIn, incomplete, completeReason}
+use Rattle.answer_record.specs.Records.{afterRecords}
 use Rattle.answer_common.specs.Content.{recordNames}
 use Rattle.answer_common.proofs.Opened.{one, two, good, joinedAll, opened}
 
 -- with all the names; and with those of a terminal without Terminal Capabilities, the first nine
 judge : (ℕ → Bool) → List ℕ → ℕ
-unfolding opened halves digits onlyF cardNumber digitsOnly decimalByte monthAndDay validCardDate again anyAgain recordTwice recordLines recordReason
+unfolding opened halves digits onlyF cardNumber digitsOnly decimalByte monthAndDay validCardDate again anyAgain recordTwice recordLines
+    recordReason
 judge before a = recordReason recordNames before a
 
 judgeBase : (ℕ → Bool) → List ℕ → ℕ
-unfolding opened halves digits onlyF cardNumber digitsOnly decimalByte monthAndDay validCardDate again anyAgain recordTwice recordLines recordReason
+unfolding opened halves digits onlyF cardNumber digitsOnly decimalByte monthAndDay validCardDate again anyAgain recordTwice recordLines
+    recordReason
 judgeBase before a = recordReason (take 9 recordNames) before a
 
 -- nothing was told before

@@ -14,7 +14,8 @@ abbrev aid : List ℕ
 aid = 0xA0 ∷ 0x00 ∷ 0x00 ∷ 0x00 ∷ 0x03 ∷ []
 
 judge : List ℕ → ℕ
-unfolding opened readingOf andThen sizeAt firstWanted asks wantedStep entriesOf total fits fillable inner begins nameWrong selectTwice selectWrong selectLines selectReason pdolOf
+unfolding opened readingOf andThen sizeAt firstWanted asks wantedStep entriesOf total fits fillable inner begins nameWrong selectTwice
+    selectWrong selectLines selectReason pdolOf
 judge a = selectReason (readingOf (replicate 57 0 ++ (5 ∷ aid))) a
 
 abbrev name : List ℕ → List ℕ

@@ -11,7 +11,8 @@ ghost use mathlib.Core.Path.{_≡_};
 ghost use Rattle.slices.specs.Choice.{firstOf};
 ghost use Rattle.start_fields.specs.Reading.{readingOf};
 ghost use Rattle.answer_common.specs.Named.{direct, valueOf};
-ghost use Rattle.answer_select.specs.Select.{begins as beginsOf, nameWrong, selectTwice, selectWrong, selectLines, selectReason, pdolOf};
+ghost use Rattle.answer_select.specs.Select.{begins as beginsOf, nameWrong, selectTwice};
+ghost use Rattle.answer_select.specs.Select.{selectWrong, selectLines, selectReason, pdolOf};
 
 const SELECTED: usize = 0x6F;
 

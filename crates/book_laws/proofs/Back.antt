@@ -24,7 +24,8 @@ use Rattle.tape_read.proofs.Extra.{zeros-bytes}
 use Rattle.tape_read.proofs.Numbers.{number-back, bytes-length, bytes-are}
 use Rattle.tape_read.proofs.Windows.{window-middle}
 use Rattle.book_block.specs.Entries.{isVerdict, isLong, fits, pass, unreadable}
-use Rattle.book_block.specs.Blocks.{head, body, block, padding, paddingAt, tapeIn, verdictIn, placeIn, codeIn, entryIn, verdictBad, zerosBad, faultOf}
+use Rattle.book_block.specs.Blocks.{head, body, block, padding, paddingAt, tapeIn, verdictIn}
+use Rattle.book_block.specs.Blocks.{placeIn, codeIn, entryIn, verdictBad, zerosBad, faultOf}
 use Rattle.book_block.specs.declared.Entry.{Entry}
 use Rattle.book_block.proofs.Faults.{good-block}
 use Rattle.book_block.proofs.Filling.{head-length, body-length}

@@ -1,7 +1,9 @@
 // What a method needs, what a try of it sets in byte 3 of the TVR, and whether it succeeds.
 use crate::Method;
 ghost use mathlib.Core.Path.{_≡_};
-ghost use Rattle.cvm_rules.specs.Methods.{methodOf, goesOn, hasOfflinePin, hasOnlinePin, hasSignature, supported as supportedBy, succeeds as succeedsWith, pinBits, triedBits};
+ghost use Rattle.cvm_rules.specs.Methods.{methodOf, goesOn, hasOfflinePin, hasOnlinePin, hasSignature};
+ghost use Rattle.cvm_rules.specs.Methods.{supported as supportedBy, succeeds as succeedsWith, pinBits};
+ghost use Rattle.cvm_rules.specs.Methods.{triedBits};
 
 pub const UNRECOGNISED_METHOD: u8 = 0x40;
 

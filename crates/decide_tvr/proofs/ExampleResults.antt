@@ -15,7 +15,8 @@ use Rattle.decide_tvr.specs.Bits.{joined, flag}
 use Rattle.slices.specs.Tables.{beside}
 use Rattle.session_records.specs.Slots.{Facts}
 use Rattle.decide_tvr.specs.Selection.{biased, chosen, selected}
-use Rattle.decide_tvr.specs.Results.{differentVersions, expired, notYetEffective, riskManaged, atFloorLimit, drawn, restrictions, risks, tvrAfterRecords, tsiAfterRecords, tsiAfterFirstAnswer}
+use Rattle.decide_tvr.specs.Results.{differentVersions, expired, notYetEffective, riskManaged, atFloorLimit, drawn}
+use Rattle.decide_tvr.specs.Results.{restrictions, risks, tvrAfterRecords, tsiAfterRecords, tsiAfterFirstAnswer}
 
 -- ---- selection at random: target 10, maximum 70, floor limit 10000, threshold 5000
 
@@ -99,7 +100,8 @@ facts =
     ∷ []
 
 facts-right : map (λ row. tvrAfterRecords (row .0) (row .1 .0) (row .1 .1) (0 ∷ 0 ∷ 0 ∷ 0 ∷ 0 ∷ [])) facts ≡ map (λ row. row .2) facts
-unfolding tvrAfterRecords joined restrictions risks flag differentVersions alike expired notYetEffective dateKey riskManaged atFloorLimit drawn every selected chosen biased decimal decimalFrom beside pick
+unfolding tvrAfterRecords joined restrictions risks flag differentVersions alike expired notYetEffective dateKey riskManaged
+    atFloorLimit drawn every selected chosen biased decimal decimalFrom beside pick
 facts-right = refl
 
 -- bits that stand are left standing

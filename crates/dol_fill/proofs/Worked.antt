@@ -24,9 +24,13 @@ list = 0x9F ∷ 0x33 ∷ 4 ∷ 0x9C ∷ 1 ∷ []
 module _ (k : Facts) where
   filled-own : (filling (readingOf fullSample) k list ≡ 0xC1 ∷ 0xC2 ∷ 0xC3 ∷ 0 ∷ 0x09 ∷ [])
       × (filling (readingOf sample) k list ≡ 0 ∷ 0 ∷ 0 ∷ 0 ∷ 0x09 ∷ [])
-  unfolding filling filledList filledBy filled entryBytes shaped supplied withFormat valueFor valueBy ownField formatOf unlessEmpty readingOf fillable fits total entriesOf shorter counted wantedStep asks andThen firstWanted sizeAt tagOf tagSize tagRight twoBytes firstByte beside isSome pick between every zeros
+  unfolding filling filledList filledBy filled entryBytes shaped supplied withFormat valueFor valueBy ownField formatOf unlessEmpty
+      readingOf fillable fits total entriesOf shorter counted wantedStep asks andThen firstWanted sizeAt tagOf tagSize tagRight
+      twoBytes firstByte beside isSome pick between every zeros
   filled-own = (refl, refl)
 
   counted-own : (unsupplied (readingOf fullSample) k list ≡ 0) × (unsupplied (readingOf sample) k list ≡ 1)
-  unfolding unsupplied missingBy missingIn missing supplied withFormat valueFor valueBy ownField formatOf unlessEmpty readingOf fillable fits total entriesOf shorter counted wantedStep asks andThen firstWanted sizeAt tagOf tagSize tagRight twoBytes firstByte beside isSome pick between every
+  unfolding unsupplied missingBy missingIn missing supplied withFormat valueFor valueBy ownField formatOf unlessEmpty readingOf
+      fillable fits total entriesOf shorter counted wantedStep asks andThen firstWanted sizeAt tagOf tagSize tagRight twoBytes
+      firstByte beside isSome pick between every
   counted-own = (refl, refl)

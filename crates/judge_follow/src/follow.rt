@@ -19,7 +19,9 @@ use tape_read::SILENCE;
 ghost use mathlib.Core.Path.{_≡_};
 ghost use lib.ListN.{length};
 ghost use Rattle.commands.specs.Commands.{longest};
-ghost use Rattle.judge_follow.specs.Following.{begun, stageOf, staged, advanced, atCommand, atSilence, atAnswer, atDecision, spoken, wordAt, led};
+ghost use Rattle.judge_follow.specs.Following.{begun, stageOf, staged, advanced, atCommand};
+ghost use Rattle.judge_follow.specs.Following.{atSilence, atAnswer, atDecision, spoken, wordAt};
+ghost use Rattle.judge_follow.specs.Following.{led};
 
 pub fn begin() -> Judgement
     ensures { λ r. ⌜ r ≡ begun ⌝ }

@@ -18,7 +18,8 @@ use Rattle.commands.specs.Commands.{longest}
 use Rattle.answer_record.specs.Records.{afterRecords}
 use Rattle.decide_requests.specs.Replies.{codeIn, replyOf}
 use Rattle.rulebook.specs.Situation.{Situation}
-use Rattle.rulebook.specs.Phase.{Asked, Heard, terminal, issuer, attendant, Phase, opens, asks, hears, decides, commandOf, dueKind, decisionOf}
+use Rattle.rulebook.specs.Phase.{Asked, Heard, terminal, issuer, attendant, Phase, opens}
+use Rattle.rulebook.specs.Phase.{asks, hears, decides, commandOf, dueKind, decisionOf}
 use Rattle.rulebook.specs.Turn.{opened, turn, allowed, replyMade, heard, verifiedBy, after as afterWord}
 use Rattle.rulebook.specs.Session.{isPayload, Session as WholeSession}
 use Rattle.rulebook.specs.Machine.{Machine, at, owes, done, due, sayable, next, run}

@@ -11,7 +11,9 @@ use Rattle.slices.specs.Choice.{pick}
 use Rattle.slices.specs.Writing.{zeros}
 use Rattle.slices.proofs.Writing.{zeros-length}
 use Rattle.start_fields.specs.Reading.{readingOf}
-use Rattle.start_valid.specs.Start.{validKind, validDigits, validRandom, validPercentages, validThreshold, validAid, validLength, validStart, beginsSession}
+use Rattle.start_valid.specs.Start.{validKind, validDigits, validRandom, validPercentages}
+use Rattle.start_valid.specs.Start.{validThreshold, validAid, validLength, validStart}
+use Rattle.start_valid.specs.Start.{beginsSession}
 use Rattle.start_valid.proofs.Laws.{begins-valid}
 use Rattle.slices.specs.Tests.{every, between}
 use Rattle.decimal_dates.specs.Decimal.{decimalFrom, decimal, decimalByte, digitsOnly, zerosOnly}
@@ -104,7 +106,8 @@ abbrev begin : List ℕ
 begin = startOf 2
 
 valid : beginsSession begin ≡ true
-unfolding beginsSession validStart validLength every pick between validKind validDigits digitsOnly decimalByte validStartDate monthAndDay validRandom validPercentages validThreshold validAid zerosOnly readingOf decimal decimalFrom
+unfolding beginsSession validStart validLength every pick between validKind validDigits digitsOnly decimalByte validStartDate
+    monthAndDay validRandom validPercentages validThreshold validAid zerosOnly readingOf decimal decimalFrom
 valid = refl
 
 held : isPayload begin ≡ true

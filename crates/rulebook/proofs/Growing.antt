@@ -17,7 +17,8 @@ use Rattle.decide_tvr.proofs.Rows.{joined-self, kept-on}
 use Rattle.decide_tvr.proofs.Laws.{tvr-kept, tsi-kept, tsi-kept-on}
 use Rattle.rulebook.specs.Situation.{Situation, begun}
 use Rattle.rulebook.specs.Phase.{Asked, Heard, terminal, issuer, attendant, Phase, asks, hears, situationOf, tvrOf, tsiOf}
-use Rattle.rulebook.specs.Turn.{opened, managed, requested, withProfile, withRecord, answered, turn, heard as issuerHeard, verifiedBy, after}
+use Rattle.rulebook.specs.Turn.{opened, managed, requested, withProfile, withRecord}
+use Rattle.rulebook.specs.Turn.{answered, turn, heard as issuerHeard, verifiedBy, after}
 use Rattle.rulebook.specs.Stated.{Grows, Growing, alone, onward}
 use Rattle.rulebook.specs.Session.{Plays, exchanged, heard, decided as settled, phasesOf, Reads}
 use Rattle.rulebook.proofs.Passing.{Holds, Lasting, holds-seen, requested-holds, replied-holds, turn-holds}

@@ -15,7 +15,9 @@ use Rattle.slices.specs.Writing.{zeros}
 use Rattle.slices.proofs.Tests.{held}
 use Rattle.slices.proofs.Writing.{zeros-length}
 use Rattle.start_fields.specs.Reading.{readingOf}
-use Rattle.start_valid.specs.Start.{validLength, validKind, validDigits, validRandom, validPercentages, validThreshold, validAid, validStart}
+use Rattle.start_valid.specs.Start.{validLength, validKind, validDigits, validRandom}
+use Rattle.start_valid.specs.Start.{validPercentages, validThreshold, validAid}
+use Rattle.start_valid.specs.Start.{validStart}
 use Rattle.decimal_dates.specs.Decimal.{decimalFrom, decimal, decimalByte, digitsOnly, zerosOnly}
 use Rattle.decimal_dates.specs.Dates.{monthAndDay, validStartDate}
 use Rattle.tape_read.specs.Entries.{command, answer, silence, decision}

@@ -4,7 +4,9 @@ use mathlib.Core.Path.{_≡_, refl}
 use Rattle.slices.specs.Choice.{pick, firstOf, unlessEmpty}
 use Rattle.slices.specs.Shorter.{counted, shorter}
 use Rattle.slices.specs.Writing.{zeros}
-use Rattle.tlv_head.specs.Head.{firstByte, constructed, twoBytes, tagSize, tagOf, tagRight, lengthByte, lengthForm, lengthSize, lengthOf, valueStart, valueEnd, whole}
+use Rattle.tlv_head.specs.Head.{firstByte, constructed, twoBytes, tagSize, tagOf, tagRight}
+use Rattle.tlv_head.specs.Head.{lengthByte, lengthForm, lengthSize, lengthOf, valueStart, valueEnd}
+use Rattle.tlv_head.specs.Head.{whole}
 use Rattle.tlv_list.specs.Objects.{between, firstObject, isSome, before, rightInside, listed, objects, isList, readRefusal}
 use Rattle.tlv_list.specs.Place.{dataField}
 use Rattle.tlv_list.specs.Lookup.{met, lookup}
@@ -20,7 +22,8 @@ use Rattle.answer_common.specs.Answer.{sizeBad, statusBad, only, outer, tagged,
 use Rattle.answer_common.specs.Content.{meets, rules, ruleFor, rightValue}
 use Rattle.answer_common.specs.Named.{membersIn, named, among, direct, standing, times, told, valueOf, wrongValue, anyTimes, anyWrong}
 use Rattle.answer_common.specs.Forms.{lacks}
-use Rattle.answer_afl.specs.Entries.{firstEntry, entries, wholeEntries, sfi, records, entryRight, entriesRight, recordsOf, recordCount, tooMany, run, readEntry, readAll, toRead, fileRight}
+use Rattle.answer_afl.specs.Entries.{firstEntry, entries, wholeEntries, sfi, records, entryRight, entriesRight}
+use Rattle.answer_afl.specs.Entries.{recordsOf, recordCount, tooMany, run, readEntry, readAll, toRead, fileRight}
 use Rattle.answer_gpo.specs.Options.{profileOf, locatorOf, optionsWrong, optionsLines, optionsReason}
 use Rattle.decide_tvr.specs.Bits.{joined, meet}
 use Rattle.decide_tvr.specs.Selection.{biased, chosen, selected}

@@ -9,7 +9,8 @@ use Rattle.tape_read.specs.Entries.{Entry, entry, command, silence, decision, r
 use Rattle.rulebook.specs.Session.{BreaksAt}
 use Rattle.rulebook.proofs.Opening.{reached}
 use Rattle.rulebook.proofs.Made.{shortOf, given, aac, tc, exchange, breaks, isPhase, silent}
-use Rattle.rulebook_worked.proofs.Verified.{startFor, pin, both, supported, recordOf, listOf, tvr, askedWith, readUpTo, settles, deniedUpTo}
+use Rattle.rulebook_worked.proofs.Verified.{startFor, pin, both, supported, recordOf, listOf}
+use Rattle.rulebook_worked.proofs.Verified.{tvr, askedWith, readUpTo, settles, deniedUpTo}
 
 -- a list of one rule, offline PIN
 abbrev told : List ℕ

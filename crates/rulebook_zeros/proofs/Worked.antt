@@ -40,12 +40,16 @@ module _ (t : Terminal) (request : Cryptogram) where
 
   -- 8A is not there at the first request; an entry of no byte counts; the version was never told
   pub at-first : unsuppliedAsking (first told request) ≡ 3
-  unfolding unsuppliedAsking unsupplied missingBy missingIn missing supplied withFormat valueFor valueBy ownField formatOf knownIn unlessEmpty listIn fillable fits total entriesOf shorter counted wantedStep asksFor andThen firstWanted sizeAt tagOf tagSize tagRight twoBytes firstByte beside isSome pick between every
+  unfolding unsuppliedAsking unsupplied missingBy missingIn missing supplied withFormat valueFor valueBy ownField formatOf knownIn
+      unlessEmpty listIn fillable fits total entriesOf shorter counted wantedStep asksFor andThen firstWanted sizeAt tagOf tagSize
+      tagRight twoBytes firstByte beside isSome pick between every
   at-first = refl
 
   -- at the second 8A is; a list is known to no list, and a tag that is named twice counts twice
   pub at-second : unsuppliedAsking (second told request (0x30 ∷ 0x30 ∷ [])) ≡ 3
-  unfolding unsuppliedAsking unsupplied missingBy missingIn missing supplied withFormat valueFor valueBy ownField formatOf knownIn unlessEmpty listIn fillable fits total entriesOf shorter counted wantedStep asksFor andThen firstWanted sizeAt tagOf tagSize tagRight twoBytes firstByte beside isSome pick between every
+  unfolding unsuppliedAsking unsupplied missingBy missingIn missing supplied withFormat valueFor valueBy ownField formatOf knownIn
+      unlessEmpty listIn fillable fits total entriesOf shorter counted wantedStep asksFor andThen firstWanted sizeAt tagOf tagSize
+      tagRight twoBytes firstByte beside isSome pick between every
   at-second = refl
 
 -- nothing is known but TVR and TSI, which are zeros, and what START has
@@ -57,16 +61,21 @@ lacking start list = unsuppliedAsking (optioning (begun start) list)
 
 -- 9F38: the amount, TVR and TSI are supplied, whatever they are; AIP, card number and 8A are not there yet
 pub at-options : lacking sample (0x9F ∷ 0x02 ∷ 6 ∷ 0x95 ∷ 5 ∷ 0x9B ∷ 2 ∷ 0x82 ∷ 2 ∷ 0x5A ∷ 10 ∷ 0x8A ∷ 2 ∷ []) ≡ 3
-unfolding unsuppliedAsking unsupplied missingBy missingIn missing supplied withFormat valueFor valueBy ownField formatOf knownIn unlessEmpty fillable fits total entriesOf shorter counted wantedStep asksFor andThen firstWanted sizeAt tagOf tagSize tagRight twoBytes firstByte beside isSome pick between every readingOf
+unfolding unsuppliedAsking unsupplied missingBy missingIn missing supplied withFormat valueFor valueBy ownField formatOf knownIn
+    unlessEmpty fillable fits total entriesOf shorter counted wantedStep asksFor andThen firstWanted sizeAt tagOf tagSize tagRight
+    twoBytes firstByte beside isSome pick between every readingOf
 at-options = refl
 
 -- Terminal Capabilities are known where START has them; the verification list and the application's currency are known to no list
 pub capabilities : (lacking sample (0x9F ∷ 0x33 ∷ 3 ∷ []) ≡ 1) × (lacking fullSample (0x9F ∷ 0x33 ∷ 3 ∷ []) ≡ 0)
     × (lacking fullSample (0x8E ∷ 8 ∷ 0x9F ∷ 0x42 ∷ 2 ∷ []) ≡ 2)
-unfolding unsuppliedAsking unsupplied missingBy missingIn missing supplied withFormat valueFor valueBy ownField formatOf knownIn unlessEmpty fillable fits total entriesOf shorter counted wantedStep asksFor andThen firstWanted sizeAt tagOf tagSize tagRight twoBytes firstByte beside isSome pick between every readingOf
+unfolding unsuppliedAsking unsupplied missingBy missingIn missing supplied withFormat valueFor valueBy ownField formatOf knownIn
+    unlessEmpty fillable fits total entriesOf shorter counted wantedStep asksFor andThen firstWanted sizeAt tagOf tagSize tagRight
+    twoBytes firstByte beside isSome pick between every readingOf
 capabilities = (refl, refl, refl)
 
 -- a list that cannot be filled, here for its last byte, counts nothing
 pub not-filled : lacking sample (0x82 ∷ 2 ∷ 0x9F ∷ []) ≡ 0
-unfolding unsuppliedAsking unsupplied fillable fits entriesOf shorter counted wantedStep asksFor andThen firstWanted tagSize tagRight twoBytes firstByte pick between every
+unfolding unsuppliedAsking unsupplied fillable fits entriesOf shorter counted wantedStep asksFor andThen firstWanted tagSize tagRight
+    twoBytes firstByte pick between every
 not-filled = refl

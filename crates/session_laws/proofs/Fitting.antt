@@ -33,8 +33,10 @@ use Rattle.decide_cryptogram.specs.declared.Request.the-variants.{First, Second
 use Rattle.decide_requests.specs.declared.reply.HostReply.{HostReply}
 use Rattle.decide_requests.specs.declared.reply.HostReply.the-variants.{Unable}
 use Rattle.rulebook.specs.Situation.{Situation, listIn, begun as situationBegun}
-use Rattle.rulebook.specs.Phase.{Asked, selecting, optioning, reading, first, second, attendant, Phase, hears, decides, situationOf, terminated, decided, ended, tvrOf, tsiOf}
-use Rattle.rulebook.specs.Turn.{goesOn, opened, selected, managed, requested, verifying, allRead, readOn, optioned, recorded, answered, replied, online, byFirst, firstAnswered, secondAnswered, turn, allowed, replyMade, heard, verifiedBy, after}
+use Rattle.rulebook.specs.Phase.{Asked, selecting, optioning, reading, first, second, attendant, Phase}
+use Rattle.rulebook.specs.Phase.{hears, decides, situationOf, terminated, decided, ended, tvrOf, tsiOf}
+use Rattle.rulebook.specs.Turn.{goesOn, opened, selected, managed, requested, verifying, allRead, readOn, optioned, recorded, answered}
+use Rattle.rulebook.specs.Turn.{replied, online, byFirst, firstAnswered, secondAnswered, turn, allowed, replyMade, heard, verifiedBy, after}
 use Rattle.session_state.specs.Reading.{startIn, situationWith, early, late, recordsLeft, askedBy, heardBy}
 use Rattle.session_phase.specs.declared.Question.{Question}
 use Rattle.session_phase.specs.declared.Question.the-variants.{Select, Options, Record, First, Second}
@@ -85,7 +87,8 @@ module _ (s : State) where
     z = lateWith tvr tsi
 
     requested-fits : (reason : ℕ) → Fits (requested reason z) s
-    unfolding requested Fits Knows forgets standing changed keptAs questionOf tvrOf tsiOf situationOf cursorAfter cursorAsking askedBy late situationWith
+    unfolding requested Fits Knows forgets standing changed keptAs questionOf tvrOf tsiOf situationOf cursorAfter cursorAsking askedBy
+        late situationWith
     requested-fits reason = goes-fits reason z _ refl
 
     verifying-fits : Fits (verifying z) s
@@ -95,7 +98,8 @@ module _ (s : State) where
         (λ n. requested-fits (afterRecords (z .facts)))
 
     replied-fits : (reply : HostReply) (code : List ℕ) → Fits (replied z reply code) s
-    unfolding replied ended Fits Knows forgets standing changed keptAs questionOf tvrOf tsiOf situationOf cursorAfter cursorAsking askedBy late situationWith
+    unfolding replied ended Fits Knows forgets standing changed keptAs questionOf tvrOf tsiOf situationOf cursorAfter cursorAsking
+        askedBy late situationWith
     replied-fits reply code = picked (λ (q : Phase). Fits q s) (fillable (listIn z 0x8D)) _ _ (λ y. refl) (λ n. decides-fits terminated 9 z)
 
     online-fits : Fits (online z) s
@@ -117,7 +121,8 @@ module _ (s : State) where
 
   -- the next record is the one at the cursor, and the cursor goes one further
   read-fits : Fits (readOn (late s) (recordsLeft s)) s
-  unfolding readOn recordsLeft Fits Knows forgets standing changed keptAs questionOf tvrOf tsiOf situationOf cursorAfter cursorAsking askedBy late situationWith
+  unfolding readOn recordsLeft Fits Knows forgets standing changed keptAs questionOf tvrOf tsiOf situationOf cursorAfter cursorAsking
+      askedBy late situationWith
   read-fits =
       let v = inRun (s .locator) in
       either (isLeft v (s .cursor))
@@ -134,7 +139,8 @@ module _ (s : State) (a : List ℕ) where
   Turns w = Fits (turn w a) (keeping w a s)
 
   select-fits : Turns (selecting (early s))
-  unfolding turn keeping selected Fits Knows forgets standing changed keptAs questionOf tvrOf tsiOf situationOf cursorAfter cursorAsking askedBy early situationWith
+  unfolding turn keeping selected Fits Knows forgets standing changed keptAs questionOf tvrOf tsiOf situationOf cursorAfter
+      cursorAsking askedBy early situationWith
   select-fits = goes-fits s (selectReason (early s .terminal) a) (early s) _ refl
 
   options-fits : Turns (optioning (early s) [])
@@ -174,7 +180,8 @@ turn-fits (Second request) s a = second-fits s a request
 
 -- START
 started-fits : (b : List ℕ) → length b ≤ fullLength → Fits (opened (readingOf b)) (begun b)
-unfolding opened Fits Knows forgets standing changed keptAs questionOf tvrOf tsiOf situationOf cursorAfter cursorAsking askedBy early situationWith begun stateAt situationBegun
+unfolding opened Fits Knows forgets standing changed keptAs questionOf tvrOf tsiOf situationOf cursorAfter cursorAsking askedBy early
+    situationWith begun stateAt situationBegun
 started-fits b e = ap (λ (z : Situation). selecting z) (early-begun b e)
 
 -- somebody else's word that may be taken

@@ -9,7 +9,8 @@ use Rattle.commands.specs.Commands.{sizeIn}
 use Rattle.answer_afl.specs.Cursor.{stepped}
 use Rattle.answer_afl.specs.declared.cursor.Cursor.{Cursor}
 use Rattle.decide_verification.specs.Verification.{resultsWanted}
-use Rattle.rulebook.specs.Phase.{Asked, selecting, optioning, reading, first, second, Heard, terminal, issuer, attendant, Phase, asks, hears, decides, commandOf, dueKind, tvrOf, tsiOf}
+use Rattle.rulebook.specs.Phase.{Asked, selecting, optioning, reading, first, second, Heard, terminal, issuer}
+use Rattle.rulebook.specs.Phase.{attendant, Phase, asks, hears, decides, commandOf, dueKind, tvrOf, tsiOf}
 use Rattle.rulebook_zeros.specs.Zeros.{unsuppliedIn}
 use Rattle.session_phase.specs.declared.Question.{Question}
 use Rattle.session_phase.specs.declared.Question.the-variants.{Select, Options, Record, First, Second}

@@ -11,7 +11,9 @@ use Rattle.decimal_dates.specs.Decimal.{decimalFrom, decimal, decimalByte, digi
 use Rattle.decimal_dates.specs.Dates.{monthAndDay, validStartDate}
 use Rattle.start_fields.specs.Reading.{readingOf}
 use Rattle.start_fields.proofs.Sample.{sample, fullSample}
-use Rattle.start_valid.specs.Start.{validLength, validKind, validDigits, validRandom, validPercentages, validThreshold, validAid, validStart, beginsSession}
+use Rattle.start_valid.specs.Start.{validLength, validKind, validDigits, validRandom}
+use Rattle.start_valid.specs.Start.{validPercentages, validThreshold, validAid, validStart}
+use Rattle.start_valid.specs.Start.{beginsSession}
 
 -- the sample with some of its bytes changed
 abbrev changed : List (ℕ × ℕ) → List ℕ
@@ -49,7 +51,8 @@ rows =
     ∷ []
 
 rows-judged : map (λ row. validStart (changed (row .0))) rows ≡ map (λ row. row .1) rows
-unfolding validStart every pick between validLength validKind validDigits digitsOnly decimalByte validStartDate monthAndDay validRandom validPercentages validThreshold validAid zerosOnly readingOf decimal decimalFrom
+unfolding validStart every pick between validLength validKind validDigits digitsOnly decimalByte validStartDate monthAndDay validRandom
+    validPercentages validThreshold validAid zerosOnly readingOf decimal decimalFrom
 rows-judged = refl
 
 -- so many bytes of the sample, Terminal Capabilities and one byte more
@@ -64,5 +67,6 @@ sizes =
     ∷ []
 
 sizes-judged : map (λ row. (length (sized (row .0)), validStart (sized (row .0)), beginsSession (sized (row .0)))) sizes ≡ sizes
-unfolding beginsSession validStart every pick between validLength validKind validDigits digitsOnly decimalByte validStartDate monthAndDay validRandom validPercentages validThreshold validAid zerosOnly readingOf decimal decimalFrom
+unfolding beginsSession validStart every pick between validLength validKind validDigits digitsOnly decimalByte validStartDate
+    monthAndDay validRandom validPercentages validThreshold validAid zerosOnly readingOf decimal decimalFrom
 sizes-judged = refl

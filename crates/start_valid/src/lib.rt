@@ -1,7 +1,9 @@
 // Whether a START is valid, a function for each condition.
 ghost use mathlib.Core.Path.{_≡_};
 ghost use Rattle.start_fields.specs.Reading.{readingOf, aidLengthIn, aidRoomIn};
-ghost use Rattle.start_valid.specs.Start.{validKind, validDigits, validRandom, validPercentages, validThreshold, validAid, validLength, validStart, beginsSession};
+ghost use Rattle.start_valid.specs.Start.{validKind, validDigits, validRandom, validPercentages};
+ghost use Rattle.start_valid.specs.Start.{validThreshold, validAid, validLength, validStart};
+ghost use Rattle.start_valid.specs.Start.{beginsSession};
 use decimal_dates::dates::valid_start_date;
 use decimal_dates::decimal::digits_only;
 use decimal_dates::decimal::zeros_only;

@@ -15,7 +15,10 @@ use Rattle.t0_laws.specs.Moves.{sizeSaid, answered}
 use Rattle.t0_laws.specs.Annex.{exchanged, Examples}
 
 pub examples : Examples
-unfolding pick put laid zeros caseOf dataOf asked isStatus isWarning insFor insOf complement meaningOf comesIn mayGetAfter mayGet mayRepeat goesOnAfter goesOn moving onAll onNext onWait onGet onSixC byMeaning onProcedure onLength onRepeat endingIn onStatus phaseAfter onData byPhase afterByte headerFor headerOf commandOf nowhere begun begunAs begunIn begunBy sentBy keptBy waitFor replyTo done stepOf isOver isClosed logged settled opened playing sizeSaid answered exchanged
+unfolding pick put laid zeros caseOf dataOf asked isStatus isWarning insFor insOf complement meaningOf comesIn mayGetAfter mayGet
+    mayRepeat goesOnAfter goesOn moving onAll onNext onWait onGet onSixC byMeaning onProcedure onLength onRepeat endingIn onStatus
+    phaseAfter onData byPhase afterByte headerFor headerOf commandOf nowhere begun begunAs begunIn begunBy sentBy keptBy waitFor
+    replyTo done stepOf isOver isClosed logged settled opened playing sizeSaid answered exchanged
 examples =
     record {
       a1 = (refl, refl);

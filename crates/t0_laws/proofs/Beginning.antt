@@ -22,7 +22,8 @@ use Rattle.t0_begin.specs.Begin.{commandOf, stateAt, nowhere, Begun, begun, beg
 use Rattle.t0_turns.specs.Turns.{dataMost}
 use Rattle.t0_pieces.specs.Pieces.{isOver}
 use Rattle.t0_laws.specs.Outcomes.{turned, Bytes}
-use Rattle.t0_laws.specs.Bounds.{bytesMost, waitsLeft, getsLeft, repeatCost, sizeMost, headerCost, phaseCost, bytesLeft, headerData, phaseData, dataLeft, is6C, Sound}
+use Rattle.t0_laws.specs.Bounds.{bytesMost, waitsLeft, getsLeft, repeatCost, sizeMost, headerCost}
+use Rattle.t0_laws.specs.Bounds.{phaseCost, bytesLeft, headerData, phaseData, dataLeft, is6C, Sound}
 use Rattle.t0_laws.proofs.Headers.{moved-none, asked-most}
 use Rattle.t0_laws.proofs.Ends.{sound-on, ends-within}
 

@@ -20,7 +20,8 @@ use Rattle.t0_state.specs.declared.Refusal.{Refusal}
 use Rattle.t0_state.specs.declared.Refusal.the-variants.{Byte, Place, Many60, Many61, Many6C}
 use Rattle.t0_state.specs.declared.Act.the-variants.{Nothing, Header, Send}
 use Rattle.t0_state.specs.declared.Turn.{Turn}
-use Rattle.t0_procedure.specs.Procedure.{waitsMost, getsMost, refused, onward, lessLeft, moving, onAll, onNext, waited, onWait, got, onGet, repeats, onSixC, byMeaning, onProcedure}
+use Rattle.t0_procedure.specs.Procedure.{waitsMost, getsMost, refused, onward, lessLeft, moving, onAll, onNext}
+use Rattle.t0_procedure.specs.Procedure.{waited, onWait, got, onGet, repeats, onSixC, byMeaning, onProcedure}
 use Rattle.t0_turns.specs.Turns.{dataMost, closedOn, onLength, onRepeat, endingIn, onStatus, onData, byPhase, afterByte}
 
 module _ (s : State) (b : ℕ) (P : Turn → Type 0)

@@ -20,5 +20,8 @@ unfolding longestCapture slowly copies
 long = refl
 
 pub not-over : isOver (turned (begunBy longestCommand [] .state) longestCapture .phase) ≡ false
-unfolding pick put laid zeros caseOf dataOf asked isStatus isWarning insFor insOf complement meaningOf comesIn mayGetAfter mayGet mayRepeat goesOnAfter goesOn moving onAll onNext onWait onGet onSixC byMeaning onProcedure onLength onRepeat endingIn onStatus phaseAfter onData byPhase afterByte commandOf nowhere begun begunAs begunIn begunBy isOver turned longestCapture longestCommand slowly copies
+unfolding pick put laid zeros caseOf dataOf asked isStatus isWarning insFor insOf complement meaningOf comesIn mayGetAfter mayGet
+    mayRepeat goesOnAfter goesOn moving onAll onNext onWait onGet onSixC byMeaning onProcedure onLength onRepeat endingIn onStatus
+    phaseAfter onData byPhase afterByte commandOf nowhere begun begunAs begunIn begunBy isOver turned longestCapture longestCommand
+    slowly copies
 not-over = refl

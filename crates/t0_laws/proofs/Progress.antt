@@ -20,7 +20,9 @@ use Rattle.t0_state.specs.Changes.{atPhase, withReceived, withTrailer, asking}
 use Rattle.t0_procedure.specs.Procedure.{waitsMost, getsMost, lessLeft, waited, got, repeats}
 use Rattle.t0_turns.specs.Turns.{onLength, phaseAfter, onData, afterByte}
 use Rattle.t0_pieces.specs.Pieces.{isOver}
-use Rattle.t0_laws.specs.Bounds.{waitsLeft, getsLeft, repeatCost, moved, sizeMost, headerCost, phaseCost, bytesLeft, headerData, phaseData, dataLeft, is6C, Sound}
+use Rattle.t0_laws.specs.Bounds.{waitsLeft, getsLeft, repeatCost, moved, sizeMost, headerCost}
+use Rattle.t0_laws.specs.Bounds.{phaseCost, bytesLeft, headerData, phaseData, dataLeft, is6C}
+use Rattle.t0_laws.specs.Bounds.{Sound}
 use Rattle.t0_laws.proofs.Cases.{every-turn}
 use Rattle.t0_laws.proofs.Headers.{comes-in, goes-out, goes-on-four, repeats-in, moved-left, moved-none, moved-more, asked-most}
 

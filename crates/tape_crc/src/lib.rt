@@ -72,7 +72,8 @@ fn by_pairs(
     three: &[u32; 256],
 ) -> u32
     requires { ⌜ Tables (now none) (now one ∷ now two ∷ now three ∷ []) ⌝ }
-    ensures { λ r. ⌜ runningOf r (drop (length (now (s .entry)) / pairOf * pairOf) (now (s .entry))) ≡ runningOf register (now (s .entry)) ⌝ }
+    ensures { λ r. ⌜ runningOf r (drop (length (now (s .entry)) / pairOf * pairOf) (now (s .entry)))
+        ≡ runningOf register (now (s .entry)) ⌝ }
 {
     let mut r = register;
     let mut i = 0;

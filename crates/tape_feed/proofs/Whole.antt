@@ -18,8 +18,10 @@ use Rattle.tape_read.proofs.Steps.{read-end, read-bad, read-good, tape-long, ta
 use Rattle.tape_feed.specs.declared.Reader.{Reader}
 use Rattle.tape_feed.specs.declared.Taken.{Taken}
 use Rattle.tape_feed.specs.declared.Damage.{Damage}
-use Rattle.tape_feed.specs.Feeding.{begun, sessionDue, looked, passed, ended, unread, read, next, damaged, damageOf, readerAfter, entriesRead, readingOf, piecesOf}
-use Rattle.tape_feed.proofs.Turns.{next-full, next-ended, next-passed, next-looked, long-blocks, short-blocks, most-blocks, damage-long, damage-torn, damage-first}
+use Rattle.tape_feed.specs.Feeding.{begun, sessionDue, looked, passed, ended, unread, read, next}
+use Rattle.tape_feed.specs.Feeding.{damaged, damageOf, readerAfter, entriesRead, readingOf, piecesOf}
+use Rattle.tape_feed.proofs.Turns.{next-full, next-ended, next-passed, next-looked, long-blocks}
+use Rattle.tape_feed.proofs.Turns.{short-blocks, most-blocks, damage-long, damage-torn, damage-first}
 
 -- ---- readings
 

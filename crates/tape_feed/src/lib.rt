@@ -6,7 +6,8 @@ use tape_read::session;
 ghost use mathlib.Core.Path.{_≡_};
 ghost use Prim.Native.Nat.{_≤_};
 ghost use Rattle.tape_read.specs.Entries.{blocksMost};
-ghost use Rattle.tape_feed.specs.Feeding.{begun, sessionDue, looked, passed as passedBy, ended as endedBy, unread as notRead, next as nextBy, tooLong, damaged, damageOf};
+ghost use Rattle.tape_feed.specs.Feeding.{begun, sessionDue, looked, passed as passedBy, ended as endedBy};
+ghost use Rattle.tape_feed.specs.Feeding.{unread as notRead, next as nextBy, tooLong, damaged, damageOf};
 
 // The blocks so far; the session number of block 0; the place and the code of the first bad block, code 0 where there is none; and
 // whether the tape ended inside a block.

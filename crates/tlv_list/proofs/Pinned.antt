@@ -7,7 +7,9 @@ use mathlib.Core.Option.{Option, none, some}
 use Prim.Native.Nat.{ℕ}
 use Rattle.slices.specs.Choice.{pick, firstOf}
 use Rattle.slices.specs.Shorter.{counted, shorter}
-use Rattle.tlv_head.specs.Head.{firstByte, constructed, twoBytes, tagSize, tagOf, tagRight, lengthByte, lengthForm, lengthSize, lengthOf, valueStart, valueEnd, whole}
+use Rattle.tlv_head.specs.Head.{firstByte, constructed, twoBytes, tagSize, tagOf, tagRight}
+use Rattle.tlv_head.specs.Head.{lengthByte, lengthForm, lengthSize, lengthOf, valueStart, valueEnd}
+use Rattle.tlv_head.specs.Head.{whole}
 use Rattle.tlv_list.specs.Objects.{Object, between, firstObject, isSome, before, rightInside, listed, objects, isList, readRefusal}
 use Rattle.tlv_list.specs.Lookup.{seek}
 use Rattle.tlv_list.specs.declared.Sought.{Sought}
@@ -18,7 +20,8 @@ object t v = record { tag = t; value = v }
 
 -- `objects`, with all that it rests on open
 reads : List ℕ → Option (List Object)
-unfolding pick counted shorter firstByte constructed twoBytes tagSize tagOf tagRight lengthByte lengthForm lengthSize lengthOf valueStart valueEnd whole between firstObject isSome before rightInside listed objects
+unfolding pick counted shorter firstByte constructed twoBytes tagSize tagOf tagRight lengthByte lengthForm lengthSize lengthOf
+    valueStart valueEnd whole between firstObject isSome before rightInside listed objects
 reads s = objects s
 
 -- a longer length form than needed is legal, and so is an empty value

@@ -13,7 +13,8 @@ use Rattle.slices.specs.Choice.{pick}
 use Rattle.slices.proofs.Choice.{pick-yes, pick-no, picked, either}
 use Rattle.tlv_list.specs.Objects.{Object, between, before, rightInside, objects}
 use Rattle.tlv_list.specs.Place.{Place, objectAt, follow, walk, placesFrom, nextAt}
-use Rattle.tlv_list.specs.Lookup.{Lookup, absent, once, twice, met, lookup, firstAmong, firstFrom, unless, alone, findInChecked, foundValue}
+use Rattle.tlv_list.specs.Lookup.{Lookup, absent, once, twice, met, lookup, firstAmong}
+use Rattle.tlv_list.specs.Lookup.{firstFrom, unless, alone, findInChecked, foundValue}
 use Rattle.tlv_head.specs.declared.Next.{Next}
 use Rattle.tlv_head.specs.declared.Next.the-variants.{Member, End, Broken}
 use Rattle.tlv_list.specs.declared.Found.{Found}

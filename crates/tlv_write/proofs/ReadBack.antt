@@ -14,7 +14,8 @@ use lib.Seq.{getD-append-add, drop-at, drop-length, take-length, take-all}
 use borrow.Author.Tests.{lt-ltb, le-ltb, ltb-true, ltb-false, le-leb, ne-eqb, not-true}
 use Rattle.slices.specs.Choice.{pick}
 use Rattle.slices.proofs.Choice.{pick-yes, pick-no, picked, either, and-left, and-right, and-both}
-use Rattle.tlv_head.specs.Head.{constructed, twoBytes, tagSize, tagOf, tagRight, lengthByte, lengthForm, lengthSize, lengthOf, valueStart, valueEnd, whole}
+use Rattle.tlv_head.specs.Head.{constructed, twoBytes, tagSize, tagOf, tagRight, lengthByte}
+use Rattle.tlv_head.specs.Head.{lengthForm, lengthSize, lengthOf, valueStart, valueEnd, whole}
 use Rattle.tlv_list.specs.Objects.{Object, between, firstObject, isSome, before, rightInside, objects, isList}
 use Rattle.tlv_write.specs.Written.{isTag, tagBytes, lengthBytes, written, writtenAll, fitsTag}
 use Rattle.tlv_list.proofs.Objects.{objects-empty, objects-member}

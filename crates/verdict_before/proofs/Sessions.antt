@@ -14,7 +14,9 @@ use Rattle.decimal_dates.specs.Decimal.{decimalFrom, decimal, decimalByte, digi
 use Rattle.decimal_dates.specs.Dates.{monthAndDay, validStartDate}
 use Rattle.start_fields.specs.Reading.{readingOf}
 use Rattle.start_fields.proofs.Sample.{sample}
-use Rattle.start_valid.specs.Start.{validLength, validKind, validDigits, validRandom, validPercentages, validThreshold, validAid, validStart}
+use Rattle.start_valid.specs.Start.{validLength, validKind, validDigits, validRandom}
+use Rattle.start_valid.specs.Start.{validPercentages, validThreshold, validAid}
+use Rattle.start_valid.specs.Start.{validStart}
 use Rattle.tape_read.specs.Entries.{Entry, entry, start, answer}
 use Rattle.rulebook.specs.Phase.{terminal, opens, dueKind}
 use Rattle.rulebook.specs.Turn.{allowed, after}

@@ -14,7 +14,9 @@ use Rattle.slices.specs.Choice.{pick, unlessEmpty}
 use Rattle.slices.specs.Tables.{beside}
 use Rattle.slices.proofs.Choice.{picked, pick-no, pick-same, either, there}
 use Rattle.start_fields.specs.declared.fields.Field.{Field}
-use Rattle.start_fields.specs.declared.fields.Field.the-variants.{Amount, OtherAmount, Country, Currency, Date, TransactionType, Unpredictable, Version, Capabilities}
+use Rattle.start_fields.specs.declared.fields.Field.the-variants.{Amount, OtherAmount, Country, Currency, Date}
+use Rattle.start_fields.specs.declared.fields.Field.the-variants.{TransactionType, Unpredictable, Version}
+use Rattle.start_fields.specs.declared.fields.Field.the-variants.{Capabilities}
 use Rattle.start_fields.specs.Layout.{beginOf, sizeOf, startLength}
 use Rattle.start_fields.specs.Reading.{Terminal, readingOf, bytesOf}
 use Rattle.start_fields.proofs.Reading.{all-read, no-capabilities}

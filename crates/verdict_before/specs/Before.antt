@@ -21,7 +21,8 @@ use Rattle.answer_afl.specs.Entries.{toRead}
 use Rattle.answer_record.specs.Records.{recordReason, namedIn, afterRecords}
 use Rattle.decide_requests.specs.Replies.{replyOf, isReply}
 use Rattle.rulebook.specs.Situation.{Situation}
-use Rattle.rulebook.specs.Phase.{Asked, selecting, optioning, reading, first, second, Heard, terminal, issuer, attendant, Phase, asks, hears, ended}
+use Rattle.rulebook.specs.Phase.{Asked, selecting, optioning, reading, first, second, Heard}
+use Rattle.rulebook.specs.Phase.{terminal, issuer, attendant, Phase, asks, hears, ended}
 use Rattle.rulebook.specs.Turn.{goesOn, opened, selected, managed, requested, withProfile, firstAnswered, secondAnswered, replyMade, heard}
 
 -- what records named, each with its format in object lists: card number, expiry, effective date, version, the object lists for the first

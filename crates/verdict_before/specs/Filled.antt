@@ -8,7 +8,8 @@ use Rattle.slices.specs.Choice.{pick}
 use Rattle.slices.specs.Tests.{isSome}
 use Rattle.slices.specs.Tables.{beside}
 use Rattle.start_fields.specs.declared.fields.Field.{Field}
-use Rattle.start_fields.specs.declared.fields.Field.the-variants.{Amount, OtherAmount, Country, Currency, Date, TransactionType, Unpredictable, Version}
+use Rattle.start_fields.specs.declared.fields.Field.the-variants.{Amount, OtherAmount, Country, Currency, Date}
+use Rattle.start_fields.specs.declared.fields.Field.the-variants.{TransactionType, Unpredictable, Version}
 use Rattle.start_fields.specs.Reading.{Terminal, bytesOf}
 use Rattle.answer_common.specs.declared.content.Format.{Format}
 use Rattle.answer_common.specs.declared.content.Format.the-variants.{Numeric, Other, Unknown}

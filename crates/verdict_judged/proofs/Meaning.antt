@@ -26,7 +26,8 @@ use Rattle.verdict_judged.specs.Judged.{Judges, passes, undecided, fails
 use Rattle.verdict.specs.declared.Verdict.the-variants.{Pass, Inconclusive}
 use Rattle.verdict.specs.declared.Answer.{Answer}
 use Rattle.verdict_judged.proofs.Once.{judged-once}
-use Rattle.verdict_judged.specs.Progress.{Progress, reached, closed, broken, begun, empty, closes, onward, reads, readsAll, progressOf, concluded, finally, verdictOf}
+use Rattle.verdict_judged.specs.Progress.{Progress, reached, closed, broken, begun, empty, closes, onward}
+use Rattle.verdict_judged.specs.Progress.{reads, readsAll, progressOf, concluded, finally, verdictOf}
 
 -- what is known of the entries that were read
 unfoldable pub Means : Progress → List Entry → Type 0

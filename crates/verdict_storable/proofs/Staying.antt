@@ -16,7 +16,9 @@ use Rattle.tape_crc.proofs.Bytes.{bytes-head, bytes-rest, bytes-cons, bytes-tak
 use Rattle.tlv_list.specs.Objects.{isSome}
 use Rattle.start_fields.specs.declared.fields.Field.{Field}
 use Rattle.start_fields.specs.declared.fields.Field.the-variants.{Amount, OtherAmount, Country, Currency, Date, TransactionType}
-use Rattle.start_fields.specs.declared.fields.Field.the-variants.{Unpredictable, FloorLimit, Threshold, Version, Denial, Online, Default, Capabilities}
+use Rattle.start_fields.specs.declared.fields.Field.the-variants.{Unpredictable, FloorLimit, Threshold}
+use Rattle.start_fields.specs.declared.fields.Field.the-variants.{Version, Denial, Online, Default}
+use Rattle.start_fields.specs.declared.fields.Field.the-variants.{Capabilities}
 use Rattle.start_fields.specs.Layout.{beginOf, sizeOf, aidRoom, aidAt}
 use Rattle.start_fields.specs.Reading.{Terminal, readingOf, bytesOf, runIn, aidLengthIn, aidRoomIn}
 use Rattle.tape_read.proofs.Extra.{zeros-bytes}
@@ -43,7 +45,8 @@ use Rattle.decide_tvr.proofs.Laws.{tvr-length, tvr-bytes, tsi-length, tsi-lengt
 use Rattle.decide_verification.specs.Verification.{resultsDue}
 use Rattle.decide_verification.proofs.Laws.{results-length, results-bytes, performed-length, performed-bytes}
 use Rattle.rulebook.specs.Situation.{Situation, begun, listIn}
-use Rattle.rulebook.specs.Phase.{Asked, selecting, optioning, reading, first, second, Heard, terminal, issuer, attendant, Phase, asks, hears}
+use Rattle.rulebook.specs.Phase.{Asked, selecting, optioning, reading, first, second}
+use Rattle.rulebook.specs.Phase.{Heard, terminal, issuer, attendant, Phase, asks, hears}
 use Rattle.rulebook.specs.Phase.{decides, decided, ended, terminated}
 use Rattle.rulebook.specs.Turn.{goesOn, opened, selected, managed, requested, verifying, allRead, readOn, withProfile, optioned, withRecord}
 use Rattle.rulebook.specs.Turn.{recorded, answered, replied, online, byFirst, bySecond, firstAnswered, secondAnswered}
