@@ -14,7 +14,8 @@ use Rattle.slices.specs.Choice.{pick}
 use Rattle.slices.proofs.Choice.{pick-yes, pick-no, picked}
 use Rattle.slices.proofs.Shorter.{by-length}
 use Rattle.tlv_head.specs.Head.{constructed}
-use Rattle.tlv_list.specs.Objects.{Object, between, isSome, before, rightInside, objects, isList}
+use Rattle.slices.specs.Tests.{isSome}
+use Rattle.tlv_list.specs.Objects.{Object, between, before, rightInside, objects, isList}
 use Rattle.tlv_list.specs.Place.{nextAt, dataField}
 use Rattle.tlv_list.specs.Lookup.{Lookup, absent, once, twice, met, lookup, findInChecked, foundValue}
 use Rattle.tlv_list.specs.declared.Found.{Found}

@@ -7,10 +7,10 @@ use Rattle.slices.specs.Choice.{pick, firstOf}
 use Rattle.slices.specs.Shorter.{counted, shorter}
 use Rattle.tlv_head.specs.Head.{firstByte, constructed, twoBytes, tagSize, tagOf, tagRight, lengthByte, lengthForm, lengthSize, lengthOf}
 use Rattle.tlv_head.specs.Head.{valueStart, valueEnd, whole}
-use Rattle.tlv_list.specs.Objects.{between as part, firstObject, isSome, before, rightInside, listed, objects}
+use Rattle.slices.specs.Tests.{isSome, every, between}
+use Rattle.tlv_list.specs.Objects.{between as part, firstObject, before, rightInside, listed, objects}
 use Rattle.tlv_list.specs.Place.{dataField}
 use Rattle.tlv_list.specs.Lookup.{Lookup, met, lookup}
-use Rattle.slices.specs.Tests.{every, between}
 use Rattle.answer_afl.specs.Entries.{wholeEntries}
 use Rattle.slices.specs.Tables.{anyOf, beside}
 use Rattle.answer_common.specs.CardNumber.{halves, digits, onlyF, cardNumber}

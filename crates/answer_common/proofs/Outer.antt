@@ -12,7 +12,8 @@ use lib.ListN.{length, drop, length-take}
 use borrow.Author.Tests.{ltb-false, le-ltb, not-true, not-false}
 use Rattle.slices.specs.Choice.{pick, firstOf}
 use Rattle.slices.proofs.Choice.{pick-yes, pick-no, picked, either}
-use Rattle.tlv_list.specs.Objects.{Object, between, isSome, before, rightInside, objects, isList, readRefusal}
+use Rattle.slices.specs.Tests.{isSome}
+use Rattle.tlv_list.specs.Objects.{Object, between, before, rightInside, objects, isList, readRefusal}
 use Rattle.tlv_list.specs.Place.{nextAt, dataField}
 use Rattle.tlv_head.specs.declared.Next.{Next}
 use Rattle.tlv_head.specs.declared.Next.the-variants.{Member, End, Broken}

@@ -6,7 +6,7 @@ use mathlib.Core.Option.{Option, none, some, Option·getD}
 use Prim.Native.Nat.{ℕ}
 use lib.Dec.{eqb}
 use Rattle.slices.specs.Choice.{pick, firstOf}
-use Rattle.tlv_list.specs.Objects.{isSome}
+use Rattle.slices.specs.Tests.{isSome}
 use Rattle.tlv_list.specs.Lookup.{Lookup}
 use Rattle.dol_wanted.specs.Wanted.{fillable}
 use Rattle.slices.specs.Tables.{anyOf}

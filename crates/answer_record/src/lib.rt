@@ -15,7 +15,7 @@ ghost use mathlib.Core.Bool.{not};
 ghost use mathlib.Core.List.{[], map};
 ghost use mathlib.Core.Option.{Option·getD};
 ghost use Rattle.slices.specs.Choice.{firstOf};
-ghost use Rattle.tlv_list.specs.Objects.{isSome};
+ghost use Rattle.slices.specs.Tests.{isSome};
 ghost use Rattle.slices.specs.Tables.{anyOf};
 ghost use Rattle.answer_common.specs.Named.{standing};
 ghost use Rattle.answer_record.specs.Records.{again, anyAgain, recordTwice, recordLines, recordReason, valueIn, afterRecords};

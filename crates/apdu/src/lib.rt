@@ -85,12 +85,17 @@ pub fn is_warning(a: u8, b: u8) -> bool
     false
 }
 
+// The most bytes of an answer that a session takes, and what it is handed of a longer one.
+const HANDED_MOST: usize = 496;
+
+const HANDED_OF_LONGER: usize = 259;
+
 // What a session is handed of an answer, as a part of the answer itself.
 pub fn handed(answer: &[u8]) -> &[u8]
     ensures { λ r. ⌜ now r ≡ handedOf (now (answer .entry)) ⌝ }
 {
-    if answer.len() <= 496 {
+    if answer.len() <= HANDED_MOST {
         return answer;
     }
-    part(answer, 0, 259)
+    part(answer, 0, HANDED_OF_LONGER)
 }

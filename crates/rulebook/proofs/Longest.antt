@@ -13,7 +13,7 @@ use lib.Dec.{eqb}
 use lib.ListN.{length, drop, length-append}
 use Rattle.slices.specs.Choice.{pick, firstOf}
 use Rattle.slices.proofs.Choice.{pick-yes, pick-same}
-use Rattle.tlv_list.specs.Objects.{isSome}
+use Rattle.slices.specs.Tests.{isSome}
 use Rattle.tlv_list.specs.Lookup.{Lookup, absent}
 use Rattle.tape_read.specs.Entries.{Entry, entry, start, host, results}
 use Rattle.start_fields.specs.Reading.{readingOf}

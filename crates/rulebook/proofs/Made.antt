@@ -10,7 +10,7 @@ use native.Mathlib.Omega.{arith}
 use lib.Dec.{eqb}
 use lib.ListN.{length}
 use borrow.Author.Tests.{eqb-false}
-use Rattle.tlv_list.specs.Objects.{isSome}
+use Rattle.slices.specs.Tests.{isSome}
 use Rattle.tape_read.specs.Entries.{Entry, entry, start, command, answer, silence, decision}
 use Rattle.rulebook.specs.Phase.{Phase, opens}
 use Rattle.rulebook.specs.Session.{Session, BreaksAt}

@@ -7,7 +7,7 @@ use mathlib.Core.List.{List, [], _∷_}
 use Prim.Native.Nat.{ℕ}
 use lib.Dec.{eqb}
 use Rattle.slices.proofs.Choice.{picked}
-use Rattle.tlv_list.specs.Objects.{isSome}
+use Rattle.slices.specs.Tests.{isSome}
 use Rattle.dol_wanted.specs.Wanted.{fillable}
 use Rattle.answer_select.specs.Select.{selectReason}
 use Rattle.answer_gpo.specs.Options.{optionsReason, profileOf, locatorOf}

@@ -7,7 +7,7 @@ use mathlib.Core.Option.{Option, none, some}
 use Prim.Native.Nat.{ℕ}
 use lib.Dec.{eqb}
 use Rattle.slices.specs.Choice.{pick}
-use Rattle.tlv_list.specs.Objects.{isSome}
+use Rattle.slices.specs.Tests.{isSome}
 use Rattle.start_fields.specs.Reading.{Terminal, readingOf}
 use Rattle.start_valid.specs.Start.{validStart}
 use Rattle.session_records.specs.Slots.{orElse}

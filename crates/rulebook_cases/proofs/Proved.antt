@@ -7,10 +7,10 @@ use Rattle.slices.specs.Writing.{zeros}
 use Rattle.tlv_head.specs.Head.{firstByte, constructed, twoBytes, tagSize, tagOf, tagRight}
 use Rattle.tlv_head.specs.Head.{lengthByte, lengthForm, lengthSize, lengthOf, valueStart, valueEnd}
 use Rattle.tlv_head.specs.Head.{whole}
-use Rattle.tlv_list.specs.Objects.{between, firstObject, isSome, before, rightInside, listed, objects, isList, readRefusal}
+use Rattle.slices.specs.Tests.{isSome, every, between as within}
+use Rattle.tlv_list.specs.Objects.{between, firstObject, before, rightInside, listed, objects, isList, readRefusal}
 use Rattle.tlv_list.specs.Place.{dataField}
 use Rattle.tlv_list.specs.Lookup.{met, lookup}
-use Rattle.slices.specs.Tests.{every, between as within}
 use Rattle.decimal_dates.specs.Decimal.{decimalFrom, decimal}
 use Rattle.dol_wanted.specs.Wanted.{andThen, sizeAt, firstWanted, asks, wantedStep, entriesOf, total, fits, fillable}
 use Rattle.dol_values.specs.Shape.{shaped, formatOf}

@@ -10,7 +10,7 @@ use native.Mathlib.Omega.{arith}
 use lib.Dec.{eqb}
 use lib.ListN.{length, take, getD}
 use borrow.Author.Tests.{eqb-false}
-use Rattle.tlv_list.specs.Objects.{isSome}
+use Rattle.slices.specs.Tests.{isSome}
 use Rattle.tape_read.specs.Entries.{Entry, entry, start, command, answer, host, decision}
 use Rattle.start_valid.specs.Start.{beginsSession}
 use Rattle.rulebook.specs.Session.{Session, Open, BreaksAt}

@@ -4,7 +4,7 @@ use mathlib.Core.List.{List}
 use Prim.Native.Nat.{ℕ}
 use lib.Dec.{eqb}
 use Rattle.slices.specs.Choice.{pick}
-use Rattle.tlv_list.specs.Objects.{isSome}
+use Rattle.slices.specs.Tests.{isSome}
 use Rattle.answer_common.specs.Content.{namesFor}
 use Rattle.answer_gpo.specs.Options.{optionsReason}
 use Rattle.answer_record.specs.Records.{recordReason}

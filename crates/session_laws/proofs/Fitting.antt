@@ -10,7 +10,7 @@ use lib.ListN.{length}
 use borrow.Author.Tests.{eqb-true}
 use Rattle.slices.specs.Choice.{pick}
 use Rattle.slices.proofs.Choice.{picked, either}
-use Rattle.tlv_list.specs.Objects.{isSome}
+use Rattle.slices.specs.Tests.{isSome}
 use Rattle.start_fields.specs.Layout.{fullLength}
 use Rattle.start_fields.specs.Reading.{readingOf}
 use Rattle.dol_wanted.specs.Wanted.{fillable}

@@ -16,7 +16,7 @@ use Rattle.slices.specs.Choice.{pick}
 use Rattle.slices.specs.Writing.{put, laid}
 use Rattle.slices.proofs.Choice.{pick-yes, pick-no, picked, either}
 use Rattle.slices.proofs.Writing.{put-length, put-step, put-take, laid-fits}
-use Rattle.tlv_list.specs.Objects.{isSome}
+use Rattle.slices.specs.Tests.{isSome}
 use Rattle.session_records.specs.Slots.{read, cellIn, keptAt}
 use Rattle.session_records.specs.declared.Slot.{Slot}
 

@@ -15,7 +15,8 @@ use Rattle.slices.specs.Writing.{put, zeros}
 use Rattle.slices.proofs.Choice.{pick-yes, pick-no, picked, either}
 use Rattle.slices.proofs.Tests.{first-held}
 use Rattle.slices.proofs.Writing.{zeros-length}
-use Rattle.tlv_list.specs.Objects.{Object, isSome}
+use Rattle.slices.specs.Tests.{isSome}
+use Rattle.tlv_list.specs.Objects.{Object}
 use Rattle.tlv_list.specs.Lookup.{Lookup, absent, once, twice, met, lookup}
 use Rattle.answer_common.specs.Named.{listed, told as toldOf}
 use Rattle.answer_common.specs.Content.{ruleFor, rightValue, meets, recordNames}

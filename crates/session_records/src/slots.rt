@@ -15,7 +15,7 @@ ghost use mathlib.Core.Option.{Option·getD};
 ghost use Prim.Native.Nat.{_+_, _≤_};
 ghost use Rattle.slices.specs.Tables.{beside};
 ghost use Rattle.answer_common.specs.Content.{ruleFor};
-ghost use Rattle.tlv_list.specs.Objects.{isSome};
+ghost use Rattle.slices.specs.Tests.{isSome};
 ghost use Rattle.session_records.specs.Runs.{longest};
 ghost use Rattle.session_records.specs.Slots.{end, room as roomOf, roomsOf, toldFrom, nowhere, placed, total, recordSlot, slotFor};
 ghost use Rattle.session_records.specs.Slots.{cellIn, toldIn, keptAt, keptTold, keptIn};

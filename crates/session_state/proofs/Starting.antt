@@ -8,7 +8,7 @@ use Prim.Native.Nat.{ℕ, _≤_}
 use native.Mathlib.Omega.{arith}
 use lib.Dec.{eqb}
 use lib.ListN.{length}
-use Rattle.tlv_list.specs.Objects.{isSome}
+use Rattle.slices.specs.Tests.{isSome}
 use Rattle.slices.specs.Choice.{pick}
 use Rattle.slices.specs.Writing.{zeros}
 use Rattle.slices.proofs.Choice.{pick-same}

@@ -10,7 +10,7 @@ use lib.Dec.{eqb}
 use lib.ListN.{length}
 use Rattle.slices.specs.Choice.{pick}
 use Rattle.slices.proofs.Choice.{pick-yes, pick-no, either}
-use Rattle.tlv_list.specs.Objects.{isSome}
+use Rattle.slices.specs.Tests.{isSome}
 use Rattle.tlv_list.specs.Place.{objectAt, placesFrom}
 use Rattle.tlv_list.specs.Lookup.{Lookup, once, twice, lookup}
 use Rattle.tlv_list.proofs.Walking.{places-members}

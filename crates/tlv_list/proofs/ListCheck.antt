@@ -10,7 +10,8 @@ use lib.ListN.{drop}
 use Rattle.slices.specs.Choice.{pick}
 use Rattle.slices.proofs.Choice.{pick-yes, pick-no}
 use Rattle.tlv_head.specs.Head.{constructed}
-use Rattle.tlv_list.specs.Objects.{Object, between, isSome, before, rightInside, objects, isList}
+use Rattle.slices.specs.Tests.{isSome}
+use Rattle.tlv_list.specs.Objects.{Object, between, before, rightInside, objects, isList}
 use Rattle.tlv_list.specs.Place.{nextAt}
 use Rattle.tlv_head.specs.declared.Next.{Next}
 use Rattle.tlv_head.specs.declared.Next.the-variants.{Member, End, Broken}

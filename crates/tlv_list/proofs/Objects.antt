@@ -15,7 +15,8 @@ use Rattle.slices.specs.Shorter.{Asks}
 use Rattle.slices.proofs.Choice.{pick-yes, pick-no, pick-cong, and-left, and-cong, and-both}
 use Rattle.slices.proofs.Shorter.{equation}
 use Rattle.tlv_head.specs.Head.{constructed, tagOf, valueStart, valueEnd, whole}
-use Rattle.tlv_list.specs.Objects.{Object, between, firstObject, isSome, before, rightInside, listed, objects}
+use Rattle.slices.specs.Tests.{isSome}
+use Rattle.tlv_list.specs.Objects.{Object, between, firstObject, before, rightInside, listed, objects}
 use Rattle.tlv_head.proofs.Parts.{whole-within}
 
 between-length : (s : List ℕ) (a e : ℕ) → length (between s a e) ≤ e - a

@@ -10,7 +10,8 @@ use Rattle.slices.specs.Shorter.{counted, shorter}
 use Rattle.tlv_head.specs.Head.{firstByte, constructed, twoBytes, tagSize, tagOf, tagRight}
 use Rattle.tlv_head.specs.Head.{lengthByte, lengthForm, lengthSize, lengthOf, valueStart, valueEnd}
 use Rattle.tlv_head.specs.Head.{whole}
-use Rattle.tlv_list.specs.Objects.{Object, between, firstObject, isSome, before, rightInside, listed, objects, isList, readRefusal}
+use Rattle.slices.specs.Tests.{isSome}
+use Rattle.tlv_list.specs.Objects.{Object, between, firstObject, before, rightInside, listed, objects, isList, readRefusal}
 use Rattle.tlv_list.specs.Lookup.{seek}
 use Rattle.tlv_list.specs.declared.Sought.{Sought}
 use Rattle.tlv_list.specs.declared.Sought.the-variants.{Refused}

@@ -15,7 +15,8 @@ use borrow.Author.Tests.{eqb-true, leb-true, leb-false, le-leb}
 use Rattle.slices.specs.Choice.{pick}
 use Rattle.slices.proofs.Choice.{pick-yes, pick-no, picked}
 use Rattle.tlv_head.specs.Head.{tagOf, valueStart, valueEnd, whole}
-use Rattle.tlv_list.specs.Objects.{Object, between, firstObject, isSome, before, rightInside, objects, isList}
+use Rattle.slices.specs.Tests.{isSome}
+use Rattle.tlv_list.specs.Objects.{Object, between, firstObject, before, rightInside, objects, isList}
 use Rattle.tlv_list.specs.Place.{fillers, nextAt}
 use Rattle.tlv_head.specs.Member.{memberAt}
 use Rattle.tlv_head.specs.declared.Next.{Next}

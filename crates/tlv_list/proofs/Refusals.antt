@@ -11,7 +11,8 @@ use lib.ListN.{length}
 use borrow.Author.Tests.{lt-ltb, le-ltb}
 use Rattle.slices.specs.Choice.{pick, firstOf}
 use Rattle.slices.proofs.Choice.{pick-yes, pick-no, pick-same, picked, either}
-use Rattle.tlv_list.specs.Objects.{Object, isSome, objects, isList, readRefusal}
+use Rattle.slices.specs.Tests.{isSome}
+use Rattle.tlv_list.specs.Objects.{Object, objects, isList, readRefusal}
 use Rattle.tlv_list.specs.Lookup.{lookup, findInChecked, foundValue, seek, lookupRefusal}
 use Rattle.tlv_list.specs.declared.Found.{Found}
 use Rattle.tlv_list.specs.declared.Sought.the-variants.{Refused, InList}

@@ -9,7 +9,7 @@ use lib.ListN.{length, getD, take, drop}
 use Rattle.slices.specs.Choice.{pick, firstOf}
 use Rattle.slices.specs.Shorter.{shorter}
 use Rattle.tlv_head.specs.Head.{constructed, tagOf, valueStart, valueEnd, whole}
-unfoldable pub use Rattle.slices.specs.Tests.{isSome}
+use Rattle.slices.specs.Tests.{isSome}
 
 pub record Object : Type 0 where
   pub tag : ℕ

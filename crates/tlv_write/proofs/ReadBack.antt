@@ -16,7 +16,8 @@ use Rattle.slices.specs.Choice.{pick}
 use Rattle.slices.proofs.Choice.{pick-yes, pick-no, picked, either, and-left, and-right, and-both}
 use Rattle.tlv_head.specs.Head.{constructed, twoBytes, tagSize, tagOf, tagRight, lengthByte}
 use Rattle.tlv_head.specs.Head.{lengthForm, lengthSize, lengthOf, valueStart, valueEnd, whole}
-use Rattle.tlv_list.specs.Objects.{Object, between, firstObject, isSome, before, rightInside, objects, isList}
+use Rattle.slices.specs.Tests.{isSome}
+use Rattle.tlv_list.specs.Objects.{Object, between, firstObject, before, rightInside, objects, isList}
 use Rattle.tlv_write.specs.Written.{isTag, tagBytes, lengthBytes, written, writtenAll, fitsTag}
 use Rattle.tlv_list.proofs.Objects.{objects-empty, objects-member}
 use Rattle.tlv_list.proofs.Joined.{objects-joined}

@@ -8,8 +8,7 @@ use Prim.Native.Nat.{ℕ}
 use lib.Dec.{eqb}
 use lib.ListN.{length}
 use Rattle.slices.specs.Choice.{pick}
-use Rattle.slices.specs.Tests.{every}
-use Rattle.tlv_list.specs.Objects.{isSome}
+use Rattle.slices.specs.Tests.{every, isSome}
 use Rattle.start_fields.specs.Layout.{startLength}
 use Rattle.start_fields.specs.Reading.{readingOf}
 use Rattle.start_valid.specs.Start.{validStart}

@@ -13,7 +13,7 @@ use Rattle.slices.specs.Writing.{zeros}
 use Rattle.slices.proofs.Choice.{picked}
 use Rattle.session_records.specs.Slots.{Facts}
 use Rattle.tape_crc.proofs.Bytes.{bytes-head, bytes-rest, bytes-cons, bytes-take, bytes-drop, bytes-each, bytes-at}
-use Rattle.tlv_list.specs.Objects.{isSome}
+use Rattle.slices.specs.Tests.{isSome}
 use Rattle.start_fields.specs.declared.fields.Field.{Field}
 use Rattle.start_fields.specs.declared.fields.Field.the-variants.{Amount, OtherAmount, Country, Currency, Date, TransactionType}
 use Rattle.start_fields.specs.declared.fields.Field.the-variants.{Unpredictable, FloorLimit, Threshold}

@@ -10,7 +10,7 @@ use borrow.Author.Needs.{needs}
 use Rattle.slices.specs.Tables.{anyOf}
 use Rattle.answer_common.specs.Named.{standing}
 use Rattle.answer_record.specs.Records.{again, anyAgain}
-use Rattle.tlv_list.specs.Objects.{isSome}
+use Rattle.slices.specs.Tests.{isSome}
 use Rattle.session_records.specs.Slots.{toldIn}
 use Rattle.slices.proofs.Tables.{any-one-on, any-found, any-through}
 use Rattle.answer_record.proofs.any_again.Statement.{statement}

@@ -9,7 +9,7 @@ use lib.ListN.{length, drop}
 use borrow.Author.Needs.{needs}
 use Rattle.slices.specs.Tables.{anyOf}
 use Rattle.answer_record.specs.Records.{again}
-use Rattle.tlv_list.specs.Objects.{isSome}
+use Rattle.slices.specs.Tests.{isSome}
 use Rattle.session_records.specs.Slots.{toldIn}
 use Rattle.slices.proofs.Tables.{any-one-on, any-found, any-through}
 use Rattle.answer_record.proofs.any_untold.Statement.{statement}

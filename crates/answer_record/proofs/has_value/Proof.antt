@@ -4,7 +4,7 @@ use mathlib.Core.Path.{_≡_, refl, ap, _∙_}
 use Prim.Native.Nat.{ℕ}
 use lib.Dec.{eqb}
 use borrow.Author.Needs.{needs}
-use Rattle.tlv_list.specs.Objects.{isSome}
+use Rattle.slices.specs.Tests.{isSome}
 use Rattle.tlv_list.specs.Lookup.{Lookup, absent, once, twice}
 use Rattle.answer_common.specs.Named.{times, told}
 use Rattle.answer_record.specs.Records.{valueIn}

@@ -5,7 +5,7 @@ use mathlib.Core.Bool.{not}
 use Prim.Native.Nat.{ℕ}
 use lib.Dec.{eqb}
 use borrow.Author.Needs.{needs}
-use Rattle.tlv_list.specs.Objects.{isSome}
+use Rattle.slices.specs.Tests.{isSome}
 use Rattle.session_records.specs.Slots.{toldIn}
 use Rattle.slices.proofs.Tables.{and-yes, and-no}
 use Rattle.answer_record.specs.Records.{again}

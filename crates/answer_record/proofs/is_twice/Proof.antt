@@ -2,7 +2,7 @@
 -- Assumes nothing.
 use mathlib.Core.Path.{_≡_, sym, ap, _∙_}
 use borrow.Author.Needs.{needs}
-use Rattle.tlv_list.specs.Objects.{isSome}
+use Rattle.slices.specs.Tests.{isSome}
 use Rattle.session_records.specs.Slots.{toldIn}
 use Rattle.answer_common.specs.Named.{direct, anyTimes}
 use Rattle.slices.proofs.Tables.{or-yes, or-no}

@@ -10,7 +10,7 @@ use lib.Seq.{length-take-le}
 use borrow.Author.Tests.{eq-eqb, ne-eqb}
 use borrow.Author.Needs.{needs}
 use Rattle.slices.proofs.Choice.{pick-yes, pick-no}
-use Rattle.tlv_list.specs.Objects.{isSome}
+use Rattle.slices.specs.Tests.{isSome}
 use Rattle.start_fields.specs.Reading.{readingOf}
 use Rattle.answer_common.specs.Content.{recordNames, namesFor}
 use Rattle.answer_record.specs.Records.{recordReason}

@@ -5,7 +5,7 @@ use mathlib.Core.Bool.{not}
 use lib.Dec.{eqb}
 use lib.ListN.{getD}
 use borrow.Author.Needs.{needs}
-use Rattle.tlv_list.specs.Objects.{isSome}
+use Rattle.slices.specs.Tests.{isSome}
 use Rattle.session_records.specs.Slots.{read, toldIn}
 use Rattle.session_records.proofs.Cells.{read-has}
 use Rattle.session_records.proofs.slots.has.Statement.{statement}
