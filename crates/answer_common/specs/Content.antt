@@ -83,6 +83,10 @@ namesFor t = map (λ r. r .tag) (rowsFor t)
 abbrev pub recordNames : List ℕ
 recordNames = map (λ r. r .tag) recordTable
 
+-- how many there are
+abbrev pub nameCount : ℕ
+nameCount = length recordNames
+
 -- those that some record must tell
 abbrev onlyNeeded : Bool → ℕ → List ℕ → List ℕ
 onlyNeeded true tag tags = tag ∷ tags

@@ -7,7 +7,7 @@ ghost use mathlib.Core.Path.{_≡_};
 ghost use Prim.Native.Nat.{_≤_};
 ghost use lib.ListN.{length, take};
 ghost use Rattle.start_fields.specs.Reading.{readingOf};
-ghost use Rattle.answer_common.specs.Content.{recordNames, namesFor, ruleFor, rightValue};
+ghost use Rattle.answer_common.specs.Content.{recordNames, nameCount, namesFor, ruleFor, rightValue};
 
 // The tag of a record's one object.
 pub const RECORD: usize = 0x70;
@@ -15,7 +15,7 @@ pub const RECORD: usize = 0x70;
 // How many names there are in records, and how many of them count for every terminal.
 const ALL_NAMES: usize = 11;
 
-const BASE_NAMES: usize = 9;
+pub const BASE_NAMES: usize = 9;
 
 // The names in records, and those of them that some record must tell: the rows of the definitions' table, in its order.
 pub const NAMES: [usize; ALL_NAMES] = [
@@ -103,7 +103,7 @@ pub fn is_right(tag: usize, v: &[u8]) -> bool
 // How many of the names count with a START.
 pub fn names_for(start: &[u8]) -> usize
     ensures { λ r. ⌜ (r ≡ length (namesFor (readingOf (now (start .entry)))))
-        × (take r recordNames ≡ namesFor (readingOf (now (start .entry)))) × (r ≤ 11) ⌝ }
+        × (take r recordNames ≡ namesFor (readingOf (now (start .entry)))) × (r ≤ nameCount) ⌝ }
 {
     if has_capabilities(start) {
         ALL_NAMES

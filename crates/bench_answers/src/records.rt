@@ -1,4 +1,5 @@
 // Answers to READ RECORD, one after the other.
+use answer_common::content::BASE_NAMES;
 use answer_common::content::NAMES;
 use answer_record::complete_reason;
 use answer_record::has_value;
@@ -11,14 +12,11 @@ use session_records::records::with_record;
 use text_hex::unhex;
 use text_lines::after_word;
 
-// How many names count for a terminal without Terminal Capabilities.
-const BASE: usize = 9;
-
 // The letter behind RECORDS tells which names count.
 pub fn answer(letter: u8, words: &[u8]) {
     let names = NAMES;
     if letter == b'7' {
-        answer_each(&names[0..BASE], words);
+        answer_each(&names[0..BASE_NAMES], words);
     } else {
         answer_each(&names, words);
     }

@@ -29,7 +29,7 @@ ghost use mathlib.Core.Path.{_≡_};
 ghost use mathlib.Core.List.{[]};
 ghost use Prim.Native.Nat.{_≤_};
 ghost use lib.ListN.{take};
-ghost use Rattle.answer_common.specs.Content.{recordNames, namesFor};
+ghost use Rattle.answer_common.specs.Content.{recordNames, nameCount, namesFor};
 ghost use Rattle.rulebook.specs.Phase.{selecting, optioning, reading as readingRecord, first as firstAsked, second as secondAsked};
 ghost use Rattle.rulebook.specs.Turn.{bySecond, turn};
 ghost use Rattle.session_state.specs.Reading.{early, late, recordsLeft};
@@ -68,7 +68,7 @@ pub fn on_options(s: State, a: &[u8], buf: &mut [u8]) -> Step
 
 // How many of the names count in records.
 fn names_of(s: State) -> usize
-    ensures { λ r. ⌜ (take r recordNames ≡ namesFor (late s .terminal)) × (r ≤ 11) ⌝ }
+    ensures { λ r. ⌜ (take r recordNames ≡ namesFor (late s .terminal)) × (r ≤ nameCount) ⌝ }
 {
     let start = s.start;
     let size = s.size;
