@@ -1,7 +1,7 @@
 -- What a session knows is bytes, at every phase: START's fields are parts of START, the card's data are parts of its answers, and TVR
 -- and TSI are rows of bits joined to zeros.
 -- Assumes nothing.
-use mathlib.Core.Path.{_≡_, refl}
+use mathlib.Core.Path.{_≡_, refl, ap, _∙_}
 use mathlib.Core.Bool.{Bool, true}
 use mathlib.Core.List.{List, [], _∷_}
 use Prim.Native.Nat.{ℕ, _≤_, _<_}
@@ -15,11 +15,8 @@ use Rattle.session_records.specs.Slots.{Facts}
 use Rattle.tape_crc.proofs.Bytes.{bytes-head, bytes-rest, bytes-cons, bytes-take, bytes-drop, bytes-each, bytes-at}
 use Rattle.slices.specs.Tests.{isSome}
 use Rattle.start_fields.specs.declared.fields.Field.{Field}
-use Rattle.start_fields.specs.declared.fields.Field.the-variants.{Amount, OtherAmount, Country, Currency, Date, TransactionType}
-use Rattle.start_fields.specs.declared.fields.Field.the-variants.{Unpredictable, FloorLimit, Threshold}
-use Rattle.start_fields.specs.declared.fields.Field.the-variants.{Version, Denial, Online, Default}
-use Rattle.start_fields.specs.declared.fields.Field.the-variants.{Capabilities}
 use Rattle.start_fields.specs.Layout.{beginOf, sizeOf, aidRoom, aidAt}
+use Rattle.start_fields.proofs.Reading.{bytes-read}
 use Rattle.start_fields.specs.Reading.{Terminal, readingOf, bytesOf, runIn, aidLengthIn, aidRoomIn}
 use Rattle.tape_read.proofs.Extra.{zeros-bytes}
 use Rattle.dol_wanted.specs.Wanted.{fillable}
@@ -52,7 +49,7 @@ use Rattle.rulebook.specs.Turn.{goesOn, opened, selected, managed, requested, v
 use Rattle.rulebook.specs.Turn.{recorded, answered, replied, online, byFirst, bySecond, firstAnswered, secondAnswered}
 use Rattle.rulebook.specs.Turn.{turn, heard as issuerHeard, verifiedBy, after}
 use Rattle.verdict_storable.proofs.Values.{profile-bytes, locator-bytes, named-bytes}
-use Rattle.verdict_storable.proofs.Filling.{Told, else-bytes, unless-bytes}
+use Rattle.verdict_storable.proofs.Filling.{Told, else-bytes}
 use Rattle.verdict_storable.proofs.Numbers.{numbersOf, read-numbers}
 
 -- the terminal's data
@@ -96,21 +93,7 @@ run-bytes : (f : Field) (b : List ℕ) → areBytes b ≡ true → areBytes (run
 run-bytes f b h = bytes-take (sizeOf f) (drop (beginOf f) b) (bytes-drop (beginOf f) b h)
 
 field-bytes : (b : List ℕ) → areBytes b ≡ true → (f : Field) → areBytes (bytesOf f (readingOf b)) ≡ true
-unfolding readingOf
-field-bytes b h Amount = run-bytes Amount b h
-field-bytes b h OtherAmount = run-bytes OtherAmount b h
-field-bytes b h Country = run-bytes Country b h
-field-bytes b h Currency = run-bytes Currency b h
-field-bytes b h Date = run-bytes Date b h
-field-bytes b h TransactionType = run-bytes TransactionType b h
-field-bytes b h Unpredictable = run-bytes Unpredictable b h
-field-bytes b h FloorLimit = run-bytes FloorLimit b h
-field-bytes b h Threshold = run-bytes Threshold b h
-field-bytes b h Version = run-bytes Version b h
-field-bytes b h Denial = run-bytes Denial b h
-field-bytes b h Online = run-bytes Online b h
-field-bytes b h Default = run-bytes Default b h
-field-bytes b h Capabilities = unless-bytes (runIn Capabilities b) (run-bytes Capabilities b h)
+field-bytes b h f = ap areBytes (bytes-read f b) ∙ run-bytes f b h
 
 terminal-bytes : (b : List ℕ) → areBytes b ≡ true → OfBytes (readingOf b)
 unfolding readingOf
