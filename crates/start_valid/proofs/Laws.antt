@@ -99,6 +99,9 @@ module _ (s : List ℕ) (valid : validStart s ≡ true) where
       by-length (inl e) = (omega arith, omega arith)
       by-length (inr e) = (omega arith, omega arith)
 
+  pub valid-least : startLength ≤ length s
+  valid-least = between-lengths .0
+
   pub valid-length : length s ≤ fullLength
   valid-length = between-lengths .1
 

@@ -2,7 +2,7 @@
 -- adds to the fourth number what it added.
 -- Assumes nothing.
 use mathlib.Core.Path.{_≡_, refl, sym, ap, _∙_, subst}
-use mathlib.Core.Bool.{Bool, true, false, _||_, false≢true}
+use mathlib.Core.Bool.{true, false≢true}
 use mathlib.Core.List.{List, _∷_}
 use Prim.Native.Nat.{ℕ, _≤_}
 use native.Mathlib.Omega.{arith}
@@ -11,9 +11,10 @@ use lib.ListN.{length}
 use borrow.Author.Tests.{eqb-true, eq-eqb}
 use Rattle.slices.specs.Tests.{every}
 use Rattle.slices.proofs.Choice.{pick-yes}
-use Rattle.slices.proofs.Tests.{first-held, each-held}
-use Rattle.start_fields.specs.Layout.{startLength, fullLength}
-use Rattle.start_valid.specs.Start.{startTests, validLength, validStart}
+use Rattle.slices.proofs.Tests.{first-held}
+use Rattle.start_fields.specs.Layout.{startLength}
+use Rattle.start_valid.specs.Start.{validStart}
+use Rattle.start_valid.proofs.Laws.{valid-least}
 use Rattle.tape_read.specs.Entries.{Entry}
 use Rattle.rulebook.specs.Situation.{Situation, begun}
 use Rattle.rulebook.specs.Phase.{Asked, terminal, issuer, attendant, Phase, opens, asks, hears, decides, situationOf}
@@ -113,19 +114,10 @@ plays-now (decidedBefore f) h = (decided f, refl)
 
 -- ---- whole sessions
 
--- a valid START of at most 74 bytes has 74
-shorter-one : (n : ℕ) → validLength n ≡ true → n ≤ startLength → n ≡ startLength
-unfolding validLength
-shorter-one n h few = by (eqb n startLength) refl h
-  where
-    by : (t : Bool) → eqb n startLength ≡ t → (t || eqb n fullLength) ≡ true → n ≡ startLength
-    by true e valid = eqb-true n startLength e
-    by false e valid = absurd (omega (arith, few, eqb-true n fullLength valid))
-
 module _ (p : List ℕ) where
+  -- a valid START of at most 74 bytes has 74
   whole : validStart p ≡ true → length p ≤ startLength → length p ≡ startLength
-  unfolding validStart
-  whole valid few = shorter-one (length p) (each-held (startTests p) valid 0) few
+  whole valid few = omega (arith, few, valid-least p valid)
 
   pub valid-then : validStart p ≡ true → length p ≡ startLength → validBefore p ≡ true
   unfolding validBefore every
