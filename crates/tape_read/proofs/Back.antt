@@ -14,18 +14,16 @@ use Rattle.slices.specs.Writing.{zeros}
 use Rattle.tape_crc.proofs.Bytes.{bytes-cons, bytes-append}
 use Rattle.tape_crc.proofs.Laws.{block-check-below}
 use Rattle.tape_read.specs.Numbers.{bytesOf}
-use Rattle.tape_read.specs.Entries.{Entry, entry, start, results, isKind, payloadMost, storable}
-use Rattle.tape_read.specs.Blocks.{head, body, block, allZero, numberIn, sessionIn, checkBad}
-use Rattle.tape_read.specs.Blocks.{numberBad, sessionBad, kindBad, spareBad, paddingBad, codeOf}
-use Rattle.tape_read.specs.Blocks.{entryIn}
+use Rattle.tape_read.specs.Entries.{Entry, entry, start, lastKind, isKind, payloadMost, storable}
+use Rattle.tape_read.specs.Blocks.{head, body, block, allZero, numberIn, sessionIn, checkBad, numberBad, sessionBad, kindBad, spareBad, paddingBad, codeOf, entryIn}
 use Rattle.tape_read.proofs.Extra.{zeros-bytes}
 use Rattle.tape_read.proofs.Numbers.{bytes-are}
 use Rattle.tape_read.proofs.Parts.{number-in, session-in, kind-in, spare-in, length-allowed, payload-in, padding-in, check-in}
 use Rattle.tape_read.proofs.Codes.{Good, good-code}
 
-pub kind-most : (k : ℕ) → isKind k ≡ true → k ≤ results
+pub kind-most : (k : ℕ) → isKind k ≡ true → k ≤ lastKind
 unfolding isKind
-kind-most k e = leb-true k results (and-eq-true-iff (leb start k) (leb k results) .0 e .1)
+kind-most k e = leb-true k lastKind (and-eq-true-iff (leb start k) (leb k lastKind) .0 e .1)
 
 module _ (e : Entry) (h : storable e ≡ true) where
   pub storable-kind : isKind (e .kind) ≡ true

@@ -45,9 +45,13 @@ decision = 6
 abbrev pub results : ℕ
 results = 7
 
+-- the last of them
+abbrev pub lastKind : ℕ
+lastKind = results
+
 -- one of these
 unfoldable pub isKind : ℕ → Bool
-isKind k = leb start k && leb k results
+isKind k = leb start k && leb k lastKind
 
 -- what one block holds
 pub record Entry : Type 0 where
