@@ -1,5 +1,5 @@
--- What is known of each thing that somebody other than the card says: its kind is none of the card's, the kernel's and the silence's,
--- and there is something to say. A line each.
+-- What is known of each thing that somebody other than the card says: its kind is one that a tape can hold and none of the card's, the
+-- kernel's and the silence's, and there is something to say. A line each.
 -- Assumes nothing.
 use mathlib.Core.Path.{_≡_, refl, _∙_}
 use mathlib.Core.Bool.{true, false}
@@ -20,7 +20,7 @@ use Rattle.start_valid.specs.Start.{validPercentages, validThreshold, validAid}
 use Rattle.start_valid.specs.Start.{validStart}
 use Rattle.decimal_dates.specs.Decimal.{decimalFrom, decimal, decimalByte, digitsOnly, zerosOnly}
 use Rattle.decimal_dates.specs.Dates.{monthAndDay, validStartDate}
-use Rattle.tape_read.specs.Entries.{command, answer, silence, decision}
+use Rattle.tape_read.specs.Entries.{command, answer, silence, decision, isKind}
 use Rattle.tape_read.proofs.Extra.{zeros-bytes}
 use Rattle.cvm.specs.Lists.{isResult, areResults}
 use Rattle.decide_verification.specs.Verification.{resultsWanted}
@@ -36,12 +36,13 @@ pub record OtherKind (k : ℕ) : Type 0 where
   pub no-answer : eqb answer k ≡ false
   pub no-silence : eqb silence k ≡ false
   pub no-decision : eqb k decision ≡ false
+  pub readable : isKind k ≡ true
 
 pub other-kinds : (h : Heard) → OtherKind (dueKind h)
-unfolding dueKind
-other-kinds terminal = record { no-command = refl; no-answer = refl; no-silence = refl; no-decision = refl }
-other-kinds (issuer s) = record { no-command = refl; no-answer = refl; no-silence = refl; no-decision = refl }
-other-kinds (attendant s) = record { no-command = refl; no-answer = refl; no-silence = refl; no-decision = refl }
+unfolding dueKind isKind
+other-kinds terminal = record { no-command = refl; no-answer = refl; no-silence = refl; no-decision = refl; readable = refl }
+other-kinds (issuer s) = record { no-command = refl; no-answer = refl; no-silence = refl; no-decision = refl; readable = refl }
+other-kinds (attendant s) = record { no-command = refl; no-answer = refl; no-silence = refl; no-decision = refl; readable = refl }
 
 -- a valid START: type 2, amount 7500, floor limit 10000, threshold 5000, an AID of five bytes
 abbrev pub sample : List ℕ

@@ -8,12 +8,13 @@ use Prim.Native.Nat.{ℕ}
 use Rattle.slices.proofs.Choice.{and-both}
 use Rattle.tape_read.specs.Entries.{Entry, entry, command, answer, silence, decision, isKind, storable, allStorable}
 use Rattle.tape_read.proofs.Roundtrip.{first-storable, rest-storable}
-use Rattle.rulebook.specs.Phase.{Heard, terminal, issuer, attendant, Phase, dueKind}
+use Rattle.rulebook.specs.Phase.{Phase}
 use Rattle.rulebook.specs.Session.{isPayload, Plays, exchanged, heard, decided, Session, Beginning, AwaitsCard, Closed, Open, Lawful}
 use Rattle.verdict_judged.proofs.Stored.{storable-append}
 use Rattle.verdict_storable.proofs.Staying.{Stays, after-stays, turn-stays}
 use Rattle.verdict_storable.proofs.Payloads.{asked-payload, decision-payload}
 use Rattle.rulebook.proofs.Payloads.{payload-bytes}
+use Rattle.rulebook.proofs.Said.{other-kinds}
 
 -- an entry of a kind, with a payload, before others
 stored : (kind : ℕ) (p : List ℕ) (es : List Entry) → isKind kind ≡ true → isPayload p ≡ true → allStorable es ≡ true
@@ -21,20 +22,13 @@ stored : (kind : ℕ) (p : List ℕ) (es : List Entry) → isKind kind ≡ true 
 unfolding allStorable storable isPayload
 stored kind p es h k l = and-both _ _ (and-both _ _ h k) l
 
--- what is heard is of a kind that a tape can hold
-heard-kind : (h : Heard) → isKind (dueKind h) ≡ true
-unfolding isKind dueKind
-heard-kind terminal = refl
-heard-kind (issuer s) = refl
-heard-kind (attendant s) = refl
-
 plays-storable : {p : Phase} {es : List Entry} → Plays p es → Stays p → allStorable es ≡ true
 unfolding isKind allStorable
 plays-storable (exchanged {w} {c} {a} {es} f ok play) k =
     stored command c (entry answer a ∷ es) refl (ap isPayload f ∙ asked-payload w k)
     (stored answer a es refl ok (plays-storable play (turn-stays w a k (payload-bytes a ok))))
 plays-storable (heard {h} {k = n} {p} {es} f fits ok play) k =
-    stored n p es (ap isKind f ∙ heard-kind h) ok (plays-storable play (after-stays h p k (payload-bytes p ok)))
+    stored n p es (ap isKind f ∙ other-kinds h .readable) ok (plays-storable play (after-stays h p k (payload-bytes p ok)))
 plays-storable (decided {outcome} {reason} {s} {d} f) k =
     stored decision d [] refl (ap isPayload f ∙ decision-payload outcome reason s k) refl
 
