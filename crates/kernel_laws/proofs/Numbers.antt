@@ -2,14 +2,18 @@
 -- where no line does.
 -- Assumes nothing.
 use mathlib.Core.Path.{_≡_, refl, sym, ap, _∙_}
-use mathlib.Core.Bool.{Bool, true, false, false≢true}
+use mathlib.Core.Bool.{Bool, true, false, not, false≢true}
 use mathlib.Core.List.{List, [], _∷_, map}
 use mathlib.Core.Logic.{_⊎_, inl, inr, ⊎-elim}
 use Prim.Native.Nat.{ℕ, zero, suc, _<_}
 use native.Mathlib.Omega.{arith}
+use lib.Dec.{eqb}
 use lib.ListN.{getD}
-use Rattle.slices.specs.Choice.{firstOf}
+use borrow.Author.Tests.{eqb-false, not-true}
+use Rattle.slices.specs.Choice.{pick, firstOf}
+use Rattle.slices.specs.Tests.{every}
 use Rattle.slices.proofs.Choice.{pick-yes, pick-no}
+use Rattle.slices.proofs.Tests.{first-held}
 use Rattle.kernel.specs.declared.Session.{Session}
 use Rattle.session_phase.specs.declared.Reply.the-variants.{Refused}
 use Rattle.kernel_refusals.specs.Refusals.{refusalLines, callRefusal}
@@ -46,9 +50,8 @@ abbrev numbers : List (Bool × ℕ) → List ℕ
 numbers lines = map (λ line. line .1) lines
 
 -- each number is another than 0
-abbrev Numbered : List (Bool × ℕ) → Type 0
-Numbered [] = Unit {0}
-Numbered (line ∷ lines) = (line .1 ≡ 0 → ⊥) × Numbered lines
+abbrev numbered : List (Bool × ℕ) → Bool
+numbered lines = every (map (λ line. not (eqb (line .1) 0)) lines)
 
 next-line : (t : Bool) (table : List Bool) (line : ℕ) → FirstLine (t ∷ table) (suc line) → FirstLine table line
 next-line t table line h = record { applies = h .applies; alone = λ n l. h .alone (suc n) (omega arith) }
@@ -60,10 +63,11 @@ first-number (l ∷ lines) zero h = pick-yes _ _ _ (h .applies)
 first-number (l ∷ lines) (suc line) h =
     pick-no _ _ _ (h .alone 0 (omega arith)) ∙ first-number lines line (next-line (l .0) (tests lines) line h)
 
-some-number : (lines : List (Bool × ℕ)) → Numbered lines → (line : ℕ) → FirstLine (tests lines) line → getD (numbers lines) line 0 ≡ 0 → ⊥
+some-number : (lines : List (Bool × ℕ)) → numbered lines ≡ true → (line : ℕ) → FirstLine (tests lines) line
+    → getD (numbers lines) line 0 ≡ 0 → ⊥
 some-number [] ns line h = absurd (false≢true (h .applies))
-some-number (l ∷ lines) ns zero h = ns .0
-some-number (l ∷ lines) ns (suc line) h = some-number lines (ns .1) line (next-line (l .0) (tests lines) line h)
+some-number (l ∷ lines) ns zero h = eqb-false (l .1) 0 (not-true _ (first-held _ _ ns .0))
+some-number (l ∷ lines) ns (suc line) h = some-number lines (first-held _ _ ns .1) line (next-line (l .0) (tests lines) line h)
 
 none-number : (lines : List (Bool × ℕ)) → NoLine (tests lines) → firstOf lines ≡ 0
 unfolding firstOf
@@ -75,27 +79,9 @@ module _ (s : Session) (c : Call) where
   abbrev lines : List (Bool × ℕ)
   lines = refusalLines (s .state .waiting) (c .event) (c .buffer)
 
-  all-numbered : Numbered lines
-  unfolding refusalLines
-  all-numbered = (
-    (λ z. omega arith),
-    (
-      (λ z. omega arith),
-      (
-        (λ z. omega arith),
-        (
-          (λ z. omega arith),
-          (
-            (λ z. omega arith),
-            (
-              (λ z. omega arith),
-              ((λ z. omega arith), tt),
-            ),
-          ),
-        ),
-      ),
-    ),
-  )
+  all-numbered : numbered lines ≡ true
+  unfolding refusalLines every pick
+  all-numbered = refl
 
   -- a number, and the first line of the table that applies
   pub number-line : (n : ℕ) → made s c .reply ≡ Refused n
