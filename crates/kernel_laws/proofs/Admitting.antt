@@ -8,8 +8,9 @@ use native.Mathlib.Omega.{arith}
 use lib.Dec.{eqb}
 use lib.ListN.{length}
 use borrow.Author.Tests.{eq-eqb, ne-eqb, le-ltb}
+use Rattle.slices.specs.Choice.{pick, firstOf}
 use Rattle.slices.proofs.Choice.{pick-no, either}
-use Rattle.slices.proofs.Lines.{line-no, last-no}
+use Rattle.slices.proofs.Lines.{line-no}
 use Rattle.tape_read.specs.Entries.{Entry, entry, answer, silence, payloadMost}
 use Rattle.commands.specs.Commands.{longest}
 use Rattle.session_phase.specs.Waiting.{kindOf, awaited, isOver}
@@ -18,7 +19,7 @@ use Rattle.session_phase.specs.declared.Speaker.{Speaker}
 use Rattle.session_phase.specs.declared.Waiting.{Waiting}
 use Rattle.session_phase.specs.declared.Waiting.the-variants.{ForCard, ForWord}
 use Rattle.session_laws.proofs.Words.{no-silence, some-kind}
-use Rattle.kernel_refusals.specs.Refusals.{isDue, startBad, answerBad, replyBad, resultsBad, refusalLines, callRefusal}
+use Rattle.kernel_refusals.specs.Refusals.{isDue, startBad, answerBad, replyBad, resultsBad, wordLines, refusalLines, callRefusal}
 use Rattle.kernel.specs.declared.Session.{Session}
 use Rattle.kernel_laws.proofs.Words.{takenBy, word-passes}
 
@@ -33,22 +34,21 @@ goes-on x h = ne-eqb (awaited x) 0 h
 
 module _ (s : Session) (buf : List ℕ) (room : longest ≤ length buf) where
   free : (e : Entry) → (awaited (s .state .waiting) ≡ 0 → ⊥) → startBad e ≡ false → isDue (s .state .waiting) e ≡ true → answerBad e ≡ false
-      → replyBad e ≡ false → resultsBad (s .state .waiting) e ≡ false
+      → firstOf (wordLines (s .state .waiting) e) ≡ 0
       → callRefusal (s .state .waiting) e buf ≡ 0
   unfolding callRefusal refusalLines
-  free e over start due long reply results =
+  free e over start due long words =
       line-no refl 1 _ (le-ltb (length buf) longest room)
       ∙ (line-no refl 2 _ (goes-on (s .state .waiting) over)
-      ∙ (line-no refl 3 _ start ∙ (line-no refl 4 _ (ap not due) ∙ (line-no refl 5 _ long ∙ (line-no refl 6 _ reply
-      ∙ last-no refl 12 results)))))
+      ∙ (line-no refl 3 _ start ∙ (line-no refl 4 _ (ap not due) ∙ (line-no refl 5 _ long ∙ words))))
 
   pub answer-free : (question : Question) → s .state .waiting ≡ ForCard question → (a : List ℕ) → length a ≤ payloadMost
       → callRefusal (s .state .waiting) (entry answer a) buf ≡ 0
-  unfolding awaited startBad answerBad replyBad resultsBad
+  unfolding awaited startBad answerBad replyBad resultsBad wordLines firstOf pick
   answer-free question k a most =
       let waits : awaited (s .state .waiting) ≡ answer = ap awaited k in
       free (entry answer a) (λ z. let none : answer ≡ 0 = sym waits ∙ z in omega arith) refl
-      (kind-due (s .state .waiting) (entry answer a) (λ e. omega arith) (sym waits)) (le-ltb payloadMost (length a) most) refl refl
+      (kind-due (s .state .waiting) (entry answer a) (λ e. omega arith) (sym waits)) (le-ltb payloadMost (length a) most) refl
 
   pub word-free : (speaker : Speaker) → s .state .waiting ≡ ForWord speaker → (p : List ℕ) → takenBy speaker p ≡ true
       → callRefusal (s .state .waiting) (entry (kindOf speaker) p) buf ≡ 0
@@ -57,5 +57,5 @@ module _ (s : Session) (buf : List ℕ) (room : longest ≤ length buf) where
       let waits : awaited (s .state .waiting) ≡ kindOf speaker = ap awaited k in
       let own = word-passes p speaker fits in
       free (entry (kindOf speaker) p) (λ z. some-kind speaker (sym waits ∙ z)) (own .0)
-      (kind-due (s .state .waiting) (entry (kindOf speaker) p) (no-silence speaker) (sym waits)) (own .1) (own .2)
-      (ap (λ (x : Waiting). resultsBad x (entry (kindOf speaker) p)) k ∙ own .3)
+      (kind-due (s .state .waiting) (entry (kindOf speaker) p) (no-silence speaker) (sym waits)) (own .1)
+      (ap (λ (x : Waiting). firstOf (wordLines x (entry (kindOf speaker) p))) k ∙ own .2)

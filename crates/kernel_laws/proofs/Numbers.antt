@@ -16,7 +16,7 @@ use Rattle.slices.proofs.Choice.{pick-yes, pick-no}
 use Rattle.slices.proofs.Tests.{first-held}
 use Rattle.kernel.specs.declared.Session.{Session}
 use Rattle.session_phase.specs.declared.Reply.the-variants.{Refused}
-use Rattle.kernel_refusals.specs.Refusals.{refusalLines, callRefusal}
+use Rattle.kernel_refusals.specs.Refusals.{wordLines, refusalLines, callRefusal}
 use Rattle.kernel.specs.Calls.{Called, refused}
 use Rattle.kernel_laws.specs.Log.{Call, made}
 use Rattle.kernel_laws.specs.Table.{tableOf, numbersOf, FirstLine, NoLine}
@@ -80,7 +80,7 @@ module _ (s : Session) (c : Call) where
   lines = refusalLines (s .state .waiting) (c .event) (c .buffer)
 
   all-numbered : numbered lines ≡ true
-  unfolding refusalLines every pick
+  unfolding refusalLines wordLines every pick
   all-numbered = refl
 
   -- a number, and the first line of the table that applies

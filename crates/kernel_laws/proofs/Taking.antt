@@ -11,6 +11,7 @@ use lib.Dec.{eqb, ltb}
 use lib.ListN.{length}
 use lib.Pow.{areBytes}
 use borrow.Author.Tests.{eqb-true, eq-eqb, ne-eqb, ltb-false}
+use Rattle.slices.specs.Choice.{firstOf}
 use Rattle.slices.proofs.Choice.{pick-yes, pick-no, and-left, and-right}
 use Rattle.slices.proofs.Cutting.{none-left}
 use Rattle.tape_read.specs.Entries.{Entry, entry, answer, silence, payloadMost}
@@ -35,7 +36,7 @@ use Rattle.session_laws.proofs.Words.{no-answer, allowed-by, allowed-short}
 use Rattle.session_laws.proofs.Telling.{kind-due}
 use Rattle.session_laws.proofs.Stepping.{answer-step, word-step}
 use Rattle.session_laws.proofs.Reaching.{reached-on, reached-asked, reached-word}
-use Rattle.kernel_refusals.specs.Refusals.{isDue, startBad, answerBad, replyBad, resultsBad}
+use Rattle.kernel_refusals.specs.Refusals.{isDue, startBad, answerBad, wordLines}
 use Rattle.kernel_refusals.proofs.OwnTests.{of-kind}
 use Rattle.kernel.specs.declared.Session.{Session}
 use Rattle.kernel.specs.Calls.{Called, accepted, closedState, closedAfter}
@@ -115,8 +116,9 @@ module _ (s : Session) (es : List Entry) (buf : List ℕ) (there : Reached (s .s
         let stands = there′ .1 .1 .1 in
         let kind : e .kind ≡ kindOf speaker = due-kind (s .state .waiting) e (passed .due) n ∙ ap awaited k in
         let same = as-entry e (kindOf speaker) kind in
-        let fits = passed-word p speaker (ap startBad (sym same) ∙ passed .start) (ap replyBad (sym same) ∙ passed .reply)
-        (ap (resultsBad (ForWord speaker)) (sym same) ∙ (ap (λ (x : Waiting). resultsBad x e) (sym k) ∙ passed .results)) in
+        let fits = passed-word p speaker (ap startBad (sym same) ∙ passed .start)
+        (ap (λ (x : Entry). firstOf (wordLines (ForWord speaker) x)) (sym same)
+        ∙ (ap (λ (x : Waiting). firstOf (wordLines x e)) (sym k) ∙ passed .words)) in
         let may : allowed h p ≡ true =
         sym (allowed-by h p) ∙ (ap (λ (x : Speaker). allowedBy x p) (there′ .1 .0) ∙ taken-allowed p speaker fits) in
         let due : e .kind ≡ dueKind h = kind ∙ (ap kindOf (sym (there′ .1 .0)) ∙ kind-due h) in

@@ -2,7 +2,7 @@
 -- Assumes nothing.
 use mathlib.Core.Path.{_≡_, refl, sym, ap, _∙_}
 use mathlib.Core.Bool.{Bool, true, false, not, false≢true}
-use mathlib.Core.List.{List, []}
+use mathlib.Core.List.{List}
 use Prim.Native.Nat.{ℕ, _≤_}
 use native.Mathlib.Omega.{arith}
 use lib.Dec.{eqb, ltb}
@@ -15,7 +15,7 @@ use Rattle.tape_read.specs.Entries.{Entry, silence}
 use Rattle.commands.specs.Commands.{longest}
 use Rattle.session_phase.specs.Waiting.{isOver}
 use Rattle.session_events.specs.Events.{step}
-use Rattle.kernel_refusals.specs.Refusals.{isDue, startBad, answerBad, replyBad, resultsBad, refusalLines, callRefusal}
+use Rattle.kernel_refusals.specs.Refusals.{isDue, startBad, answerBad, wordLines, refusalLines, callRefusal}
 use Rattle.kernel.specs.declared.Session.{Session}
 use Rattle.kernel.specs.Calls.{Called, refused, accepted, closedAfter, taken, unless, call}
 
@@ -30,8 +30,7 @@ pub record Passed (s : Session) (e : Entry) (buf : List ℕ) : Type 0 where
   pub start : startBad e ≡ false
   pub due : isDue (s .state .waiting) e ≡ true
   pub answer : answerBad e ≡ false
-  pub reply : replyBad e ≡ false
-  pub results : resultsBad (s .state .waiting) e ≡ false
+  pub words : firstOf (wordLines (s .state .waiting) e) ≡ 0
 
 module _ (s : Session) (e : Entry) (buf : List ℕ) where
   abbrev number : ℕ
@@ -62,14 +61,11 @@ module _ (s : Session) (e : Entry) (buf : List ℕ) where
       let three = line-clear (startBad e) 3 _ (λ z. omega arith) (two .1) in
       let four = line-clear (not (isDue (s .state .waiting) e)) 4 _ (λ z. omega arith) (three .1) in
       let five = line-clear (answerBad e) 5 _ (λ z. omega arith) (four .1) in
-      let six = line-clear (replyBad e) 6 _ (λ z. omega arith) (five .1) in
-      let seven = line-clear (resultsBad (s .state .waiting) e) 12 [] (λ z. omega arith) (six .1) in
       record {
         room = ltb-false (length buf) longest (one .0);
         goes = two .0;
         start = three .0;
         due = not-false _ (four .0);
         answer = five .0;
-        reply = six .0;
-        results = seven .0;
+        words = five .1;
       }

@@ -3,9 +3,12 @@
 -- Assumes nothing.
 use mathlib.Core.Path.{_≡_, refl, ap}
 use mathlib.Core.Bool.{Bool, true, false, not}
-use mathlib.Core.List.{List}
+use mathlib.Core.List.{List, []}
 use Prim.Native.Nat.{ℕ}
+use native.Mathlib.Omega.{arith}
 use borrow.Author.Tests.{not-false}
+use Rattle.slices.specs.Choice.{pick, firstOf}
+use Rattle.answer_common.proofs.Lines.{line-clear, last-no}
 use Rattle.start_valid.specs.Start.{beginsSession}
 use Rattle.start_valid.proofs.Laws.{begins-valid}
 use Rattle.tape_read.specs.Entries.{entry}
@@ -14,7 +17,7 @@ use Rattle.session_phase.specs.declared.Speaker.{Speaker}
 use Rattle.session_phase.specs.declared.Speaker.the-variants.{Terminal, Issuer, Attendant}
 use Rattle.session_phase.specs.declared.Waiting.the-variants.{ForWord}
 use Rattle.session_events.specs.Events.{allowedBy}
-use Rattle.kernel_refusals.specs.Refusals.{startBad, answerBad, replyBad, resultsBad}
+use Rattle.kernel_refusals.specs.Refusals.{startBad, answerBad, replyBad, resultsBad, wordLines}
 
 -- what the kernel takes: of the STARTs only those that a session can be begun with
 unfoldable pub takenBy : Speaker → List ℕ → Bool
@@ -25,18 +28,18 @@ takenBy (Attendant count) p = allowedBy (Attendant count) p
 module _ (p : List ℕ) where
   pub word-passes : (speaker : Speaker) → takenBy speaker p ≡ true
       → (startBad (entry (kindOf speaker) p) ≡ false) × (answerBad (entry (kindOf speaker) p) ≡ false)
-      × (replyBad (entry (kindOf speaker) p) ≡ false) × (resultsBad (ForWord speaker) (entry (kindOf speaker) p) ≡ false)
-  unfolding kindOf takenBy allowedBy startBad answerBad replyBad resultsBad resultsIn wantedOf
-  word-passes Terminal fits = (ap not fits, refl, refl, refl)
-  word-passes Issuer fits = (refl, refl, ap not fits, refl)
-  word-passes (Attendant count) fits = (refl, refl, refl, ap not fits)
+      × (firstOf (wordLines (ForWord speaker) (entry (kindOf speaker) p)) ≡ 0)
+  unfolding kindOf takenBy allowedBy startBad answerBad replyBad resultsBad wordLines firstOf pick resultsIn wantedOf
+  word-passes Terminal fits = (ap not fits, refl, refl)
+  word-passes Issuer fits = (refl, refl, last-no refl 6 (ap not fits))
+  word-passes (Attendant count) fits = (refl, refl, last-no refl 12 (ap not fits))
 
-  pub passed-word : (speaker : Speaker) → startBad (entry (kindOf speaker) p) ≡ false → replyBad (entry (kindOf speaker) p) ≡ false
-      → resultsBad (ForWord speaker) (entry (kindOf speaker) p) ≡ false → takenBy speaker p ≡ true
-  unfolding kindOf takenBy allowedBy startBad replyBad resultsBad resultsIn wantedOf
-  passed-word Terminal s r v = not-false _ s
-  passed-word Issuer s r v = not-false _ r
-  passed-word (Attendant count) s r v = not-false _ v
+  pub passed-word : (speaker : Speaker) → startBad (entry (kindOf speaker) p) ≡ false
+      → firstOf (wordLines (ForWord speaker) (entry (kindOf speaker) p)) ≡ 0 → takenBy speaker p ≡ true
+  unfolding kindOf takenBy allowedBy startBad replyBad resultsBad wordLines firstOf pick resultsIn wantedOf
+  passed-word Terminal s w = not-false _ s
+  passed-word Issuer s w = not-false _ (line-clear _ 6 [] (λ z. omega arith) w .0)
+  passed-word (Attendant count) s w = not-false _ (line-clear _ 12 [] (λ z. omega arith) w .0)
 
   pub taken-allowed : (speaker : Speaker) → takenBy speaker p ≡ true → allowedBy speaker p ≡ true
   unfolding takenBy allowedBy

@@ -15,7 +15,7 @@ use Rattle.commands.specs.Commands.{longest}
 use Rattle.decide_requests.specs.Replies.{replyOf, isReply}
 use Rattle.session_phase.specs.Waiting.{awaited, isOver}
 use Rattle.session_phase.specs.declared.Waiting.{Waiting}
-use Rattle.kernel_refusals.specs.Refusals.{isDue, startBad, answerBad, replyBad, resultsBad, refusalLines, callRefusal}
+use Rattle.kernel_refusals.specs.Refusals.{isDue, startBad, answerBad, replyBad, resultsBad, wordLines, refusalLines, callRefusal}
 
 module _ (waiting : Waiting) (buf : List ℕ) where
   -- 1, whatever the session and the event
@@ -49,13 +49,13 @@ module _ (waiting : Waiting) (buf : List ℕ) where
             ∙ (pick-no _ _ _ goes ∙ (pick-no _ _ _ s ∙ (pick-no _ _ _ (ap not d) ∙ pick-yes _ _ _ h)))
 
         pub no-reply : answerBad e ≡ false → replyBad e ≡ true → callRefusal waiting e buf ≡ 6
-        unfolding callRefusal refusalLines firstOf
+        unfolding callRefusal refusalLines wordLines firstOf
         no-reply a h =
             pick-no _ _ _ (le-ltb (length buf) longest room)
             ∙ (pick-no _ _ _ goes ∙ (pick-no _ _ _ s ∙ (pick-no _ _ _ (ap not d) ∙ (pick-no _ _ _ a ∙ pick-yes _ _ _ h))))
 
         pub no-results : answerBad e ≡ false → replyBad e ≡ false → resultsBad waiting e ≡ true → callRefusal waiting e buf ≡ 12
-        unfolding callRefusal refusalLines firstOf
+        unfolding callRefusal refusalLines wordLines firstOf
         no-results a r h =
             pick-no _ _ _ (le-ltb (length buf) longest room)
             ∙ (pick-no _ _ _ goes

@@ -34,6 +34,15 @@ replyBad e = eqb (e .kind) host && not (isReply (replyOf (e .payload)))
 unfoldable pub resultsBad : Waiting → Entry → Bool
 resultsBad waiting e = eqb (e .kind) results && not (areResults (resultsIn waiting) (e .payload))
 
+-- the lines of the words that come after START, each for its own kind
+unfoldable pub wordLines : Waiting → Entry → List (Bool × ℕ)
+wordLines waiting e =
+    -- HOST not 3 bytes, or not one of the replies
+    (replyBad e, 6)
+    -- the results of cardholder verification: not one for each rule, or not 0 to 4
+    ∷ (resultsBad waiting e, 12)
+    ∷ []
+
 -- the table: on a session that waits for something, an event, and the command buffer that is lent for it
 unfoldable pub refusalLines : Waiting → Entry → List ℕ → List (Bool × ℕ)
 refusalLines waiting e buf =
@@ -47,11 +56,7 @@ refusalLines waiting e buf =
     ∷ (not (isDue waiting e), 4)
     -- answer over 496 bytes
     ∷ (answerBad e, 5)
-    -- HOST not 3 bytes, or not one of the replies
-    ∷ (replyBad e, 6)
-    -- the results of cardholder verification: not one for each rule, or not 0 to 4
-    ∷ (resultsBad waiting e, 12)
-    ∷ []
+    ∷ wordLines waiting e
 
 -- the number; 0 where no line applies, and the call is taken
 unfoldable pub callRefusal : Waiting → Entry → List ℕ → ℕ
