@@ -35,8 +35,7 @@ use Rattle.session_moves.specs.Moves.{Moved, speakerOf, keptAs, replyIn, buffer
 use Rattle.session_events.specs.Events.{allowedBy, step}
 use Rattle.session_laws.specs.Agreeing.{StandsAt}
 use Rattle.session_laws.specs.Logging.{Follows}
-use Rattle.session_laws.proofs.Words.{allowed-by}
-use Rattle.session_laws.proofs.Telling.{kind-due}
+use Rattle.session_laws.proofs.Words.{kind-due, allowed-by}
 use Rattle.session_laws.proofs.Standing.{stands-decision}
 use Rattle.session_laws.proofs.Commanding.{command-most, command-reply, command-there, buffer-length}
 use Rattle.session_laws.proofs.Stepping.{fresh-stands, answer-step, word-step}

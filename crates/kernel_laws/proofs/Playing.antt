@@ -34,8 +34,7 @@ use Rattle.session_moves.specs.Moves.{Moved, questionOf, speakerOf, keptAs}
 use Rattle.session_events.specs.Events.{allowedBy, step}
 use Rattle.session_laws.specs.Agreeing.{Agrees}
 use Rattle.session_laws.specs.Logging.{logged as ruled, landing, Follows as Steps}
-use Rattle.session_laws.proofs.Words.{no-silence, not-given}
-use Rattle.session_laws.proofs.Telling.{kind-due}
+use Rattle.session_laws.proofs.Words.{no-silence, not-given, kind-due}
 use Rattle.session_laws.proofs.Stepping.{fresh-stands, lands-at, answer-step, word-step}
 use Rattle.kernel_refusals.specs.Refusals.{callRefusal}
 use Rattle.kernel.specs.declared.Session.{Session}

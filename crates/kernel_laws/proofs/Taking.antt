@@ -32,8 +32,7 @@ use Rattle.session_moves.specs.Moves.{Moved, speakerOf}
 use Rattle.session_events.specs.Events.{allowedBy, step}
 use Rattle.session_laws.specs.Agreeing.{StandsAt}
 use Rattle.session_laws.specs.Logging.{logged as ruled, Follows as Steps, Reached}
-use Rattle.session_laws.proofs.Words.{no-answer, allowed-by, allowed-short}
-use Rattle.session_laws.proofs.Telling.{kind-due}
+use Rattle.session_laws.proofs.Words.{no-answer, kind-due, allowed-by, allowed-short}
 use Rattle.session_laws.proofs.Stepping.{answer-step, word-step}
 use Rattle.session_laws.proofs.Reaching.{reached-on, reached-asked, reached-word}
 use Rattle.kernel_refusals.specs.Refusals.{isDue, startBad, answerBad, wordLines}

@@ -4,8 +4,7 @@ use mathlib.Core.Path.{_≡_, refl, sym, ap, _∙_}
 use Prim.Native.Nat.{ℕ}
 use native.Mathlib.Omega.{arith}
 use Rattle.rulebook.specs.Situation.{Situation}
-use Rattle.rulebook.specs.Phase.{Asked, Heard, terminal, issuer, attendant, Phase, asks, hears, decides, dueKind}
-use Rattle.session_phase.specs.Waiting.{kindOf}
+use Rattle.rulebook.specs.Phase.{Asked, Heard, Phase, asks, hears, decides}
 use Rattle.session_phase.specs.declared.Question.{Question}
 use Rattle.session_phase.specs.declared.Speaker.{Speaker}
 use Rattle.session_phase.specs.declared.Waiting.the-variants.{ForCard, ForWord, Decided, Closed}
@@ -13,13 +12,6 @@ use Rattle.session_state.specs.Reading.{askedBy, heardBy}
 use Rattle.session_state.specs.declared.State.{State}
 use Rattle.session_moves.specs.Moves.{questionOf, speakerOf, keptAs}
 use Rattle.session_laws.specs.Agreeing.{forgets, Knows, StandsAt}
-
--- the entry that has somebody's word is the rulebook's
-pub kind-due : (h : Heard) → kindOf (speakerOf h) ≡ dueKind h
-unfolding kindOf speakerOf dueKind
-kind-due terminal = refl
-kind-due (issuer z) = refl
-kind-due (attendant z) = refl
 
 module _ (s : State) where
   pub asked-at : (p : Phase) (question : Question) → StandsAt s p → s .waiting ≡ ForCard question → (w : Asked) × (p ≡ asks w)

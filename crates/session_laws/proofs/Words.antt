@@ -1,5 +1,5 @@
--- What is known of each word that somebody other than the card has: its kind is none of the others, the rulebook's test is the
--- session's own, and what passes it fits a tape. A line each.
+-- What is known of each word that somebody other than the card has: its kind is none of the others, the rulebook's kind and
+-- test are the session's own, and what passes it fits a tape. A line each.
 -- Assumes nothing.
 use mathlib.Core.Path.{_≡_, refl, sym, ap, _∙_}
 use mathlib.Core.Bool.{Bool, true, false, false≢true}
@@ -18,7 +18,7 @@ use Rattle.cvm.specs.Lists.{isResult, areResults}
 use Rattle.decide_verification.specs.Verification.{resultsWanted}
 use Rattle.decide_verification.proofs.Laws.{wanted-few}
 use Rattle.decide_requests.specs.Replies.{replyOf, isReply}
-use Rattle.rulebook.specs.Phase.{Heard, terminal, issuer, attendant, hears, tvrOf, tsiOf}
+use Rattle.rulebook.specs.Phase.{Heard, terminal, issuer, attendant, hears, dueKind, tvrOf, tsiOf}
 use Rattle.rulebook.specs.Turn.{allowed}
 use Rattle.rulebook.specs.Roles.{given}
 use Rattle.session_phase.specs.Waiting.{kindOf}
@@ -54,6 +54,13 @@ unfolding kindOf given
 not-given Terminal p = refl
 not-given Issuer p = refl
 not-given (Attendant count) p = refl
+
+-- the rulebook's kind is the session's own
+pub kind-due : (h : Heard) → kindOf (speakerOf h) ≡ dueKind h
+unfolding kindOf speakerOf dueKind
+kind-due terminal = refl
+kind-due (issuer z) = refl
+kind-due (attendant z) = refl
 
 pub allowed-by : (h : Heard) (p : List ℕ) → allowedBy (speakerOf h) p ≡ allowed h p
 unfolding allowed speakerOf allowedBy
