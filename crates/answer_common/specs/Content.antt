@@ -103,6 +103,9 @@ mandatory = neededIn recordTable
 abbrev pub recordFormats : List (ℕ × Format)
 recordFormats = map (λ r. (r .tag, r .format)) recordTable
 
+abbrev pub formatTold : ℕ → Format
+formatTold tag = beside Unknown tag recordFormats
+
 unfoldable pub rules : List (ℕ × Rule)
 rules =
     -- SELECT; A5 may hold anything

@@ -7,7 +7,7 @@ ghost use mathlib.Core.Path.{_≡_};
 ghost use Prim.Native.Nat.{_≤_};
 ghost use lib.ListN.{length, take};
 ghost use Rattle.start_fields.specs.Reading.{readingOf};
-ghost use Rattle.answer_common.specs.Content.{recordNames, nameCount, namesFor, ruleFor, rightValue};
+ghost use Rattle.answer_common.specs.Content.{recordNames, nameCount, namesFor, ruleFor, formatTold, rightValue};
 
 // The tag of a record's one object.
 pub const RECORD: usize = 0x70;
@@ -84,6 +84,26 @@ pub fn rule_for(tag: usize) -> Rule
         0x9F26 => Rule::Sizes(8, 8),
         0x9F10 => Rule::Sizes(0, 32),
         _ => Rule::Anything,
+    }
+}
+
+// How object lists show what records name; any other tag is told by none.
+pub fn format_told(tag: usize) -> Format
+    ensures { λ r. ⌜ r ≡ formatTold tag ⌝ }
+{
+    match tag {
+        0x5A => Format::CardNumber,
+        0x5F24 => Format::Numeric,
+        0x5F25 => Format::Numeric,
+        0x9F08 => Format::Other,
+        0x8C => Format::Unknown,
+        0x8D => Format::Unknown,
+        0x9F0D => Format::Other,
+        0x9F0E => Format::Other,
+        0x9F0F => Format::Other,
+        0x8E => Format::Unknown,
+        0x9F42 => Format::Unknown,
+        _ => Format::Unknown,
     }
 }
 

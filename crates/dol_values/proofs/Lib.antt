@@ -1,2 +1,3 @@
+pub mod Tables
 pub mod Shaping
 pub mod Pinned

@@ -1,6 +1,7 @@
 // What object lists know of a tag: its format, and whether it is one of START's.
 use crate::Own;
 use answer_common::content::Format;
+use answer_common::content::format_told;
 use start_fields::fields::Field;
 ghost use mathlib.Core.Path.{_≡_};
 ghost use Rattle.dol_values.specs.Shape.{formatOf};
@@ -23,18 +24,7 @@ pub fn format_of(tag: usize) -> Format
         0x9B => Format::Other,
         0x8A => Format::Other,
         0x82 => Format::Other,
-        0x5A => Format::CardNumber,
-        0x5F24 => Format::Numeric,
-        0x5F25 => Format::Numeric,
-        0x9F08 => Format::Other,
-        0x8C => Format::Unknown,
-        0x8D => Format::Unknown,
-        0x9F0D => Format::Other,
-        0x9F0E => Format::Other,
-        0x9F0F => Format::Other,
-        0x8E => Format::Unknown,
-        0x9F42 => Format::Unknown,
-        _ => Format::Unknown,
+        _ => format_told(tag),
     }
 }
 

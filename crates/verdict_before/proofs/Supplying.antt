@@ -26,19 +26,13 @@ use Rattle.answer_common.specs.declared.content.Format.the-variants.{Other, Unk
 use Rattle.session_records.specs.Slots.{Facts}
 use Rattle.dol_values.specs.Shape.{madeFormats, formatOf}
 use Rattle.dol_values.specs.Known.{ownField, valueBy, valueFor, withFormat, supplied}
+use Rattle.dol_values.proofs.Tables.{beside-append}
 use Rattle.dol_values.specs.declared.Own.{Own}
 use Rattle.dol_values.specs.declared.Own.the-variants.{Of, Nothing}
 use Rattle.verdict_before.specs.Before.{recordsBefore}
 use Rattle.verdict_before.specs.Filled.{ownTableBefore, formatOfBefore, ownFieldBefore, valueByBefore, suppliedBefore}
 
 -- ---- tables
-
--- a table that goes on behind another
-beside-append : {A : Type 0} (other : A) (n : ℕ) (rows more : List (ℕ × A))
-    → beside other n (rows ++ more) ≡ beside (beside other n more) n rows
-unfolding beside
-beside-append other n [] more = refl
-beside-append other n (row ∷ rows) more = ap (pick (eqb n (row .0)) (row .1)) (beside-append other n rows more)
 
 -- what holds of every row and of what there is else
 abbrev AllRows : {A : Type 0} → (A → Type 0) → List (ℕ × A) → Type 0
