@@ -8,7 +8,7 @@ use Prim.Native.Nat.{ℕ}
 use native.Mathlib.Omega.{arith}
 use borrow.Author.Tests.{not-false}
 use Rattle.slices.specs.Choice.{pick, firstOf}
-use Rattle.answer_common.proofs.Lines.{line-clear, last-no}
+use Rattle.slices.proofs.Lines.{line-clear, last-no}
 use Rattle.start_valid.specs.Start.{beginsSession}
 use Rattle.start_valid.proofs.Laws.{begins-valid}
 use Rattle.tape_read.specs.Entries.{entry}

@@ -1,36 +1,36 @@
--- For a START of 74 bytes object lists know what they knew before cardholder verification: 9F33 is not there, each other field is, and the
--- formats of what was known are the same.
+-- For a START of 74 bytes object lists know what they knew before cardholder verification: the fields behind these bytes are not there,
+-- each other field is, and the formats of what was known are the same.
 -- Assumes nothing.
-use mathlib.Core.Path.{_≡_, refl, sym, ap, _∙_}
-use mathlib.Core.Bool.{false}
+use mathlib.Core.Path.{_≡_, refl, sym, ap, ap₂, _∙_}
+use mathlib.Core.Bool.{Bool, true, false, not, false≢true}
 use mathlib.Core.List.{List, [], _∷_, _++_, map}
 use mathlib.Core.Option.{Option, none, some, Option·getD}
 use Prim.Native.Nat.{ℕ, _+_, _≤_, _<_}
 use native.Mathlib.Omega.{arith}
-use lib.Dec.{eqb}
-use lib.ListN.{length}
-use borrow.Author.Tests.{eqb-true}
+use lib.Dec.{eqb, leb}
+use lib.ListN.{length, drop, length-take, length-drop}
+use borrow.Author.Tests.{eqb-true, leb-true, not-true}
 use Rattle.slices.specs.Choice.{pick, unlessEmpty}
-use Rattle.slices.specs.Tables.{beside}
-use Rattle.slices.proofs.Choice.{picked, pick-no, pick-same, either, there}
+use Rattle.slices.specs.Tables.{anyOf, beside}
+use Rattle.slices.specs.Tests.{every}
+use Rattle.slices.proofs.Choice.{picked, pick-yes, pick-no, pick-same, either, there, not-there}
+use Rattle.slices.proofs.Tests.{first-held, each-held}
 use Rattle.start_fields.specs.declared.fields.Field.{Field}
-use Rattle.start_fields.specs.declared.fields.Field.the-variants.{Amount, OtherAmount, Country, Currency, Date}
-use Rattle.start_fields.specs.declared.fields.Field.the-variants.{TransactionType, Unpredictable, Version}
-use Rattle.start_fields.specs.declared.fields.Field.the-variants.{Capabilities}
+use Rattle.start_fields.specs.declared.fields.Field.the-variants.{Amount, OtherAmount, Country, Currency, Date, TransactionType, Unpredictable, Version}
 use Rattle.start_fields.specs.Layout.{beginOf, sizeOf, startLength}
-use Rattle.start_fields.specs.Reading.{Terminal, readingOf, bytesOf}
-use Rattle.start_fields.proofs.Reading.{all-read, no-capabilities}
+use Rattle.start_fields.specs.Reading.{Terminal, readingOf, bytesOf, runIn}
+use Rattle.start_fields.proofs.Reading.{bytes-read, all-read, no-capabilities}
 use Rattle.answer_common.specs.Content.{recordFormats}
 use Rattle.answer_common.specs.declared.content.Format.{Format}
-use Rattle.answer_common.specs.declared.content.Format.the-variants.{Other, Unknown}
+use Rattle.answer_common.specs.declared.content.Format.the-variants.{Numeric, CardNumber, Other, Unknown}
 use Rattle.session_records.specs.Slots.{Facts}
-use Rattle.dol_values.specs.Shape.{madeFormats, formatOf}
+use Rattle.dol_values.specs.Shape.{ownTable, madeFormats, formatOf}
 use Rattle.dol_values.specs.Known.{ownField, valueBy, valueFor, withFormat, supplied}
 use Rattle.dol_values.proofs.Tables.{beside-append}
 use Rattle.dol_values.specs.declared.Own.{Own}
 use Rattle.dol_values.specs.declared.Own.the-variants.{Of, Nothing}
 use Rattle.verdict_before.specs.Before.{recordsBefore}
-use Rattle.verdict_before.specs.Filled.{ownTableBefore, formatOfBefore, ownFieldBefore, valueByBefore, suppliedBefore}
+use Rattle.verdict_before.specs.Filled.{ownTableBefore, formatsBefore, formatOfBefore, ownFieldBefore, valueByBefore, suppliedBefore}
 
 -- ---- tables
 
@@ -45,45 +45,73 @@ beside-holds P other n [] h all = h
 beside-holds P other n (row ∷ rows) h all =
     picked P (eqb n (row .0)) (row .1) (beside other n rows) (λ y. all .0) (λ no. beside-holds P other n rows h (all .1))
 
--- ---- tags other than 9F33
+-- a number that is none of a table's
+unlisted : {A : Type 0} (other : A) (n : ℕ) (rows : List (ℕ × A)) → anyOf (map (λ row. eqb n (row .0)) rows) ≡ false
+    → beside other n rows ≡ other
+unfolding anyOf beside
+unlisted other n [] h = refl
+unlisted other n (row ∷ rows) h =
+    either (eqb n (row .0))
+    (λ y. absurd (false≢true (sym h ∙ pick-yes _ _ _ y)))
+    (λ no. pick-no _ _ _ no ∙ unlisted other n rows (sym (pick-no _ _ _ no) ∙ h))
+
+-- ---- START's tags, those of old and the new ones
+
+abbrev Rows : Type 0
+Rows = List (ℕ × (Field × Format))
+
+abbrev formatsIn : Rows → List (ℕ × Format)
+formatsIn rows = map (λ row. (row .0, row .1 .1)) rows
+
+abbrev fieldsIn : Rows → List (ℕ × Own)
+fieldsIn rows = map (λ row. (row .0, Of (row .1 .0))) rows
 
 abbrev ownFormats : List (ℕ × Format)
-ownFormats = map (λ row. (row .0, row .1 .1)) ownTableBefore
+ownFormats = formatsIn ownTableBefore
 
 abbrev ownFields : List (ℕ × Own)
-ownFields = map (λ row. (row .0, Of (row .1 .0))) ownTableBefore
+ownFields = fieldsIn ownTableBefore
+
+-- the new ones stand behind those of old
+abbrev newRows : Rows
+newRows = drop (length ownTableBefore) ownTable
+
+-- such a field begins behind the 74 bytes, and no list knew its tag
+abbrev isNew : ℕ × (Field × Format) → Bool
+isNew row =
+    every (leb startLength (beginOf (row .1 .0))
+    ∷ not (anyOf (map (λ r. eqb (row .0) (r .0)) ownFields))
+    ∷ not (anyOf (map (λ r. eqb (row .0) (r .0)) formatsBefore))
+    ∷ [])
+
+all-new : every (map isNew newRows) ≡ true
+unfolding every anyOf pick
+all-new = refl
 
 abbrev newFormats : List (ℕ × Format)
 newFormats = (0x8E, Unknown) ∷ (0x9F42, Unknown) ∷ []
 
-module _ (tag : ℕ) where
-  -- what is new in records has no format there
-  told-formats : beside Unknown tag (madeFormats ++ recordFormats) ≡ beside Unknown tag (madeFormats ++ recordsBefore)
-  unfolding beside
-  told-formats =
-      beside-append Unknown tag (madeFormats ++ recordsBefore) newFormats
-      ∙ ap (λ (f : Format). beside f tag (madeFormats ++ recordsBefore))
-      (ap (pick (eqb tag 0x8E) Unknown) (pick-same (eqb tag 0x9F42) Unknown) ∙ pick-same (eqb tag 0x8E) Unknown)
-
-  module _ (other : eqb tag 0x9F33 ≡ false) where
-    format-same : formatOf tag ≡ formatOfBefore tag
-    unfolding formatOf formatOfBefore beside
-    format-same =
-        beside-append Unknown tag ownFormats ((0x9F33, Other) ∷ (madeFormats ++ recordFormats))
-        ∙ (ap (λ (f : Format). beside f tag ownFormats) (pick-no _ _ _ other ∙ told-formats)
-        ∙ sym (beside-append Unknown tag ownFormats (madeFormats ++ recordsBefore)))
-
-    own-same : ownField tag ≡ ownFieldBefore tag
-    unfolding ownField ownFieldBefore beside
-    own-same =
-        beside-append Nothing tag ownFields ((0x9F33, Of Capabilities) ∷ [])
-        ∙ ap (λ (o : Own). beside o tag ownFields) (pick-no _ _ _ other)
+-- what is new in records has no format there
+told-formats : (tag : ℕ) → beside Unknown tag (madeFormats ++ recordFormats) ≡ beside Unknown tag (madeFormats ++ recordsBefore)
+unfolding beside
+told-formats tag =
+    beside-append Unknown tag (madeFormats ++ recordsBefore) newFormats
+    ∙ ap (λ (f : Format). beside f tag (madeFormats ++ recordsBefore))
+    (ap (pick (eqb tag 0x8E) Unknown) (pick-same (eqb tag 0x9F42) Unknown) ∙ pick-same (eqb tag 0x8E) Unknown)
 
 -- what has no format is not supplied
 unknown-none : (o : Option (List ℕ)) → withFormat Unknown o ≡ none
 unfolding withFormat
 unknown-none none = refl
 unknown-none (some v) = refl
+
+-- nor is what is not there
+absent-none : (f : Format) → withFormat f none ≡ none
+unfolding withFormat
+absent-none Numeric = refl
+absent-none CardNumber = refl
+absent-none Other = refl
+absent-none Unknown = refl
 
 -- ---- a START of 74 bytes
 
@@ -130,21 +158,58 @@ module _ (t : Terminal) (early : Early t) (known : Facts) where
         ),
       )
 
-  -- 9F33 is not there, and was not known
-  new-tag : supplied t known 0x9F33 ≡ suppliedBefore t known 0x9F33
-  unfolding supplied suppliedBefore valueFor valueBy ownField formatOf formatOfBefore beside pick unlessEmpty withFormat
-  new-tag =
-      ap (λ (c : Option (List ℕ)). withFormat Other (unlessEmpty (Option·getD c []))) (early-none t early)
-      ∙ sym (unknown-none (valueByBefore t (known 0x9F33) (ownFieldBefore 0x9F33)))
+  -- a field behind the 74 bytes is not
+  field-none : (f : Field) → startLength ≤ beginOf f → unlessEmpty (bytesOf f t) ≡ none
+  field-none f h =
+      ap (λ (u : Terminal). unlessEmpty (bytesOf f u)) (early .1 .1)
+      ∙ (ap unlessEmpty (bytes-read f (early .0))
+      ∙ not-there (runIn f (early .0)) (simp (length-take, length-drop) (omega (arith, early .1 .0))))
+
+  -- what is supplied, given the new ones of START's tags
+  abbrev with-new : Rows → ℕ → Option (Format × List ℕ)
+  with-new rows tag =
+      withFormat (beside (beside (beside Unknown tag (madeFormats ++ recordFormats)) tag (formatsIn rows)) tag ownFormats)
+      (valueBy t (known tag) (beside (beside Nothing tag (fieldsIn rows)) tag ownFields))
+
+  module _ (row : ℕ × (Field × Format)) (new : isNew row ≡ true) (tag : ℕ) (e : tag ≡ row .0) (f : Format) where
+    -- a new tag is not supplied, whatever its format, and was not known
+    new-none : withFormat f (valueBy t (known tag) (beside (Of (row .1 .0)) tag ownFields)) ≡ suppliedBefore t known tag
+    unfolding valueBy suppliedBefore formatOfBefore
+    new-none =
+        let tests = each-held _ new in
+        let before = valueByBefore t (known tag) (ownFieldBefore tag) in
+        let own = ap (λ (n : ℕ). anyOf (map (λ (r : ℕ × Own). eqb n (r .0)) ownFields)) e ∙ not-true _ (tests 1) in
+        let known′ = ap (λ (n : ℕ). anyOf (map (λ (r : ℕ × Format). eqb n (r .0)) formatsBefore)) e ∙ not-true _ (tests 2) in
+        ap (λ (o : Own). withFormat f (valueBy t (known tag) o)) (unlisted (Of (row .1 .0)) tag ownFields own)
+        ∙ (ap (withFormat f) (field-none (row .1 .0) (leb-true _ _ (tests 0)))
+        ∙ (absent-none f
+        ∙ sym (ap (λ (g : Format). withFormat g before) (unlisted Unknown tag formatsBefore known′) ∙ unknown-none before)))
+
+  new-same : (rows : Rows) → every (map isNew rows) ≡ true → (tag : ℕ) → with-new rows tag ≡ suppliedBefore t known tag
+  unfolding beside suppliedBefore formatOfBefore ownFieldBefore
+  new-same [] new tag =
+      ap (λ (f : Format). withFormat (beside f tag ownFormats) (valueBy t (known tag) (beside Nothing tag ownFields))) (told-formats tag)
+      ∙ (ap (λ (f : Format). withFormat f (valueBy t (known tag) (beside Nothing tag ownFields)))
+      (sym (beside-append Unknown tag ownFormats (madeFormats ++ recordsBefore)))
+      ∙ ap (withFormat (formatOfBefore tag)) (value-same tag))
+  new-same (row ∷ rows) new tag =
+      let first = first-held (isNew row) (map isNew rows) new in
+      either (eqb tag (row .0))
+      (λ y.
+      ap₂ (λ (f : Format) (o : Own). withFormat (beside f tag ownFormats) (valueBy t (known tag) (beside o tag ownFields)))
+      (pick-yes _ _ _ y) (pick-yes _ _ _ y)
+      ∙ new-none row (first .0) tag (eqb-true tag (row .0) y) _)
+      (λ n.
+      ap₂ (λ (f : Format) (o : Own). withFormat (beside f tag ownFormats) (valueBy t (known tag) (beside o tag ownFields)))
+      (pick-no _ _ _ n) (pick-no _ _ _ n)
+      ∙ new-same rows (first .1) tag)
 
   -- what is supplied for any tag is what was supplied
   pub supplied-same : (tag : ℕ) → supplied t known tag ≡ suppliedBefore t known tag
-  unfolding supplied suppliedBefore valueFor
+  unfolding supplied valueFor formatOf ownField
   supplied-same tag =
-      either (eqb tag 0x9F33)
-      (λ y.
-      let e = eqb-true tag 0x9F33 y in
-      ap (supplied t known) e ∙ (new-tag ∙ sym (ap (suppliedBefore t known) e)))
-      (λ n.
-      ap (λ (f : Format). withFormat f (valueBy t (known tag) (ownField tag))) (format-same tag n)
-      ∙ ap (withFormat (formatOfBefore tag)) (ap (valueBy t (known tag)) (own-same tag n) ∙ value-same tag))
+      ap₂ (λ (f : Format) (o : Own). withFormat f (valueBy t (known tag) o))
+      (beside-append Unknown tag ownFormats (formatsIn newRows ++ (madeFormats ++ recordFormats))
+      ∙ ap (λ (f : Format). beside f tag ownFormats) (beside-append Unknown tag (formatsIn newRows) (madeFormats ++ recordFormats)))
+      (beside-append Nothing tag ownFields (fieldsIn newRows))
+      ∙ new-same newRows all-new tag
