@@ -10,8 +10,8 @@ use native.Mathlib.Omega.{arith}
 use lib.ListN.{length, drop, length-append}
 use borrow.Author.Tests.{leb-true, le-leb, eqb-true, eq-eqb}
 use Rattle.slices.proofs.Tests.{held, last, first-held}
-use Rattle.answer_afl.specs.Entries.{Entry, firstEntry, entries, wholeEntries, sfi, records, recordsOf, recordCount, run, readEntry}
-use Rattle.answer_afl.specs.Entries.{readAll, toRead, AndEntries}
+use Rattle.answer_afl.specs.Entries.{Entry, firstEntry, entries, wholeEntries, sfi, records, recordsOf}
+use Rattle.answer_afl.specs.Entries.{recordCount, run, readEntry, readAll, toRead, AndEntries}
 
 pub entries-more : (s : List ℕ) → 4 ≤ length s → entries s ≡ firstEntry s ∷ entries (drop 4 s)
 unfolding entries firstEntry

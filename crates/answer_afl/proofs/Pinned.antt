@@ -8,8 +8,8 @@ use Prim.Native.Nat.{ℕ}
 use lib.ListN.{replicate}
 use Rattle.slices.specs.Choice.{pick}
 use Rattle.slices.specs.Tests.{every, between}
-use Rattle.answer_afl.specs.Entries.{firstEntry, entries, wholeEntries, sfi, records, fileRight, entryRight, entriesRight}
-use Rattle.answer_afl.specs.Entries.{recordsOf, recordCount, tooMany, run, readEntry, readAll, toRead}
+use Rattle.answer_afl.specs.Entries.{firstEntry, entries, wholeEntries, sfi, records, fileRight, entryRight}
+use Rattle.answer_afl.specs.Entries.{entriesRight, recordsOf, recordCount, tooMany, run, readEntry, readAll, toRead}
 use Rattle.answer_afl.specs.Cursor.{fromEntry, entryAt, start, isLeft, recordAt, stepped}
 
 -- four bytes to an entry, one entry at least

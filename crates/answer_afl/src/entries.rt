@@ -2,8 +2,8 @@
 use slices::byte;
 ghost use mathlib.Core.Path.{_≡_};
 ghost use Prim.Native.Nat.{_+_, _≤_};
-ghost use Rattle.answer_afl.specs.Entries.{firstEntry, records as recordsOf, wholeEntries, fileRight, entryRight, entriesRight};
-ghost use Rattle.answer_afl.specs.Entries.{tooMany};
+ghost use Rattle.answer_afl.specs.Entries.{firstEntry, records as recordsOf, wholeEntries};
+ghost use Rattle.answer_afl.specs.Entries.{fileRight, entryRight, entriesRight, tooMany};
 
 // The most records in all.
 const MOST_RECORDS: usize = 500;

@@ -5,8 +5,8 @@ use Prim.Native.Nat.{ℕ}
 use lib.ListN.{length}
 use Rattle.slices.specs.Choice.{pick, firstOf}
 use Rattle.slices.specs.Shorter.{counted, shorter}
-use Rattle.tlv_head.specs.Head.{firstByte, constructed, twoBytes, tagSize, tagOf, tagRight, lengthByte, lengthForm, lengthSize, lengthOf}
-use Rattle.tlv_head.specs.Head.{valueStart, valueEnd, whole}
+use Rattle.tlv_head.specs.Head.{firstByte, constructed, twoBytes, tagSize, tagOf, tagRight, lengthByte}
+use Rattle.tlv_head.specs.Head.{lengthForm, lengthSize, lengthOf, valueStart, valueEnd, whole}
 use Rattle.slices.specs.Tests.{isSome, every, between}
 use Rattle.tlv_list.specs.Objects.{between as part, firstObject, before, rightInside, listed, objects}
 use Rattle.tlv_list.specs.Place.{dataField}

@@ -11,8 +11,8 @@ ghost use lib.ListN.{length};
 ghost use Rattle.slices.specs.Choice.{firstOf};
 ghost use Rattle.tlv_list.specs.Objects.{objects};
 ghost use Rattle.tlv_list.specs.Place.{dataField};
-ghost use Rattle.answer_common.specs.Answer.{sizeBad, statusBad, outer as outerOf, isOne, inside as insideOf, outerBad, frame};
-ghost use Rattle.answer_common.specs.Answer.{only as onlyOf, theOne};
+ghost use Rattle.answer_common.specs.Answer.{sizeBad, statusBad, outer as outerOf, isOne};
+ghost use Rattle.answer_common.specs.Answer.{inside as insideOf, outerBad, frame, only as onlyOf, theOne};
 
 // The most bytes of an answer.
 const MOST: usize = 258;

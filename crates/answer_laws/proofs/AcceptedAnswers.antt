@@ -26,8 +26,8 @@ use Rattle.answer_common.proofs.Accepted.{AllClear, none-applies, or-clear, any
 use Rattle.answer_common.proofs.Sizes.{sized}
 use Rattle.answer_common.proofs.Members.{inside-size, direct-size, inner-size}
 use Rattle.answer_common.specs.Forms.{template, joined, bothForms, lacks}
-use Rattle.answer_select.specs.Select.{selectTag, selectNames, innerNames, inner, pdolOf, begins, nameWrong, selectTwice, selectWrong}
-use Rattle.answer_select.specs.Select.{selectLines, selectReason}
+use Rattle.answer_select.specs.Select.{selectTag, selectNames, innerNames, inner, pdolOf, begins}
+use Rattle.answer_select.specs.Select.{nameWrong, selectTwice, selectWrong, selectLines, selectReason}
 use Rattle.answer_gpo.specs.Options.{optionNames, profileOf, locatorOf, optionsWrong, optionsLines, optionsReason}
 use Rattle.answer_record.specs.Records.{again, anyAgain, recordTwice, recordLines, recordReason, valueIn, incomplete, completeReason}
 use Rattle.decide_cryptogram.specs.declared.Given.{Given}

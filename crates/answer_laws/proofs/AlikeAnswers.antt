@@ -25,14 +25,14 @@ use Rattle.answer_common.specs.Named.{membersIn, listed, named, among, direct, 
 use Rattle.slices.proofs.Lines.{one-more}
 use Rattle.answer_common.proofs.Alike.{any-alike, times-alike, wrong-alike, named-alike, tags-alike, frame-alike}
 use Rattle.answer_common.specs.Forms.{template, joined, bothForms, lacks}
-use Rattle.answer_select.specs.Select.{selectTag, selectNames, innerNames, inner, pdolOf, nameWrong, selectTwice, selectWrong}
-use Rattle.answer_select.specs.Select.{selectLines, selectReason}
+use Rattle.answer_select.specs.Select.{selectTag, selectNames, innerNames, inner, pdolOf, nameWrong}
+use Rattle.answer_select.specs.Select.{selectTwice, selectWrong, selectLines, selectReason}
 use Rattle.answer_gpo.specs.Options.{optionNames, profileOf, locatorOf, optionsWrong, optionsLines, optionsReason}
 use Rattle.answer_record.specs.Records.{again, anyAgain, recordTwice, recordLines, recordReason, valueIn}
 use Rattle.decide_cryptogram.specs.Cryptograms.{givenBy}
 use Rattle.decide_cryptogram.specs.declared.Given.{Given}
-use Rattle.answer_cryptogram.specs.Cryptogram.{mandatoryNames, cryptogramNames, informationOf, cryptogramOf, cryptogramWrong}
-use Rattle.answer_cryptogram.specs.Cryptogram.{cryptogramLines, cryptogramReason}
+use Rattle.answer_cryptogram.specs.Cryptogram.{mandatoryNames, cryptogramNames, informationOf, cryptogramOf}
+use Rattle.answer_cryptogram.specs.Cryptogram.{cryptogramWrong, cryptogramLines, cryptogramReason}
 use Rattle.answer_laws.specs.AlikeAnswers.{SameNamed, SelectAlike, FormAlike}
 
 -- a choice between the forms that agrees in both

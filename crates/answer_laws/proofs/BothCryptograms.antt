@@ -26,8 +26,8 @@ use Rattle.answer_common.proofs.Alike.{frame-alike}
 use Rattle.answer_common.specs.Forms.{template, joined, bothForms, lacks}
 use Rattle.decide_cryptogram.specs.Cryptograms.{givenBy}
 use Rattle.decide_cryptogram.specs.declared.Given.{Given}
-use Rattle.answer_cryptogram.specs.Cryptogram.{mandatoryNames, cryptogramNames, informationOf, cryptogramOf, cryptogramWrong}
-use Rattle.answer_cryptogram.specs.Cryptogram.{cryptogramLines, cryptogramReason}
+use Rattle.answer_cryptogram.specs.Cryptogram.{mandatoryNames, cryptogramNames, informationOf, cryptogramOf}
+use Rattle.answer_cryptogram.specs.Cryptogram.{cryptogramWrong, cryptogramLines, cryptogramReason}
 use Rattle.answer_common.proofs.Absent.{not-direct, one-form}
 use Rattle.answer_laws.specs.AlikeAnswers.{OrMissing, SameCryptogram}
 use Rattle.answer_laws.proofs.BothForms.{itself}

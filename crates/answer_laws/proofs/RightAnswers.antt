@@ -20,12 +20,12 @@ use Rattle.slices.proofs.Tables.{or-no, and-no}
 use Rattle.answer_common.proofs.Sizes.{sized}
 use Rattle.answer_common.proofs.Accepted.{AllClear, no-reason, or-clear, any-none, frame-right}
 use Rattle.answer_common.proofs.Present.{of-size, there-so, may-be-so, may-be, none-twice, none-wrong, none-missing, by-name}
-use Rattle.answer_select.specs.Select.{selectTag, selectNames, innerNames, inner, pdolOf, begins, nameWrong, selectTwice, selectWrong}
-use Rattle.answer_select.specs.Select.{selectLines, selectReason}
+use Rattle.answer_select.specs.Select.{selectTag, selectNames, innerNames, inner, pdolOf, begins}
+use Rattle.answer_select.specs.Select.{nameWrong, selectTwice, selectWrong, selectLines, selectReason}
 use Rattle.answer_record.specs.Records.{again, anyAgain, recordTwice, recordLines, recordReason, valueIn, incomplete, completeReason}
 use Rattle.answer_laws.specs.RightAnswers.{RightSelect, RightRecord, RightRecords}
-use Rattle.answer_laws.proofs.AcceptedAnswers.{select-clear, select-framed, select-name, select-inner, select-list, record-clear}
-use Rattle.answer_laws.proofs.AcceptedAnswers.{record-framed, record-told, complete-told, complete-list}
+use Rattle.answer_laws.proofs.AcceptedAnswers.{select-clear, select-framed, select-name, select-inner, select-list}
+use Rattle.answer_laws.proofs.AcceptedAnswers.{record-clear, record-framed, record-told, complete-told, complete-list}
 
 -- no line applies, the first three neither
 pub no-line : (expected a : List ℕ) (lines : List (Bool × ℕ)) → Framed expected a → AllClear lines → firstOf (frame expected a ++ lines) ≡ 0

@@ -27,13 +27,13 @@ use Rattle.answer_common.proofs.Present.{of-size, there-so, may-be-so, must-be,
 use Rattle.answer_common.specs.Forms.{template, joined, bothForms, lacks}
 use Rattle.answer_gpo.specs.Options.{optionNames, locatorOf, optionsWrong, optionsLines, optionsReason}
 use Rattle.decide_cryptogram.specs.declared.Given.{Given}
-use Rattle.answer_cryptogram.specs.Cryptogram.{mandatoryNames, cryptogramNames, cryptogramOf, cryptogramWrong, cryptogramLines}
-use Rattle.answer_cryptogram.specs.Cryptogram.{cryptogramReason}
+use Rattle.answer_cryptogram.specs.Cryptogram.{mandatoryNames, cryptogramNames, cryptogramOf}
+use Rattle.answer_cryptogram.specs.Cryptogram.{cryptogramWrong, cryptogramLines, cryptogramReason}
 use Rattle.answer_common.proofs.Absent.{not-direct, one-form}
-use Rattle.answer_laws.specs.RightForms.{OptionsApart, OptionsJoined, RightOptions, CryptogramApart, CryptogramJoined}
-use Rattle.answer_laws.specs.RightForms.{RightCryptogram}
-use Rattle.answer_laws.proofs.AcceptedAnswers.{is-template, options-framed, options-entries, in-template, in-joined}
-use Rattle.answer_laws.proofs.AcceptedAnswers.{cryptogram-clear, cryptogram-framed, cryptogram-allowed}
+use Rattle.answer_laws.specs.RightForms.{OptionsApart, OptionsJoined, RightOptions}
+use Rattle.answer_laws.specs.RightForms.{CryptogramApart, CryptogramJoined, RightCryptogram}
+use Rattle.answer_laws.proofs.AcceptedAnswers.{is-template, options-framed, options-entries, in-template}
+use Rattle.answer_laws.proofs.AcceptedAnswers.{in-joined, cryptogram-clear, cryptogram-framed, cryptogram-allowed}
 use Rattle.answer_laws.proofs.RightAnswers.{no-line}
 
 -- a template lacks nothing that stands in it; to a joined answer names mean nothing

@@ -12,9 +12,8 @@ use Rattle.decimal_dates.specs.Dates.{monthAndDay, validCardDate}
 use Rattle.dol_wanted.specs.Wanted.{andThen, sizeAt, firstWanted, asks, wantedStep, entriesOf, total, fits, fillable}
 use Rattle.answer_common.specs.CardNumber.{halves, digits, onlyF, cardNumber}
 use Rattle.slices.specs.Tables.{beside}
-use Rattle.answer_record.specs.Records.{again, anyAgain, recordTwice, recordLines}
-use Rattle.answer_record.specs.Records.{recordReason, valueIn, incomplete, completeReason}
-use Rattle.answer_record.specs.Records.{afterRecords}
+use Rattle.answer_record.specs.Records.{again, anyAgain, recordTwice, recordLines, recordReason}
+use Rattle.answer_record.specs.Records.{valueIn, incomplete, completeReason, afterRecords}
 use Rattle.answer_common.specs.Content.{recordNames}
 use Rattle.answer_common.proofs.Opened.{one, two, good, joinedAll, opened}
 

@@ -2,10 +2,8 @@
 use slices::byte;
 use slices::part;
 ghost use mathlib.Core.Path.{_≡_};
-ghost use Rattle.apdu.specs.Commands.{caseOf, dataOf};
-ghost use Rattle.apdu.specs.Commands.{asked as askedOf};
-ghost use Rattle.apdu.specs.Answers.{isStatus, isWarning};
-ghost use Rattle.apdu.specs.Answers.{handed as handedOf};
+ghost use Rattle.apdu.specs.Commands.{caseOf, dataOf, asked as askedOf};
+ghost use Rattle.apdu.specs.Answers.{isStatus, isWarning, handed as handedOf};
 
 // The four cases of a command, 1 to 4 in their order, and none of them.
 pub enum Case {

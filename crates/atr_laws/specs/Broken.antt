@@ -3,8 +3,8 @@
 use mathlib.Core.List.{List, [], _∷_, _++_}
 use Prim.Native.Nat.{ℕ}
 use lib.ListN.{replicate}
-use Rattle.atr_rules.specs.Names.{TS, TA1, TB1-ABSENT, TB1, TD1, TA2, TB2, TC2, TD2, TA3, TB3-ABSENT, TB3-BWI, TB3-CWI, TB3-N, TC3}
-use Rattle.atr_rules.specs.Names.{CUT, TCK-ABSENT, TCK, EXTRA, LONG}
+use Rattle.atr_rules.specs.Names.{TS, TA1, TB1-ABSENT, TB1, TD1, TA2, TB2, TC2, TD2, TA3, TB3-ABSENT}
+use Rattle.atr_rules.specs.Names.{TB3-BWI, TB3-CWI, TB3-N, TC3, CUT, TCK-ABSENT, TCK, EXTRA, LONG}
 
 pub record Breaking : Type 0 where
   pub rule : ℕ

@@ -8,10 +8,10 @@ use lib.Dec.{ltb, eqb}
 use Rattle.slices.specs.Choice.{pick}
 use Rattle.atr_characters.specs.Data.{oneIf}
 use Rattle.atr_characters.specs.declared.Located.{Located}
-use Rattle.atr_rules.specs.Names.{TS, TA1, TB1-ABSENT, TB1, TD1, TA2, TB2, TC2, TD2, TA3, TB3-ABSENT, TB3-BWI, TB3-CWI, TB3-N, TC3}
-use Rattle.atr_rules.specs.Names.{CUT, TCK-ABSENT, TCK, EXTRA, LONG}
-use Rattle.atr_rules.specs.Tests.{ta1Broken, tb1Absent, tb1Broken, td1Broken, ta2Broken, tb2Broken, tc2Broken, td2Broken}
-use Rattle.atr_rules.specs.Tests.{ta3Broken, tb3Absent, bwiBroken, cwiBroken, guardBroken, tc3Broken}
+use Rattle.atr_rules.specs.Names.{TS, TA1, TB1-ABSENT, TB1, TD1, TA2, TB2, TC2, TD2, TA3, TB3-ABSENT}
+use Rattle.atr_rules.specs.Names.{TB3-BWI, TB3-CWI, TB3-N, TC3, CUT, TCK-ABSENT, TCK, EXTRA, LONG}
+use Rattle.atr_rules.specs.Tests.{ta1Broken, tb1Absent, tb1Broken, td1Broken, ta2Broken, tb2Broken, tc2Broken}
+use Rattle.atr_rules.specs.Tests.{td2Broken, ta3Broken, tb3Absent, bwiBroken, cwiBroken, guardBroken, tc3Broken}
 
 pub record Line : Type 0 where
   pub number : ℕ

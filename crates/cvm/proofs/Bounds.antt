@@ -15,9 +15,8 @@ use Rattle.cvm_rules.specs.Bits.{notSuccessful, noPinPad, pinNotEntered, triesE
 use Rattle.cvm_rules.specs.Methods.{methodOf, goesOn, succeeds, pinResults, pinBits, triedBits, hasOfflinePin, hasOnlinePin}
 use Rattle.cvm_rules.specs.Turns.{turn, passedOver, tried, triedTurn, turnOf}
 use Rattle.cvm_rules.specs.declared.Method.{Method}
-use Rattle.cvm_rules.specs.declared.Method.the-variants.{Fail, OfflinePin, OnlinePin}
-use Rattle.cvm_rules.specs.declared.Method.the-variants.{OfflinePinAndSignature, Signature}
-use Rattle.cvm_rules.specs.declared.Method.the-variants.{NoVerification, Unrecognised}
+use Rattle.cvm_rules.specs.declared.Method.the-variants.{Fail, OfflinePin, OnlinePin, OfflinePinAndSignature}
+use Rattle.cvm_rules.specs.declared.Method.the-variants.{Signature, NoVerification, Unrecognised}
 use Rattle.cvm_rules.specs.declared.Circumstances.{Circumstances}
 use Rattle.cvm_rules.specs.declared.Turn.{Turn}
 use Rattle.cvm.specs.Lists.{limitX, limitY, rulesOf}

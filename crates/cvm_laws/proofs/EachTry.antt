@@ -12,9 +12,8 @@ use Rattle.slices.proofs.Choice.{picked, and-left}
 use Rattle.cvm_rules.specs.Bits.{noPinPad, pinNotEntered, triesExceeded, onlinePinEntered}
 use Rattle.cvm_rules.specs.Methods.{supported, succeeds, hasOfflinePin, hasOnlinePin, pinResults, pinBits, triedBits}
 use Rattle.cvm_rules.specs.declared.Method.{Method}
-use Rattle.cvm_rules.specs.declared.Method.the-variants.{Fail, OfflinePin, OnlinePin}
-use Rattle.cvm_rules.specs.declared.Method.the-variants.{OfflinePinAndSignature, Signature}
-use Rattle.cvm_rules.specs.declared.Method.the-variants.{NoVerification, Unrecognised}
+use Rattle.cvm_rules.specs.declared.Method.the-variants.{Fail, OfflinePin, OnlinePin, OfflinePinAndSignature}
+use Rattle.cvm_rules.specs.declared.Method.the-variants.{Signature, NoVerification, Unrecognised}
 
 pub means-needed : (m : Method) (means result : ℕ) → succeeds m means result ≡ true → supported m means ≡ true
 unfolding succeeds supported

@@ -8,9 +8,8 @@ use Rattle.slices.specs.Choice.{pick}
 use Rattle.slices.specs.Tables.{beside}
 use Rattle.cvm_rules.specs.Bits.{unrecognisedMethod, triesExceeded, noPinPad, pinNotEntered, onlinePinEntered}
 use Rattle.cvm_rules.specs.declared.Method.{Method}
-use Rattle.cvm_rules.specs.declared.Method.the-variants.{Fail, OfflinePin, OnlinePin}
-use Rattle.cvm_rules.specs.declared.Method.the-variants.{OfflinePinAndSignature, Signature}
-use Rattle.cvm_rules.specs.declared.Method.the-variants.{NoVerification, Unrecognised}
+use Rattle.cvm_rules.specs.declared.Method.the-variants.{Fail, OfflinePin, OnlinePin, OfflinePinAndSignature}
+use Rattle.cvm_rules.specs.declared.Method.the-variants.{Signature, NoVerification, Unrecognised}
 
 -- 003, Table A-3: b6-b1 of a rule's first byte
 abbrev pub methods : List (ℕ × Method)

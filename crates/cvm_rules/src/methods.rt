@@ -2,8 +2,7 @@
 use crate::Method;
 ghost use mathlib.Core.Path.{_≡_};
 ghost use Rattle.cvm_rules.specs.Methods.{methodOf, goesOn, hasOfflinePin, hasOnlinePin, hasSignature};
-ghost use Rattle.cvm_rules.specs.Methods.{supported as supportedBy, succeeds as succeedsWith, pinBits};
-ghost use Rattle.cvm_rules.specs.Methods.{triedBits};
+ghost use Rattle.cvm_rules.specs.Methods.{supported as supportedBy, succeeds as succeedsWith, pinBits, triedBits};
 
 pub const UNRECOGNISED_METHOD: u8 = 0x40;
 

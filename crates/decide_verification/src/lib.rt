@@ -13,8 +13,8 @@ ghost use lib.ListN.{getD};
 ghost use Rattle.start_fields.specs.Reading.{readingOf, bytesOf};
 ghost use Rattle.session_records.specs.Slots.{toldIn};
 ghost use Rattle.cvm.specs.Lists.{inApplicationCurrency};
-ghost use Rattle.decide_verification.specs.Verification.{verificationSupported, resultsDue, resultsWanted, circumstancesOf};
-ghost use Rattle.decide_verification.specs.Verification.{tvrAfterResults, tsiAfterResults};
+ghost use Rattle.decide_verification.specs.Verification.{verificationSupported, resultsDue, resultsWanted};
+ghost use Rattle.decide_verification.specs.Verification.{circumstancesOf, tvrAfterResults, tsiAfterResults};
 
 fn is_supported(aip: [u8; 2]) -> bool
     ensures { λ r. ⌜ r ≡ verificationSupported aip ⌝ }

@@ -7,8 +7,7 @@ use Rattle.slices.specs.Tables.{beside}
 use Rattle.slices.specs.Writing.{zeros}
 use Rattle.start_fields.specs.declared.fields.Field.{Field}
 use Rattle.start_fields.specs.declared.fields.Field.the-variants.{Amount, OtherAmount, Country, Currency, Date}
-use Rattle.start_fields.specs.declared.fields.Field.the-variants.{TransactionType, Unpredictable, Version}
-use Rattle.start_fields.specs.declared.fields.Field.the-variants.{Capabilities}
+use Rattle.start_fields.specs.declared.fields.Field.the-variants.{TransactionType, Unpredictable, Version, Capabilities}
 use Rattle.answer_common.specs.Content.{recordFormats}
 use Rattle.answer_common.specs.declared.content.Format.{Format}
 use Rattle.answer_common.specs.declared.content.Format.the-variants.{Numeric, CardNumber, Other, Unknown}

@@ -16,8 +16,8 @@ use Rattle.slices.proofs.Choice.{pick-yes, pick-no, pick-cong, picked, either, 
 use Rattle.slices.proofs.Shorter.{equation}
 use Rattle.tlv_head.specs.Head.{tagOf, tagRight, tagSize}
 use Rattle.slices.specs.Tests.{isSome}
-use Rattle.dol_wanted.specs.Wanted.{Wanted, andThen, sizeAt, firstWanted, asks, wantedStep, entriesOf, total, totalBy, totalOf}
-use Rattle.dol_wanted.specs.Wanted.{most, fits, fillable, tally}
+use Rattle.dol_wanted.specs.Wanted.{Wanted, andThen, sizeAt, firstWanted, asks, wantedStep}
+use Rattle.dol_wanted.specs.Wanted.{entriesOf, total, totalBy, totalOf, most, fits, fillable, tally}
 
 pub entry-fits : (s : List ℕ) → asks s ≡ true → tagSize s + 1 ≤ length s
 unfolding asks

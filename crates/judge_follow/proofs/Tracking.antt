@@ -42,17 +42,15 @@ use Rattle.session_laws.proofs.Stepping.{fresh-stands, answer-step, word-step}
 use Rattle.verdict.specs.Saying.{says}
 use Rattle.verdict.specs.declared.Verdict.the-variants.{Pass, Inconclusive}
 use Rattle.verdict_judged.specs.Progress.{Progress, reached, closed, broken, reads, newBy, concluded}
-use Rattle.verdict_judged.proofs.Taking.{reads-heard, heard-invalid, heard-missing, reads-command, command-wrong}
-use Rattle.verdict_judged.proofs.Taking.{command-missing, reads-answer, reads-silence, silence-wrong, answer-missing}
-use Rattle.verdict_judged.proofs.Taking.{reads-decision, decision-wrong, decision-missing, reads-after-end, reads-after-silence}
-use Rattle.verdict_judged.proofs.Taking.{reads-after-break}
+use Rattle.verdict_judged.proofs.Taking.{reads-heard, heard-invalid, heard-missing, reads-command, command-wrong, command-missing}
+use Rattle.verdict_judged.proofs.Taking.{reads-answer, reads-silence, silence-wrong, answer-missing, reads-decision}
+use Rattle.verdict_judged.proofs.Taking.{decision-wrong, decision-missing, reads-after-end, reads-after-silence, reads-after-break}
 use Rattle.judge_stages.specs.declared.Stage.{Stage}
 use Rattle.judge_stages.specs.declared.Stage.the-variants.{Word, Command, Answer, Decision, Done, Closed, Broken}
 use Rattle.judge_stages.specs.Stages.{saidAt}
 use Rattle.judge_follow.specs.declared.Judgement.{Judgement}
 use Rattle.judge_follow.specs.Following.{begun, stageOf, staged, moving, advanced, atCommand}
-use Rattle.judge_follow.specs.Following.{atSilence, atAnswer, atDecision, spoken, wordAt, fedAt}
-use Rattle.judge_follow.specs.Following.{fed}
+use Rattle.judge_follow.specs.Following.{atSilence, atAnswer, atDecision, spoken, wordAt, fedAt, fed}
 use Rattle.judge_follow.proofs.Deciding.{other-kind, test-fails, test-holds}
 
 -- what the judge expects where the machine stands

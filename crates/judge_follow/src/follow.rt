@@ -20,8 +20,7 @@ ghost use mathlib.Core.Path.{_≡_};
 ghost use lib.ListN.{length};
 ghost use Rattle.commands.specs.Commands.{longest};
 ghost use Rattle.judge_follow.specs.Following.{begun, stageOf, staged, advanced, atCommand};
-ghost use Rattle.judge_follow.specs.Following.{atSilence, atAnswer, atDecision, spoken, wordAt};
-ghost use Rattle.judge_follow.specs.Following.{led};
+ghost use Rattle.judge_follow.specs.Following.{atSilence, atAnswer, atDecision, spoken, wordAt, led};
 
 pub fn begin() -> Judgement
     ensures { λ r. ⌜ r ≡ begun ⌝ }

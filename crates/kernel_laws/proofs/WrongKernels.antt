@@ -12,8 +12,7 @@ use Rattle.slices.specs.Writing.{zeros}
 use Rattle.slices.proofs.Writing.{zeros-length}
 use Rattle.start_fields.specs.Reading.{readingOf}
 use Rattle.start_valid.specs.Start.{validKind, validDigits, validRandom, validPercentages}
-use Rattle.start_valid.specs.Start.{validThreshold, validAid, validLength, validStart}
-use Rattle.start_valid.specs.Start.{beginsSession}
+use Rattle.start_valid.specs.Start.{validThreshold, validAid, validLength, validStart, beginsSession}
 use Rattle.start_valid.proofs.Laws.{begins-valid}
 use Rattle.slices.specs.Tests.{every, between}
 use Rattle.decimal_dates.specs.Decimal.{decimalFrom, decimal, decimalByte, digitsOnly, zerosOnly}

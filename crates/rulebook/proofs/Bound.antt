@@ -27,13 +27,11 @@ use Rattle.decide_requests.specs.Replies.{codeIn, replyOf}
 use Rattle.decide_requests.specs.declared.reply.HostReply.{HostReply}
 use Rattle.decide_requests.specs.declared.reply.HostReply.the-variants.{Unable}
 use Rattle.rulebook.specs.Situation.{Situation, listIn}
-use Rattle.rulebook.specs.Phase.{Asked, selecting, optioning, reading, first, second}
-use Rattle.rulebook.specs.Phase.{Heard, terminal, issuer, attendant, Phase, asks, hears}
-use Rattle.rulebook.specs.Phase.{decides, decided as settled, ended}
-use Rattle.rulebook.specs.Turn.{goesOn, opened, selected, managed, requested, verifying}
-use Rattle.rulebook.specs.Turn.{allRead, readOn, withProfile, optioned, withRecord, recorded}
-use Rattle.rulebook.specs.Turn.{answered, replied, online, byFirst, firstAnswered, secondAnswered, replyMade, turn}
-use Rattle.rulebook.specs.Turn.{heard as issuerHeard, verifiedBy, after}
+use Rattle.rulebook.specs.Phase.{Asked, selecting, optioning, reading, first, second, Heard, terminal}
+use Rattle.rulebook.specs.Phase.{issuer, attendant, Phase, asks, hears, decides, decided as settled, ended}
+use Rattle.rulebook.specs.Turn.{goesOn, opened, selected, managed, requested, verifying, allRead, readOn, withProfile}
+use Rattle.rulebook.specs.Turn.{optioned, withRecord, recorded, answered, replied, online, byFirst, firstAnswered}
+use Rattle.rulebook.specs.Turn.{secondAnswered, replyMade, turn, heard as issuerHeard, verifiedBy, after}
 use Rattle.rulebook.specs.Session.{longest, Plays, exchanged, heard, decided, Session}
 
 -- the most that can still come: from the first request on; after the last record

@@ -34,8 +34,8 @@ use Rattle.rulebook.specs.Machine.{at, done, andOn, run}
 use Rattle.rulebook.proofs.Running.{ends-follow, follows-ends, run-session}
 use Rattle.rulebook.proofs.Reading.{run-append}
 use Rattle.rulebook.proofs.Opening.{reached}
-use Rattle.rulebook.proofs.Made.{startOf, select, withList, withNumber, recorded, number, firstAsked, secondAsked, given, tc, arqc}
-use Rattle.rulebook.proofs.Made.{decides, exchange}
+use Rattle.rulebook.proofs.Made.{startOf, select, withList, withNumber, recorded, number}
+use Rattle.rulebook.proofs.Made.{firstAsked, secondAsked, given, tc, arqc, decides, exchange}
 
 -- ---- a record that tells nothing
 

@@ -24,10 +24,10 @@ use Rattle.decide_requests.specs.declared.reply.HostReply.{HostReply}
 use Rattle.decide_requests.specs.declared.reply.HostReply.the-variants.{Unable}
 use Rattle.decide_verification.specs.Verification.{resultsDue}
 use Rattle.rulebook.specs.Situation.{Situation, listIn}
-use Rattle.rulebook.specs.Phase.{Asked, selecting, optioning, reading, first, second, terminal, issuer, attendant, Phase, asks, hears}
-use Rattle.rulebook.specs.Phase.{decides, situationOf, decided, ended, tvrOf, tsiOf}
-use Rattle.rulebook.specs.Turn.{goesOn, selected, managed, requested, verifying, allRead, readOn, withProfile, optioned, withRecord}
-use Rattle.rulebook.specs.Turn.{recorded, answered, replied, online, byFirst, firstAnswered, secondAnswered, turn}
+use Rattle.rulebook.specs.Phase.{Asked, selecting, optioning, reading, first, second, terminal, issuer, attendant}
+use Rattle.rulebook.specs.Phase.{Phase, asks, hears, decides, situationOf, decided, ended, tvrOf, tsiOf}
+use Rattle.rulebook.specs.Turn.{goesOn, selected, managed, requested, verifying, allRead, readOn, withProfile, optioned}
+use Rattle.rulebook.specs.Turn.{withRecord, recorded, answered, replied, online, byFirst, firstAnswered, secondAnswered, turn}
 
 -- where the results of cardholder verification are awaited: they are due, and nothing mandatory is missing
 pub record Awaited (s : Situation) : Type 0 where

@@ -16,8 +16,7 @@ use Rattle.slices.proofs.Tests.{held}
 use Rattle.slices.proofs.Writing.{zeros-length}
 use Rattle.start_fields.specs.Reading.{readingOf}
 use Rattle.start_valid.specs.Start.{validLength, validKind, validDigits, validRandom}
-use Rattle.start_valid.specs.Start.{validPercentages, validThreshold, validAid}
-use Rattle.start_valid.specs.Start.{validStart}
+use Rattle.start_valid.specs.Start.{validPercentages, validThreshold, validAid, validStart}
 use Rattle.decimal_dates.specs.Decimal.{decimalFrom, decimal, decimalByte, digitsOnly, zerosOnly}
 use Rattle.decimal_dates.specs.Dates.{monthAndDay, validStartDate}
 use Rattle.tape_read.specs.Entries.{command, answer, silence, decision, isKind}

@@ -13,8 +13,8 @@ use Rattle.rulebook.specs.Session.{isPayload, Session, Beginning, Awaits
 use Rattle.rulebook.specs.Stated.{Finished}
 use Rattle.slices.specs.Tests.{alike}
 use Rattle.rulebook.specs.Machine.{Machine, at, owes, done, due, next, andOn, run}
-use Rattle.rulebook.proofs.Running.{Follows, Led, chosen, at-end, due-entry, no-play, follows-from, step-back, run-session}
-use Rattle.rulebook.proofs.Running.{follows-ends}
+use Rattle.rulebook.proofs.Running.{Follows, Led, chosen, at-end, due-entry, no-play}
+use Rattle.rulebook.proofs.Running.{follows-from, step-back, run-session, follows-ends}
 use Rattle.rulebook.proofs.Reading.{run-append}
 
 -- after its command the card owes an answer

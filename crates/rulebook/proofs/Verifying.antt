@@ -31,9 +31,8 @@ use Rattle.decide_verification.specs.Verification.{resultsDue, verificationList
 use Rattle.decide_verification.proofs.Laws.{byte-3, other-bytes, b7-set, low-bits, high-bits, other-byte}
 use Rattle.decide_requests.specs.Requests.{firstRequest}
 use Rattle.rulebook.specs.Situation.{Situation, begun, listIn}
-use Rattle.rulebook.specs.Phase.{Asked, first, terminal, issuer, attendant, Phase, opens, asks}
-use Rattle.rulebook.specs.Phase.{hears, decides, situationOf, dueKind, terminated, ended, tvrOf}
-use Rattle.rulebook.specs.Phase.{tsiOf}
+use Rattle.rulebook.specs.Phase.{Asked, first, terminal, issuer, attendant, Phase, opens, asks, hears}
+use Rattle.rulebook.specs.Phase.{decides, situationOf, dueKind, terminated, ended, tvrOf, tsiOf}
 use Rattle.rulebook.specs.Turn.{goesOn, opened, managed, requested, withProfile, withRecord}
 use Rattle.rulebook.specs.Turn.{answered, turn, heard as issuerHeard, verifiedBy, after}
 use Rattle.rulebook.specs.Session.{Plays, exchanged, heard, decided, phasesOf}

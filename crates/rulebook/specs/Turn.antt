@@ -34,9 +34,8 @@ use Rattle.decide_requests.specs.declared.reply.HostReply.the-variants.{Unable}
 use Rattle.decide_requests.specs.declared.reply.HostHeard.{HostHeard}
 use Rattle.decide_requests.specs.declared.reply.HostHeard.the-variants.{Said, Nothing}
 use Rattle.rulebook.specs.Situation.{Situation, begun, listIn}
-use Rattle.rulebook.specs.Phase.{Asked, selecting, optioning, reading, first, second}
-use Rattle.rulebook.specs.Phase.{Heard, terminal, issuer, attendant, Phase, asks, hears}
-use Rattle.rulebook.specs.Phase.{decided, ended, approved, declined}
+use Rattle.rulebook.specs.Phase.{Asked, selecting, optioning, reading, first, second, Heard, terminal}
+use Rattle.rulebook.specs.Phase.{issuer, attendant, Phase, asks, hears, decided, ended, approved, declined}
 
 -- a bad answer ends the session with its reason; otherwise it goes on
 unfoldable pub goesOn : ℕ → Situation → Phase → Phase

@@ -4,9 +4,8 @@ use mathlib.Core.Path.{_≡_, refl}
 use Rattle.slices.specs.Choice.{pick, firstOf, unlessEmpty}
 use Rattle.slices.specs.Shorter.{counted, shorter}
 use Rattle.slices.specs.Writing.{zeros}
-use Rattle.tlv_head.specs.Head.{firstByte, constructed, twoBytes, tagSize, tagOf, tagRight}
-use Rattle.tlv_head.specs.Head.{lengthByte, lengthForm, lengthSize, lengthOf, valueStart, valueEnd}
-use Rattle.tlv_head.specs.Head.{whole}
+use Rattle.tlv_head.specs.Head.{firstByte, constructed, twoBytes, tagSize, tagOf, tagRight, lengthByte}
+use Rattle.tlv_head.specs.Head.{lengthForm, lengthSize, lengthOf, valueStart, valueEnd, whole}
 use Rattle.slices.specs.Tests.{isSome, every, between as within}
 use Rattle.tlv_list.specs.Objects.{between, firstObject, before, rightInside, listed, objects, isList, readRefusal}
 use Rattle.tlv_list.specs.Place.{dataField}

@@ -8,8 +8,8 @@ use Rattle.slices.specs.Tests.{isSome}
 use Rattle.tape_read.specs.Entries.{Entry, entry, start, command, answer, decision}
 use Rattle.rulebook.specs.Session.{Session, BreaksAt}
 use Rattle.rulebook.proofs.Opening.{reached}
-use Rattle.rulebook.proofs.Made.{startWith, startOf, amountOf, select, selected, options, profiled, readOne, recorded, number, firstAsked}
-use Rattle.rulebook.proofs.Made.{given, aac, tc, arqc, decides, exchange, reads, breaks}
+use Rattle.rulebook.proofs.Made.{startWith, startOf, amountOf, select, selected, options, profiled, readOne, recorded}
+use Rattle.rulebook.proofs.Made.{number, firstAsked, given, aac, tc, arqc, decides, exchange, reads, breaks}
 
 -- ---- floor limit and selection
 

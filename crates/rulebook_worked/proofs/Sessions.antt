@@ -7,9 +7,8 @@ use Prim.Native.Nat.{ℕ}
 use Rattle.tape_read.specs.Entries.{Entry, entry, start, host, decision}
 use Rattle.rulebook.specs.Session.{Session}
 use Rattle.rulebook.proofs.Opening.{reached}
-use Rattle.rulebook.proofs.Made.{startIn, amountOf, startOf, select, selected, options, optioned, readOne, recordedWith, recorded}
-use Rattle.rulebook.proofs.Made.{expiring, number, firstAsked, secondAsked, given, aac, tc, arqc, decides, exchange, openingWith, opening}
-use Rattle.rulebook.proofs.Made.{reads}
+use Rattle.rulebook.proofs.Made.{startIn, amountOf, startOf, select, selected, options, optioned, readOne, recordedWith, recorded, expiring}
+use Rattle.rulebook.proofs.Made.{number, firstAsked, secondAsked, given, aac, tc, arqc, decides, exchange, openingWith, opening, reads}
 use Rattle.rulebook.proofs.Offline.{offline}
 
 -- ---- decided sessions

@@ -27,9 +27,8 @@ use Rattle.rulebook.specs.Situation.{Situation, begun, knownIn, listIn}
 use Rattle.rulebook.specs.Phase.{Asked, selecting, optioning, reading, first, second, Heard}
 use Rattle.rulebook.specs.Phase.{terminal, issuer, attendant, Phase, opens, asks, hears, decides}
 use Rattle.rulebook.specs.Turn.{goesOn, opened, selected, managed, requested, verifying, allRead, readOn}
-use Rattle.rulebook.specs.Turn.{withProfile, optioned, withRecord, recorded, answered, replied, online}
-use Rattle.rulebook.specs.Turn.{byFirst, firstAnswered, secondAnswered, turn, replyMade, heard, verifiedBy}
-use Rattle.rulebook.specs.Turn.{after}
+use Rattle.rulebook.specs.Turn.{withProfile, optioned, withRecord, recorded, answered, replied, online, byFirst}
+use Rattle.rulebook.specs.Turn.{firstAnswered, secondAnswered, turn, replyMade, heard, verifiedBy, after}
 use Rattle.rulebook.specs.Machine.{Machine, at, owes, done, due, sayable, next}
 use Rattle.rulebook.proofs.Running.{chosen, no-state}
 use Rattle.dol_wanted.specs.Wanted.{fillable}

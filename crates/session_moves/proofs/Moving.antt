@@ -27,9 +27,8 @@ use Rattle.session_state.specs.declared.State.{State}
 use Rattle.session_phase.specs.declared.Waiting.the-variants.{ForCard, ForWord, Decided}
 use Rattle.session_phase.specs.declared.Reply.the-variants.{Command, Due, Decided as DecidedReply, Refused}
 use Rattle.session_moves.specs.declared.Step.{Step}
-use Rattle.session_moves.specs.Moves.{Moved, played, questionOf, speakerOf, keptAs, cursorAsking}
-use Rattle.session_moves.specs.Moves.{cursorAfter, standing, replyIn, bufferIn, moved, unmoved, waitingFor}
-use Rattle.session_moves.specs.Moves.{askedFor}
+use Rattle.session_moves.specs.Moves.{Moved, played, questionOf, speakerOf, keptAs, cursorAsking, cursorAfter}
+use Rattle.session_moves.specs.Moves.{standing, replyIn, bufferIn, moved, unmoved, waitingFor, askedFor}
 
 -- the bytes of a run, as the code cuts them out
 module _ (r : Run) (n : ℕ) (b : List ℕ) (same : b ≡ r .bytes) (part : take n (r .bytes) ≡ inRun r) where

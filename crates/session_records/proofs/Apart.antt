@@ -18,9 +18,8 @@ use Rattle.slices.proofs.Choice.{pick-yes, pick-no, picked, either}
 use Rattle.answer_common.specs.Content.{rules, ruleFor, recordNames}
 use Rattle.answer_common.specs.Named.{listed}
 use Rattle.session_records.specs.Runs.{longest}
-use Rattle.session_records.specs.Slots.{end, room, madeRooms, roomsOf, toldFrom, nowhere}
-use Rattle.session_records.specs.Slots.{placed, total, recordSlot, slotFor, cellIn, read}
-use Rattle.session_records.specs.Slots.{toldIn}
+use Rattle.session_records.specs.Slots.{end, room, madeRooms, roomsOf, toldFrom, nowhere, placed}
+use Rattle.session_records.specs.Slots.{total, recordSlot, slotFor, cellIn, read, toldIn}
 use Rattle.session_records.specs.declared.Slot.{Slot}
 use Rattle.session_records.proofs.Cells.{put-before, put-behind}
 

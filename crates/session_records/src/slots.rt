@@ -17,8 +17,8 @@ ghost use Rattle.slices.specs.Tables.{beside};
 ghost use Rattle.answer_common.specs.Content.{ruleFor};
 ghost use Rattle.slices.specs.Tests.{isSome};
 ghost use Rattle.session_records.specs.Runs.{longest};
-ghost use Rattle.session_records.specs.Slots.{end, room as roomOf, roomsOf, toldFrom, nowhere, placed, total, recordSlot, slotFor};
-ghost use Rattle.session_records.specs.Slots.{cellIn, toldIn, keptAt, keptTold, keptIn};
+ghost use Rattle.session_records.specs.Slots.{end, room as roomOf, roomsOf, toldFrom, nowhere, placed, total};
+ghost use Rattle.session_records.specs.Slots.{recordSlot, slotFor, cellIn, toldIn, keptAt, keptTold, keptIn};
 
 // The most bytes that a value may have.
 fn room(name: usize) -> usize

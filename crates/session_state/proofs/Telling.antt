@@ -27,8 +27,7 @@ use Rattle.answer_laws.proofs.AcceptedAnswers.{record-clear, record-told}
 use Rattle.session_records.specs.Slots.{orElse, toldIn, keptObjects, keptPlaces, full, emptyStore, told, withRecord}
 use Rattle.session_records.specs.declared.Store.{Store}
 use Rattle.session_records.proofs.Keeping.{Fits, unnamed-kept, objects-kept, full-all}
-use Rattle.session_records.proofs.Keeping.{full-length, objects-length, right-room}
-use Rattle.session_records.proofs.Keeping.{told-nothing}
+use Rattle.session_records.proofs.Keeping.{full-length, objects-length, right-room, told-nothing}
 
 pub nothing-told : told emptyStore ≡ (λ tag. none)
 nothing-told = fun-ext told-nothing

@@ -11,9 +11,8 @@ use Rattle.decimal_dates.specs.Decimal.{decimalFrom, decimal, decimalByte, digi
 use Rattle.decimal_dates.specs.Dates.{monthAndDay, validStartDate}
 use Rattle.start_fields.specs.Reading.{readingOf}
 use Rattle.start_fields.proofs.Sample.{sample, fullSample}
-use Rattle.start_valid.specs.Start.{validLength, validKind, validDigits, validRandom}
-use Rattle.start_valid.specs.Start.{validPercentages, validThreshold, validAid, validStart}
-use Rattle.start_valid.specs.Start.{beginsSession}
+use Rattle.start_valid.specs.Start.{validLength, validKind, validDigits, validRandom, validPercentages}
+use Rattle.start_valid.specs.Start.{validThreshold, validAid, validStart, beginsSession}
 
 -- the sample with some of its bytes changed
 abbrev changed : List (ℕ × ℕ) → List ℕ

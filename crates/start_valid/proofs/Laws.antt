@@ -18,9 +18,8 @@ use Rattle.start_fields.specs.declared.fields.Field.the-variants.{Amount, Other
 use Rattle.slices.specs.Tests.{between}
 use Rattle.start_fields.specs.Layout.{beginOf, sizeOf, startLength, fullLength}
 use Rattle.start_fields.specs.Reading.{Terminal, readingOf, bytesOf, amountOf, otherAmountOf, floorLimitOf, thresholdOf, aidLengthIn}
-use Rattle.start_valid.specs.Start.{startTests, validLength, validKind, validDigits, validRandom}
-use Rattle.start_valid.specs.Start.{validPercentages, validThreshold, validAid, validStart, terminalOf}
-use Rattle.start_valid.specs.Start.{beginsSession}
+use Rattle.start_valid.specs.Start.{startTests, validLength, validKind, validDigits, validRandom, validPercentages}
+use Rattle.start_valid.specs.Start.{validThreshold, validAid, validStart, terminalOf, beginsSession}
 use Rattle.slices.proofs.Tests.{each-held}
 use Rattle.start_fields.proofs.Reading.{short-read, all-read, whole-read, no-capabilities}
 use Rattle.decimal_dates.proofs.Digits.{digits-split, twelve-digits}

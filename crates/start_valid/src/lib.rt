@@ -2,8 +2,7 @@
 ghost use mathlib.Core.Path.{_≡_};
 ghost use Rattle.start_fields.specs.Reading.{readingOf, aidLengthIn, aidRoomIn};
 ghost use Rattle.start_valid.specs.Start.{validKind, validDigits, validRandom, validPercentages};
-ghost use Rattle.start_valid.specs.Start.{validThreshold, validAid, validLength, validStart};
-ghost use Rattle.start_valid.specs.Start.{beginsSession};
+ghost use Rattle.start_valid.specs.Start.{validThreshold, validAid, validLength, validStart, beginsSession};
 use decimal_dates::dates::valid_start_date;
 use decimal_dates::decimal::digits_only;
 use decimal_dates::decimal::zeros_only;

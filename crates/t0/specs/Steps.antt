@@ -8,14 +8,12 @@ use Rattle.t0_state.specs.declared.State.{State}
 use Rattle.t0_state.specs.declared.Act.{Act}
 use Rattle.t0_state.specs.declared.Act.the-variants.{Nothing, Header, Send, Keep, Answer, Refuse}
 use Rattle.t0_state.specs.declared.Phase.{Phase}
-use Rattle.t0_state.specs.declared.Phase.the-variants.{Length61, Length6C, Status, Over}
-use Rattle.t0_state.specs.declared.Phase.the-variants.{Procedure as ProcedureDue, Data as DataDue}
+use Rattle.t0_state.specs.declared.Phase.the-variants.{Length61, Length6C, Status, Over, Procedure as ProcedureDue, Data as DataDue}
 use Rattle.t0_begin.specs.Begin.{headerOf}
 use Rattle.t0_begin.specs.declared.Wait.{Wait}
 use Rattle.t0_begin.specs.declared.Wait.the-variants.{Procedure, Length, Sw2, Data}
 use Rattle.t0_begin.specs.declared.Reply.{Reply}
-use Rattle.t0_begin.specs.declared.Reply.the-variants.{Go, Refused}
-use Rattle.t0_begin.specs.declared.Reply.the-variants.{Answer as Answered}
+use Rattle.t0_begin.specs.declared.Reply.the-variants.{Go, Refused, Answer as Answered}
 use Rattle.t0_begin.specs.declared.Step.{Step}
 use Rattle.t0_turns.specs.Turns.{afterByte}
 

@@ -15,8 +15,7 @@ use Rattle.t0_state.specs.declared.Sent.the-variants.{Case1, Case2, Case3, Case
 use Rattle.t0_state.specs.declared.Command.{Command}
 use Rattle.t0_state.specs.declared.Trailer.the-variants.{Last}
 use Rattle.t0_state.specs.declared.Phase.{Phase}
-use Rattle.t0_state.specs.declared.Phase.the-variants.{Over}
-use Rattle.t0_state.specs.declared.Phase.the-variants.{Procedure as ProcedureDue}
+use Rattle.t0_state.specs.declared.Phase.the-variants.{Over, Procedure as ProcedureDue}
 use Rattle.t0_state.specs.declared.State.{State}
 use Rattle.t0_state.specs.declared.Refusal.{Refusal}
 use Rattle.t0_state.specs.declared.Refusal.the-variants.{Command as NoCommand, Ins}

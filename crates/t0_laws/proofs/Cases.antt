@@ -14,8 +14,7 @@ use Rattle.t0_state.specs.declared.Phase.{Phase}
 use Rattle.t0_state.specs.declared.Phase.the-variants.{Procedure, Length61, Length6C, Status, Data, Over}
 use Rattle.t0_state.specs.declared.State.{State}
 use Rattle.t0_state.specs.declared.bytes.Meaning.{Meaning}
-use Rattle.t0_state.specs.declared.bytes.Meaning.the-variants.{All, Next, Wait, Get, Repeat, Strange}
-use Rattle.t0_state.specs.declared.bytes.Meaning.the-variants.{Status as Begins}
+use Rattle.t0_state.specs.declared.bytes.Meaning.the-variants.{All, Next, Wait, Get, Repeat, Strange, Status as Begins}
 use Rattle.t0_state.specs.declared.Refusal.{Refusal}
 use Rattle.t0_state.specs.declared.Refusal.the-variants.{Byte, Place, Many60, Many61, Many6C}
 use Rattle.t0_state.specs.declared.Act.the-variants.{Nothing, Header, Send}

@@ -21,8 +21,7 @@ use Rattle.t0_procedure.specs.Procedure.{waitsMost, getsMost, lessLeft, waited,
 use Rattle.t0_turns.specs.Turns.{onLength, phaseAfter, onData, afterByte}
 use Rattle.t0_pieces.specs.Pieces.{isOver}
 use Rattle.t0_laws.specs.Bounds.{waitsLeft, getsLeft, repeatCost, moved, sizeMost, headerCost}
-use Rattle.t0_laws.specs.Bounds.{phaseCost, bytesLeft, headerData, phaseData, dataLeft, is6C}
-use Rattle.t0_laws.specs.Bounds.{Sound}
+use Rattle.t0_laws.specs.Bounds.{phaseCost, bytesLeft, headerData, phaseData, dataLeft, is6C, Sound}
 use Rattle.t0_laws.proofs.Cases.{every-turn}
 use Rattle.t0_laws.proofs.Headers.{comes-in, goes-out, goes-on-four, repeats-in, moved-left, moved-none, moved-more, asked-most}
 

@@ -9,8 +9,7 @@ use Rattle.t0_state.specs.declared.State.{State}
 use Rattle.t0_state.specs.declared.Act.{Act}
 use Rattle.t0_state.specs.declared.Act.the-variants.{Nothing, Header, Send, Keep, Answer, Refuse}
 use Rattle.t0_begin.specs.declared.Reply.{Reply}
-use Rattle.t0_begin.specs.declared.Reply.the-variants.{Go, Refused}
-use Rattle.t0_begin.specs.declared.Reply.the-variants.{Answer as Answered}
+use Rattle.t0_begin.specs.declared.Reply.the-variants.{Go, Refused, Answer as Answered}
 use Rattle.t0_turns.specs.Turns.{afterByte}
 use Rattle.t0.specs.Steps.{sentBy, keptBy}
 use Rattle.t0_laws.specs.Outcomes.{Outcome}

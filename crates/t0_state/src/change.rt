@@ -6,8 +6,7 @@ use crate::Sent;
 use crate::State;
 use crate::Trailer;
 ghost use mathlib.Core.Path.{_≡_};
-ghost use Rattle.t0_state.specs.Changes.{atPhase, withHeader, withCounts, withTrailer, withReceived};
-ghost use Rattle.t0_state.specs.Changes.{asking as askingFor};
+ghost use Rattle.t0_state.specs.Changes.{atPhase, withHeader, withCounts, withTrailer, withReceived, asking as askingFor};
 
 pub fn at_phase(s: State, phase: Phase) -> State
     ensures { λ r. ⌜ r ≡ atPhase phase s ⌝ }

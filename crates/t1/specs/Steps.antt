@@ -17,8 +17,7 @@ use Rattle.t1_state.specs.declared.Last.the-variants.{Nothing, Information, Rea
 use Rattle.t1_state.specs.declared.Message.{Message}
 use Rattle.t1_state.specs.declared.State.{State}
 use Rattle.t1_state.specs.declared.Act.{Act}
-use Rattle.t1_state.specs.declared.Act.the-variants.{Send, Keep, Value, Whole, Refuse}
-use Rattle.t1_state.specs.declared.Act.the-variants.{Nothing as Quiet, End as Ends}
+use Rattle.t1_state.specs.declared.Act.the-variants.{Send, Keep, Value, Whole, Refuse, Nothing as Quiet, End as Ends}
 use Rattle.t1_state.specs.declared.Turn.{Turn}
 use Rattle.t1_turns.specs.Turns.{onBlock, onSilence, onHello, onAsk, onSend}
 use Rattle.t1.specs.declared.Reply.{Reply}

@@ -23,8 +23,8 @@ use t1_turns::on_hello;
 use t1_turns::on_send;
 use t1_turns::on_silence;
 ghost use mathlib.Core.Path.{_≡_};
-ghost use Rattle.t1.specs.Steps.{stepOf, outAfter, messageAfter, firstPhase, freshEnd};
-ghost use Rattle.t1.specs.Steps.{block as blockCame, silence as noBlock, hello as helloDue, ask as askFor, send as sendMessage};
+ghost use Rattle.t1.specs.Steps.{stepOf, outAfter, messageAfter, firstPhase, freshEnd, block as blockCame};
+ghost use Rattle.t1.specs.Steps.{silence as noBlock, hello as helloDue, ask as askFor, send as sendMessage};
 
 // Nothing is to be sent; so many bytes of the lent buffer are; they are, and so many of the block's field were taken; the message
 // is whole, with so many bytes, the last of them from this field; how this end stopped; a refusal.

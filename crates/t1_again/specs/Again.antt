@@ -15,8 +15,7 @@ use Rattle.t1_state.specs.declared.State.{State}
 use Rattle.t1_state.specs.declared.End.{End}
 use Rattle.t1_state.specs.declared.End.the-variants.{Limit}
 use Rattle.t1_state.specs.declared.Refusal.{Refusal}
-use Rattle.t1_state.specs.declared.Act.the-variants.{Send, Refuse}
-use Rattle.t1_state.specs.declared.Act.the-variants.{End as Ends}
+use Rattle.t1_state.specs.declared.Act.the-variants.{Send, Refuse, End as Ends}
 use Rattle.t1_state.specs.declared.Turn.{Turn}
 
 -- the block that is the state's last goes out

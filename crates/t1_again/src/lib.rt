@@ -13,8 +13,7 @@ use t1_state::change::sends;
 use t1_state::limits::information_limit;
 use t1_state::limits::same_limit;
 ghost use mathlib.Core.Path.{_≡_};
-ghost use Rattle.t1_again.specs.Again.{goesOut, endedBy, refusedAs, readyFor, sameAgain, informationAgain};
-ghost use Rattle.t1_again.specs.Again.{wrong as wrongIn};
+ghost use Rattle.t1_again.specs.Again.{goesOut, endedBy, refusedAs, readyFor, sameAgain, informationAgain, wrong as wrongIn};
 
 pub fn goes_out(s: State) -> Turn
     ensures { λ r. ⌜ r ≡ goesOut s ⌝ }

@@ -8,8 +8,7 @@ use Rattle.t1_block.specs.Blocks.{whatNumber}
 use Rattle.t1_block.specs.declared.What.{What}
 use Rattle.t1_block.specs.declared.What.the-variants.{Resynch, Ifs, Abort, Wtx}
 use Rattle.t1_block.specs.declared.Kind.{Kind}
-use Rattle.t1_block.specs.declared.Kind.the-variants.{NoKind}
-use Rattle.t1_block.specs.declared.Kind.the-variants.{Information as I, Ready as R, Request as Asks, Response as Answers}
+use Rattle.t1_block.specs.declared.Kind.the-variants.{NoKind, Information as I, Ready as R, Request as Asks, Response as Answers}
 use Rattle.t1_block.specs.declared.Heard.{Heard}
 use Rattle.t1_block.specs.declared.Heard.the-variants.{Valid, Bad}
 use Rattle.t1_state.specs.Changes.{atPhase, withSizes}

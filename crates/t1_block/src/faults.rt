@@ -11,8 +11,7 @@ ghost use mathlib.Core.Path.{_≡_};
 ghost use lib.Dec.{eqb};
 ghost use Rattle.slices.specs.Choice.{pick};
 ghost use Rattle.t1_block.specs.Blocks.{lrcOf};
-ghost use Rattle.t1_block.specs.Faults.{sizeOf, fieldFault, frameFault, faultOf, heardOf};
-ghost use Rattle.t1_block.specs.Faults.{codeOf as codeOfFault};
+ghost use Rattle.t1_block.specs.Faults.{sizeOf, fieldFault, frameFault, faultOf, heardOf, codeOf as codeOfFault};
 
 // The longest information field that we take is given.
 pub fn fault_of(block: &[u8], most: u8) -> Fault

@@ -30,8 +30,8 @@ use Rattle.t1_laws.proofs.Rounds.{equal-same, not-not}
 use Rattle.t1_laws.proofs.Delivery.{begun, bytes-are}
 use Rattle.t1_laws.proofs.Still.{Says, Stays, on, over, Still, Passes, again-passes, passes}
 use Rattle.t1_laws.proofs.Hearing.{Out, info, ready, answer, bad, arrived, equal-not}
-use Rattle.t1_laws.proofs.Lossy.{Sends, Ear, ready-to, shut, Both, Inv, before, behind, whole}
-use Rattle.t1_laws.proofs.Lossy.{sender-still, information-passes, comes-forth}
+use Rattle.t1_laws.proofs.Lossy.{Sends, Ear, ready-to, shut, Both, Inv, before, behind}
+use Rattle.t1_laws.proofs.Lossy.{whole, sender-still, information-passes, comes-forth}
 
 -- the piece came, and the next one goes out
 next-sends : (m rest : List ℕ) (s : State) → Sends m rest s → moreOf (s .message) ≡ true → Sends m rest (sendsNext s)

@@ -13,8 +13,7 @@ use Rattle.t1_block.specs.Faults.{heardOf}
 use Rattle.t1_block.specs.declared.What.{What}
 use Rattle.t1_block.specs.declared.What.the-variants.{Resynch, Ifs, Abort, Wtx}
 use Rattle.t1_block.specs.declared.Kind.{Kind}
-use Rattle.t1_block.specs.declared.Kind.the-variants.{NoKind}
-use Rattle.t1_block.specs.declared.Kind.the-variants.{Information as I, Ready as R, Request as Asks, Response as Answers}
+use Rattle.t1_block.specs.declared.Kind.the-variants.{NoKind, Information as I, Ready as R, Request as Asks, Response as Answers}
 use Rattle.t1_block.specs.declared.Heard.{Heard}
 use Rattle.t1_block.specs.declared.Heard.the-variants.{Valid, Bad}
 use Rattle.t1_state.specs.declared.Role.{Role}
@@ -28,8 +27,8 @@ use Rattle.t1_state.specs.declared.Turn.{Turn}
 use Rattle.t1_again.specs.Again.{readyFor, sameAgain, informationAgain, wrongAfter, wrong, forRole}
 use Rattle.t1_line.specs.Line.{answers, onRequest, sendsPiece, sendsNext, equal, onReady, keeps, onInformation, onKind, onLine}
 use Rattle.t1_asking.specs.Asking.{settled, askedInstead, onResponse, askedKind, onAsking}
-use Rattle.t1_turns.specs.Turns.{byPhase, onBlock, silentIn, onSilence, asksFor, helloIn, onHello, cardAsks, askIn, onAsk}
-use Rattle.t1_turns.specs.Turns.{sendsMessage, sendIn, onSend}
+use Rattle.t1_turns.specs.Turns.{byPhase, onBlock, silentIn, onSilence, asksFor, helloIn}
+use Rattle.t1_turns.specs.Turns.{onHello, cardAsks, askIn, onAsk, sendsMessage, sendIn, onSend}
 use Rattle.t1.specs.Steps.{Event, block, silence, hello, ask, send, turnOf}
 use Rattle.t1_laws.specs.Keeping.{isKept, carriesIn, carries}
 

@@ -9,8 +9,7 @@ use Rattle.slices.specs.Tests.{between}
 use Rattle.t1_block.specs.declared.What.{What}
 use Rattle.t1_block.specs.declared.What.the-variants.{Resynch, Ifs, Abort, Wtx}
 use Rattle.t1_block.specs.declared.Kind.{Kind}
-use Rattle.t1_block.specs.declared.Kind.the-variants.{NoKind}
-use Rattle.t1_block.specs.declared.Kind.the-variants.{Information as I, Ready as R, Request as Asks, Response as Answers}
+use Rattle.t1_block.specs.declared.Kind.the-variants.{NoKind, Information as I, Ready as R, Request as Asks, Response as Answers}
 use Rattle.t1_block.specs.declared.Heard.{Heard}
 use Rattle.t1_block.specs.declared.Heard.the-variants.{Valid, Bad}
 use Rattle.t1_state.specs.Limits.{messageMost, pieceAt, moreOf}
@@ -20,8 +19,7 @@ use Rattle.t1_state.specs.declared.Phase.the-variants.{Start, Asking, Due, Sent
 use Rattle.t1_state.specs.declared.Last.the-variants.{Information, Response}
 use Rattle.t1_state.specs.declared.Message.{Message}
 use Rattle.t1_state.specs.declared.State.{State}
-use Rattle.t1_state.specs.declared.End.the-variants.{Limit}
-use Rattle.t1_state.specs.declared.End.the-variants.{Abort as Aborted}
+use Rattle.t1_state.specs.declared.End.the-variants.{Limit, Abort as Aborted}
 use Rattle.t1_state.specs.declared.Act.the-variants.{Keep, Value, Whole}
 use Rattle.t1_state.specs.declared.Turn.{Turn}
 use Rattle.t1_again.specs.Again.{goesOut, endedBy, readyFor, informationAgain, wrong, forRole}

@@ -22,8 +22,7 @@ use Rattle.t1_state.specs.declared.Last.the-variants.{Request}
 use Rattle.t1_state.specs.declared.Message.{Message}
 use Rattle.t1_state.specs.declared.State.{State}
 use Rattle.t1_state.specs.declared.End.the-variants.{Silence}
-use Rattle.t1_state.specs.declared.Refusal.the-variants.{Closed, NotDue, Value}
-use Rattle.t1_state.specs.declared.Refusal.the-variants.{Message as NoMessage}
+use Rattle.t1_state.specs.declared.Refusal.the-variants.{Closed, NotDue, Value, Message as NoMessage}
 use Rattle.t1_state.specs.declared.Turn.{Turn}
 use Rattle.t1_again.specs.Again.{goesOut, endedBy, refusedAs, forRole}
 use Rattle.t1_line.specs.Line.{isIfs, sendsPiece, onLine}

@@ -5,8 +5,7 @@ use mathlib.Core.Bool.{true}
 use mathlib.Core.List.{List, [], _∷_, _++_}
 use Prim.Native.Nat.{ℕ, zero, suc, _+_, _*_, _/_, _%_, _^_, _<_}
 use native.Mathlib.Nat.{pow-succ', one-le-pow, mod-lt, mod-one, mod-eq-of-lt}
-use native.Mathlib.Nat.{mul-assoc, add-mul, add-assoc, zero-lt-suc, zero-add}
-use native.Mathlib.Nat.{zero-mul}
+use native.Mathlib.Nat.{mul-assoc, add-mul, add-assoc, zero-lt-suc, zero-add, zero-mul}
 use native.Mathlib.Omega.{arith}
 use lib.Arith.{digits-lt, digits-div, digits-mod, mod-mul}
 use lib.ListN.{length, length-append}

@@ -15,9 +15,8 @@ use Rattle.slices.proofs.Writing.{zeros-length}
 use Rattle.tape_crc.specs.Check.{checkOf, blockCheckOf, covered}
 use Rattle.tape_read.specs.Numbers.{numberOf, bytesOf}
 use Rattle.tape_read.specs.Entries.{Entry, blockSize, payloadMost}
-use Rattle.tape_read.specs.Blocks.{head, body, block, window, field, numberIn, sessionIn, kindIn}
-use Rattle.tape_read.specs.Blocks.{spareIn, lengthIn, checkIn, payloadAt, paddingIn, lengthBad}
-use Rattle.tape_read.specs.Blocks.{payloadIn}
+use Rattle.tape_read.specs.Blocks.{head, body, block, window, field, numberIn, sessionIn, kindIn, spareIn}
+use Rattle.tape_read.specs.Blocks.{lengthIn, checkIn, payloadAt, paddingIn, lengthBad, payloadIn}
 use Rattle.tape_read.proofs.Numbers.{number-back, bytes-length}
 use Rattle.tape_read.proofs.Windows.{window-middle}
 

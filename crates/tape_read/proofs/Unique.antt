@@ -16,9 +16,9 @@ use Rattle.tape_crc.specs.Check.{checkOf, blockCheckOf, covered}
 use Rattle.tape_crc.proofs.Bytes.{bytes-cons, bytes-at}
 use Rattle.tape_read.specs.Numbers.{bytesOf}
 use Rattle.tape_read.specs.Entries.{blockSize, payloadMost}
-use Rattle.tape_read.specs.Blocks.{head, body, block, window, field, numberIn, sessionIn, spareIn, lengthIn, checkIn, payloadAt}
-use Rattle.tape_read.specs.Blocks.{paddingIn, allZero, checkBad, numberBad, sessionBad, spareBad, lengthBad, paddingBad, payloadIn}
-use Rattle.tape_read.specs.Blocks.{entryIn}
+use Rattle.tape_read.specs.Blocks.{head, body, block, window, field, numberIn, sessionIn, spareIn}
+use Rattle.tape_read.specs.Blocks.{lengthIn, checkIn, payloadAt, paddingIn, allZero, checkBad, numberBad}
+use Rattle.tape_read.specs.Blocks.{sessionBad, spareBad, lengthBad, paddingBad, payloadIn, entryIn}
 use Rattle.tape_read.proofs.Numbers.{bytes-back}
 use Rattle.tape_read.proofs.Windows.{window-length, window-part, byte-field}
 use Rattle.tape_read.proofs.Codes.{Good}

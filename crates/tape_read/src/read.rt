@@ -11,8 +11,7 @@ ghost use Rattle.slices.specs.Choice.{firstOf};
 ghost use Rattle.tape_crc.specs.Check.{covered};
 ghost use Rattle.tape_read.specs.Entries.{blockSize};
 ghost use Rattle.tape_read.specs.Blocks.{window, field, numberIn, sessionIn, kindIn};
-ghost use Rattle.tape_read.specs.Blocks.{lengthIn, allZero, contentTests, codeOf};
-ghost use Rattle.tape_read.specs.Blocks.{payloadIn};
+ghost use Rattle.tape_read.specs.Blocks.{lengthIn, allZero, contentTests, codeOf, payloadIn};
 ghost use Rattle.tape_read.specs.Tapes.{blockAt};
 
 // The block at an index of a tape.

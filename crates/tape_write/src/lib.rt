@@ -11,8 +11,7 @@ ghost use lib.ListN.{length};
 ghost use Rattle.slices.specs.Writing.{put};
 ghost use Rattle.tape_read.specs.Entries.{entry, blockSize, payloadMost};
 ghost use Rattle.tape_read.specs.Numbers.{bytesOf};
-ghost use Rattle.tape_read.specs.Blocks.{head, body};
-ghost use Rattle.tape_read.specs.Blocks.{block as blockOf};
+ghost use Rattle.tape_read.specs.Blocks.{head, body, block as blockOf};
 ghost use Rattle.tape_write.specs.Appending.{refusalOf, appendedOf, tapeAfter, fresh};
 
 // How many blocks have been used, and the session number that each block carries.

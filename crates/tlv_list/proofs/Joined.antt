@@ -15,9 +15,8 @@ use borrow.Author.Tests.{le-leb, leb-true, eqb-false, eqb-true, not-true}
 use Rattle.slices.specs.Choice.{pick}
 use Rattle.slices.proofs.Choice.{pick-yes, pick-no, pick-cong, picked, either, and-left, and-right}
 use Rattle.slices.proofs.Shorter.{by-length}
-use Rattle.tlv_head.specs.Head.{twoBytes, tagSize, tagOf, tagRight, lengthByte}
-use Rattle.tlv_head.specs.Head.{lengthForm, lengthSize, lengthOf, valueStart, valueEnd}
-use Rattle.tlv_head.specs.Head.{whole}
+use Rattle.tlv_head.specs.Head.{twoBytes, tagSize, tagOf, tagRight, lengthByte, lengthForm}
+use Rattle.tlv_head.specs.Head.{lengthSize, lengthOf, valueStart, valueEnd, whole}
 use Rattle.tlv_list.specs.Objects.{Object, between, firstObject, before, rightInside, objects}
 use Rattle.tlv_head.proofs.Parts.{Within, whole-within}
 use Rattle.tlv_list.proofs.Objects.{objects-empty, objects-filler, objects-member, objects-broken}

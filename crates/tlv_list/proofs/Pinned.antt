@@ -7,9 +7,8 @@ use mathlib.Core.Option.{Option, none, some}
 use Prim.Native.Nat.{ℕ}
 use Rattle.slices.specs.Choice.{pick, firstOf}
 use Rattle.slices.specs.Shorter.{counted, shorter}
-use Rattle.tlv_head.specs.Head.{firstByte, constructed, twoBytes, tagSize, tagOf, tagRight}
-use Rattle.tlv_head.specs.Head.{lengthByte, lengthForm, lengthSize, lengthOf, valueStart, valueEnd}
-use Rattle.tlv_head.specs.Head.{whole}
+use Rattle.tlv_head.specs.Head.{firstByte, constructed, twoBytes, tagSize, tagOf, tagRight, lengthByte}
+use Rattle.tlv_head.specs.Head.{lengthForm, lengthSize, lengthOf, valueStart, valueEnd, whole}
 use Rattle.slices.specs.Tests.{isSome}
 use Rattle.tlv_list.specs.Objects.{Object, between, firstObject, before, rightInside, listed, objects, isList, readRefusal}
 use Rattle.tlv_list.specs.Lookup.{seek}

@@ -11,8 +11,8 @@ use Rattle.tlv_list.specs.Place.{Place, nextAt, objectAt, follow, walk, placesF
 use Rattle.tlv_head.specs.declared.Next.{Next}
 use Rattle.tlv_head.specs.declared.Next.the-variants.{Member, End, Broken}
 use Rattle.tlv_list.proofs.Walking.{places-next, places-members}
-use Rattle.tlv_reader.specs.Held.{goOn, placeAfter, valueIn, valueAt, nextOf, valueOf, movedOn, nthFrom, objectIn, nth}
-use Rattle.tlv_reader.specs.Held.{given, givenIn, allGiven}
+use Rattle.tlv_reader.specs.Held.{goOn, placeAfter, valueIn, valueAt, nextOf, valueOf}
+use Rattle.tlv_reader.specs.Held.{movedOn, nthFrom, objectIn, nth, given, givenIn, allGiven}
 use Rattle.tlv_reader.specs.declared.Reader.{Reader}
 
 -- one step of a reader beside one step of the walk, where both find the same from there on

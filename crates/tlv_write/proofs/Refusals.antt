@@ -15,8 +15,7 @@ use Rattle.slices.proofs.Writing.{put-length, put-step, laid-fits}
 use Rattle.slices.proofs.Choice.{pick-yes, pick-no, pick-same, picked, either, and-left}
 use Rattle.tlv_head.specs.Head.{twoBytes}
 use Rattle.tlv_write.specs.Written.{isTag, tagBytes, lengthBytes, written, fitsTag}
-use Rattle.tlv_write.specs.Written.{writeRefusal, sizeWritten, bufferAfter, refusalOf}
-use Rattle.tlv_write.specs.Written.{sizeOf}
+use Rattle.tlv_write.specs.Written.{writeRefusal, sizeWritten, bufferAfter, refusalOf, sizeOf}
 use Rattle.tlv_write.specs.declared.Wrote.{Wrote}
 use Rattle.tlv_write.specs.declared.Wrote.the-variants.{Bytes, BadObject, NoRoom}
 

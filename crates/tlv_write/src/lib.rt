@@ -8,8 +8,7 @@ ghost use Prim.Native.Nat.{_+_, _<_, _≤_};
 ghost use lib.ListN.{length};
 ghost use Rattle.slices.specs.Writing.{laid, put};
 ghost use Rattle.tlv_write.specs.Written.{isTag, tagBytes, lengthBytes, fitsTag, written};
-ghost use Rattle.tlv_write.specs.Written.{writeRefusal, refusalOf, sizeOf, sizeWritten};
-ghost use Rattle.tlv_write.specs.Written.{bufferAfter};
+ghost use Rattle.tlv_write.specs.Written.{writeRefusal, refusalOf, sizeOf, sizeWritten, bufferAfter};
 
 // What the writer did: bytes written, or why it did not write.
 pub enum Wrote {

@@ -14,9 +14,8 @@ use Rattle.rulebook.proofs.Trichotomy.{snoc-same}
 use Rattle.rulebook.proofs.Breaks.{break-here}
 use Rattle.rulebook.proofs.Verifying.{Without}
 use Rattle.verdict_before.specs.Before.{allowedBefore}
-use Rattle.verdict_before.specs.Sessions.{PlaysBefore, exchangedBefore, heardBefore, decidedBefore}
-use Rattle.verdict_before.specs.Sessions.{SessionBefore, BeginningBefore, ClosedBefore, OpenBefore}
-use Rattle.verdict_before.specs.Sessions.{LawfulBefore, Short}
+use Rattle.verdict_before.specs.Sessions.{PlaysBefore, exchangedBefore, heardBefore, decidedBefore, SessionBefore}
+use Rattle.verdict_before.specs.Sessions.{BeginningBefore, ClosedBefore, OpenBefore, LawfulBefore, Short}
 use Rattle.verdict_before.proofs.Sessions.{lawful-same}
 
 -- it can be read

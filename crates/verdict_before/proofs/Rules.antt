@@ -20,9 +20,8 @@ use Rattle.decide_verification.specs.Verification.{resultsDue}
 use Rattle.rulebook.specs.Situation.{Situation}
 use Rattle.rulebook.specs.Phase.{Asked, selecting, optioning, reading, first, second, situationOf, ended}
 use Rattle.rulebook.specs.Turn.{goesOn, managed, requested, verifying, allRead, readOn, withProfile, optioned, withRecord, recorded, turn}
-use Rattle.verdict_before.specs.Before.{namesBefore, allReadBefore, readOnBefore}
-use Rattle.verdict_before.specs.Before.{optionedBefore, withRecordBefore, recordedBefore}
-use Rattle.verdict_before.specs.Before.{turnBefore}
+use Rattle.verdict_before.specs.Before.{namesBefore, allReadBefore, readOnBefore, optionedBefore}
+use Rattle.verdict_before.specs.Before.{withRecordBefore, recordedBefore, turnBefore}
 
 -- no results are due
 pub not-due : (t : Terminal) (aip : List ℕ) (told : Facts) → t .capabilities ≡ none → resultsDue t aip told ≡ false

@@ -15,15 +15,14 @@ use Rattle.decimal_dates.specs.Dates.{monthAndDay, validStartDate}
 use Rattle.start_fields.specs.Reading.{readingOf}
 use Rattle.start_fields.proofs.Sample.{sample}
 use Rattle.start_valid.specs.Start.{validLength, validKind, validDigits, validRandom}
-use Rattle.start_valid.specs.Start.{validPercentages, validThreshold, validAid}
-use Rattle.start_valid.specs.Start.{validStart}
+use Rattle.start_valid.specs.Start.{validPercentages, validThreshold, validAid, validStart}
 use Rattle.tape_read.specs.Entries.{Entry, entry, start, answer}
 use Rattle.rulebook.specs.Phase.{terminal, opens, dueKind}
 use Rattle.rulebook.specs.Turn.{allowed, after}
 use Rattle.rulebook.specs.Session.{isPayload, Plays, heard, Session, Beginning, AwaitsCard, Closed, Open, Lawful, BreaksAt}
 use Rattle.rulebook.proofs.Ends.{finishes}
-use Rattle.verdict_before.specs.Sessions.{SessionBefore, BeginningBefore, AwaitsCardBefore, ClosedBefore, OpenBefore}
-use Rattle.verdict_before.specs.Sessions.{LawfulBefore, BreaksAtBefore, Short}
+use Rattle.verdict_before.specs.Sessions.{SessionBefore, BeginningBefore, AwaitsCardBefore}
+use Rattle.verdict_before.specs.Sessions.{ClosedBefore, OpenBefore, LawfulBefore, BreaksAtBefore, Short}
 use Rattle.verdict_before.proofs.Playing.{session-then, session-now}
 
 -- each of two follows from the other

@@ -16,7 +16,8 @@ use Rattle.slices.specs.Tests.{every}
 use Rattle.slices.proofs.Choice.{picked, pick-yes, pick-no, pick-same, either, there, not-there}
 use Rattle.slices.proofs.Tests.{first-held, each-held}
 use Rattle.start_fields.specs.declared.fields.Field.{Field}
-use Rattle.start_fields.specs.declared.fields.Field.the-variants.{Amount, OtherAmount, Country, Currency, Date, TransactionType, Unpredictable, Version}
+use Rattle.start_fields.specs.declared.fields.Field.the-variants.{Amount, OtherAmount, Country, Currency, Date}
+use Rattle.start_fields.specs.declared.fields.Field.the-variants.{TransactionType, Unpredictable, Version}
 use Rattle.start_fields.specs.Layout.{beginOf, sizeOf, startLength}
 use Rattle.start_fields.specs.Reading.{Terminal, readingOf, bytesOf, runIn}
 use Rattle.start_fields.proofs.Reading.{bytes-read, all-read, no-capabilities}

@@ -16,9 +16,8 @@ use Rattle.verdict.specs.declared.Answer.{Answer}
 use Rattle.verdict_judged.specs.Judged.{Judges, passes, undecided, fails, Judged, readable, damaged}
 use Rattle.verdict_judged.specs.Zeroed.{Zeroed, readable as counted, damaged as uncounted}
 use Rattle.verdict_before.specs.Sessions.{Short}
-use Rattle.verdict_before.specs.Verdict.{ShortTape, JudgesBefore, passes as passesBefore}
-use Rattle.verdict_before.specs.Verdict.{undecided as undecidedBefore, fails as failsBefore}
-use Rattle.verdict_before.specs.Verdict.{JudgedBefore, readable as readableBefore, damaged as damagedBefore}
+use Rattle.verdict_before.specs.Verdict.{ShortTape, JudgesBefore, passes as passesBefore, undecided as undecidedBefore}
+use Rattle.verdict_before.specs.Verdict.{fails as failsBefore, JudgedBefore, readable as readableBefore, damaged as damagedBefore}
 use Rattle.verdict_before.specs.Zeroed.{ZeroedBefore, readable as countedBefore, damaged as uncountedBefore}
 use Rattle.verdict_before.proofs.Sessions.{Same, session-same, open-same, breaks-same}
 use Rattle.verdict_before.proofs.Zeros.{zeros-same}

@@ -9,13 +9,11 @@ use Rattle.start_fields.proofs.Sample.{sample}
 use Rattle.rulebook.specs.Session.{Session}
 use Rattle.rulebook_zeros.specs.Zeros.{sum, Summed, SummedClosed, SumOf, Zeros, lawful, broken}
 use Rattle.verdict_before.specs.Sessions.{SessionBefore, Short}
-use Rattle.verdict_before.specs.Zeroed.{SummedBefore, SummedClosedBefore, SumOfBefore}
-use Rattle.verdict_before.specs.Zeroed.{ZerosBefore, lawful as lawfulBefore}
-use Rattle.verdict_before.specs.Zeroed.{broken as brokenBefore}
+use Rattle.verdict_before.specs.Zeroed.{SummedBefore, SummedClosedBefore, SumOfBefore, ZerosBefore}
+use Rattle.verdict_before.specs.Zeroed.{lawful as lawfulBefore, broken as brokenBefore}
 use Rattle.verdict_before.proofs.Playing.{session-then, session-now}
 use Rattle.verdict_before.proofs.Sessions.{Same, either-same, short-front, short-longer, short-part}
-use Rattle.verdict_before.proofs.Sessions.{played, sample-session, sample-before, awaits-same}
-use Rattle.verdict_before.proofs.Sessions.{breaks-same}
+use Rattle.verdict_before.proofs.Sessions.{played, sample-session, sample-before, awaits-same, breaks-same}
 
 -- the sum over a beginning
 summed-same : (es : List Entry) (n : ℕ) → Short es → Same (Summed es n) (SummedBefore es n)

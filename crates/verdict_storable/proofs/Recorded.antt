@@ -15,8 +15,8 @@ use Rattle.rulebook.proofs.Bound.{session-bound}
 use Rattle.verdict.specs.Saying.{says}
 use Rattle.verdict_judged.specs.Judged.{passes, Judged}
 use Rattle.verdict.specs.declared.Verdict.the-variants.{Pass, Fail, Inconclusive}
-use Rattle.verdict_judged.proofs.Stored.{session-fits, storable-append, written-judged, appended-judged, session-judged, cut-judged}
-use Rattle.verdict_judged.proofs.Stored.{closed-judged}
+use Rattle.verdict_judged.proofs.Stored.{session-fits, storable-append, written-judged}
+use Rattle.verdict_judged.proofs.Stored.{appended-judged, session-judged, cut-judged, closed-judged}
 use Rattle.verdict_judged.proofs.Endings.{after-decision}
 use Rattle.verdict_storable.proofs.Theorem.{session-storable, awaiting-storable}
 

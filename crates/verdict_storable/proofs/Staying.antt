@@ -42,12 +42,11 @@ use Rattle.decide_tvr.proofs.Laws.{tvr-length, tvr-bytes, tsi-length, tsi-lengt
 use Rattle.decide_verification.specs.Verification.{resultsDue}
 use Rattle.decide_verification.proofs.Laws.{results-length, results-bytes, performed-length, performed-bytes}
 use Rattle.rulebook.specs.Situation.{Situation, begun, listIn}
-use Rattle.rulebook.specs.Phase.{Asked, selecting, optioning, reading, first, second}
-use Rattle.rulebook.specs.Phase.{Heard, terminal, issuer, attendant, Phase, asks, hears}
-use Rattle.rulebook.specs.Phase.{decides, decided, ended, terminated}
-use Rattle.rulebook.specs.Turn.{goesOn, opened, selected, managed, requested, verifying, allRead, readOn, withProfile, optioned, withRecord}
-use Rattle.rulebook.specs.Turn.{recorded, answered, replied, online, byFirst, bySecond, firstAnswered, secondAnswered}
-use Rattle.rulebook.specs.Turn.{turn, heard as issuerHeard, verifiedBy, after}
+use Rattle.rulebook.specs.Phase.{Asked, selecting, optioning, reading, first, second, Heard, terminal}
+use Rattle.rulebook.specs.Phase.{issuer, attendant, Phase, asks, hears, decides, decided, ended, terminated}
+use Rattle.rulebook.specs.Turn.{goesOn, opened, selected, managed, requested, verifying, allRead, readOn, withProfile}
+use Rattle.rulebook.specs.Turn.{optioned, withRecord, recorded, answered, replied, online, byFirst, bySecond}
+use Rattle.rulebook.specs.Turn.{firstAnswered, secondAnswered, turn, heard as issuerHeard, verifiedBy, after}
 use Rattle.verdict_storable.proofs.Values.{profile-bytes, locator-bytes, named-bytes}
 use Rattle.verdict_storable.proofs.Filling.{Told, else-bytes}
 use Rattle.verdict_storable.proofs.Numbers.{numbersOf, read-numbers}

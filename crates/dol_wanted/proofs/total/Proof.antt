@@ -8,8 +8,8 @@ use lib.ListN.{length, take, drop, getD, length-take, length-drop}
 use Rattle.tlv_head.specs.Head.{tagSize}
 use Rattle.slices.proofs.Cutting.{rest-part, none-left}
 use Rattle.dol_wanted.specs.Wanted.{sizeAt, asks, entriesOf, most, tally}
-use Rattle.dol_wanted.proofs.Entries.{countedOn, tally-counted, turn-counted, turn-malformed, counted-over, counted-end}
-use Rattle.dol_wanted.proofs.Entries.{entries-empty, entry-fits}
+use Rattle.dol_wanted.proofs.Entries.{countedOn, tally-counted, turn-counted, turn-malformed}
+use Rattle.dol_wanted.proofs.Entries.{counted-over, counted-end, entries-empty, entry-fits}
 use native.Mathlib.Omega.{arith}
 use Rattle.dol_wanted.proofs.total.Statement.{statement}
 use Rattle.dol_wanted.proofs.total.Tie as tie

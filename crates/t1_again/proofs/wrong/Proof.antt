@@ -4,8 +4,7 @@ use Prim.Native.Nat.{ℕ}
 use Rattle.t1_state.specs.declared.Last.{Last}
 use Rattle.t1_state.specs.declared.Last.the-variants.{Nothing, Information, Ready, Request, Response}
 use Rattle.t1_state.specs.declared.State.{State}
-use Rattle.t1_again.specs.Again.{goesOut, wrongAfter}
-use Rattle.t1_again.specs.Again.{wrong as wrongIn}
+use Rattle.t1_again.specs.Again.{goesOut, wrongAfter, wrong as wrongIn}
 use borrow.Author.Needs.{needs}
 use Rattle.t1_again.proofs.wrong.Statement.{statement}
 use Rattle.t1_again.proofs.wrong.Tie as tie

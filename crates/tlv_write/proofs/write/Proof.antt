@@ -5,8 +5,7 @@ use Prim.Native.Nat.{ℕ, _<_}
 use lib.ListN.{length}
 use Rattle.tlv_write.specs.Written.{writeRefusal, refusalOf, sizeOf, written}
 use Rattle.tlv_write.proofs.Refusals.{written-length, Accepted, not-refused, refused-size}
-use Rattle.tlv_write.proofs.Refusals.{refused-buffer, accepted-size, accepted-buffer}
-use Rattle.tlv_write.proofs.Refusals.{tag-small}
+use Rattle.tlv_write.proofs.Refusals.{refused-buffer, accepted-size, accepted-buffer, tag-small}
 use borrow.Author.Needs.{needs}
 use native.Mathlib.Omega.{arith}
 use Rattle.tlv_write.proofs.write.Statement.{statement}

@@ -6,9 +6,8 @@ use lib.Dec.{eqb}
 use borrow.Author.Needs.{needs}
 use Rattle.cvm_rules.specs.Methods.{performed, succeeds}
 use Rattle.cvm_rules.specs.declared.Method.{Method}
-use Rattle.cvm_rules.specs.declared.Method.the-variants.{Fail, OfflinePin, OnlinePin}
-use Rattle.cvm_rules.specs.declared.Method.the-variants.{OfflinePinAndSignature, Signature}
-use Rattle.cvm_rules.specs.declared.Method.the-variants.{NoVerification, Unrecognised}
+use Rattle.cvm_rules.specs.declared.Method.the-variants.{Fail, OfflinePin, OnlinePin, OfflinePinAndSignature}
+use Rattle.cvm_rules.specs.declared.Method.the-variants.{Signature, NoVerification, Unrecognised}
 use Rattle.cvm_rules.proofs.methods.succeeds.Statement.{statement}
 use Rattle.cvm_rules.proofs.methods.succeeds.Tie as tie
 

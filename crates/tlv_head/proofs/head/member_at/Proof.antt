@@ -10,9 +10,8 @@ use borrow.Author.Needs.{needs}
 use Rattle.slices.specs.Choice.{pick}
 use Rattle.slices.proofs.Cutting.{rest-part}
 use Rattle.slices.proofs.Choice.{pick-yes, pick-no}
-use Rattle.tlv_head.specs.Head.{tagOf, tagRight, tagSize, twoBytes, lengthByte}
-use Rattle.tlv_head.specs.Head.{lengthForm, lengthSize, lengthOf, valueStart, valueEnd}
-use Rattle.tlv_head.specs.Head.{whole}
+use Rattle.tlv_head.specs.Head.{tagOf, tagRight, tagSize, twoBytes, lengthByte, lengthForm}
+use Rattle.tlv_head.specs.Head.{lengthSize, lengthOf, valueStart, valueEnd, whole}
 use Rattle.tlv_head.specs.Member.{memberAt}
 use Rattle.tlv_head.specs.declared.Next.{Next}
 use Rattle.tlv_head.specs.declared.Next.the-variants.{Member, Broken}
