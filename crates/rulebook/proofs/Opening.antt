@@ -12,44 +12,50 @@ use Rattle.slices.specs.Tables.{anyOf as o5, beside as o6}
 use Rattle.slices.specs.Tests.{every as o7, between as o8, alike as o9, isSome as o10}
 use Rattle.slices.specs.Writing.{put as o11, laid as o12, zeros as o13}
 use Rattle.tlv_head.specs.Head.{firstByte as o14, constructed as o15, twoBytes as o16, tagSize as o17, tagOf as o18}
-use Rattle.tlv_head.specs.Head.{tagRight as o19, lengthByte as o20, lengthForm as o21, lengthSize as o22}
-use Rattle.tlv_head.specs.Head.{lengthOf as o23, valueStart as o24, valueEnd as o25, whole as o26}
+use Rattle.tlv_head.specs.Head.{tagRight as o19, lengthByte as o20, lengthForm as o21, lengthSize as o22, lengthOf as o23}
+use Rattle.tlv_head.specs.Head.{valueStart as o24, valueEnd as o25, whole as o26}
 use Rattle.tlv_head.specs.Member.{memberAt as o27}
-use Rattle.tlv_list.specs.Lookup.{met as o28, lookup as o29, firstAmong as o30, firstFrom as o31, unless as o32}
-use Rattle.tlv_list.specs.Lookup.{alone as o33, findInChecked as o34, foundValue as o35, seek as o36, lookupRefusal as o37}
-use Rattle.tlv_list.specs.Objects.{between as o38, firstObject as o39, before as o40, rightInside as o41}
-use Rattle.tlv_list.specs.Objects.{listed as o42, objects as o43, isList as o44, readRefusal as o45}
-use Rattle.tlv_list.specs.Place.{fillers as o46, nextAt as o47, objectAt as o48, follow as o49}
-use Rattle.tlv_list.specs.Place.{walk as o50, placesFrom as o51, dataField as o52}
-use Rattle.tlv_write.specs.Written.{isTag as o53, tagBytes as o54, lengthBytes as o55, written as o56, writtenAll as o57, fitsTag as o58}
-use Rattle.tlv_write.specs.Written.{writeRefusal as o59, refusalOf as o60, sizeOf as o61, sizeWritten as o62, bufferAfter as o63}
-use Rattle.tape_read.specs.Blocks.{head as o64, body as o65, block as o66, window as o67, field as o68, paddingIn as o69, allZero as o70}
-use Rattle.tape_read.specs.Blocks.{checkBad as o71, numberBad as o72, sessionBad as o73, kindBad as o74, spareBad as o75, lengthBad as o76}
-use Rattle.tape_read.specs.Blocks.{paddingBad as o77, contentTests as o78, codeOf as o79, payloadIn as o80, entryIn as o81}
+use Rattle.tlv_list.specs.Lookup.{met as o28, lookup as o29, firstAmong as o30, firstFrom as o31, unless as o32, alone as o33}
+use Rattle.tlv_list.specs.Lookup.{findInChecked as o34, foundValue as o35, seek as o36, lookupRefusal as o37}
+use Rattle.tlv_list.specs.Objects.{between as o38, firstObject as o39, before as o40, rightInside as o41, listed as o42}
+use Rattle.tlv_list.specs.Objects.{objects as o43, isList as o44, readRefusal as o45}
+use Rattle.tlv_list.specs.Place.{fillers as o46, nextAt as o47, objectAt as o48, follow as o49, walk as o50, placesFrom as o51}
+use Rattle.tlv_list.specs.Place.{dataField as o52}
+use Rattle.tlv_write.specs.Written.{isTag as o53, tagBytes as o54, lengthBytes as o55, written as o56, writtenAll as o57}
+use Rattle.tlv_write.specs.Written.{fitsTag as o58, writeRefusal as o59, refusalOf as o60, sizeOf as o61, sizeWritten as o62}
+use Rattle.tlv_write.specs.Written.{bufferAfter as o63}
+use Rattle.tape_read.specs.Blocks.{head as o64, body as o65, block as o66, window as o67, field as o68, paddingIn as o69}
+use Rattle.tape_read.specs.Blocks.{allZero as o70, checkBad as o71, numberBad as o72, sessionBad as o73, kindBad as o74}
+use Rattle.tape_read.specs.Blocks.{spareBad as o75, lengthBad as o76, paddingBad as o77, contentTests as o78, codeOf as o79}
+use Rattle.tape_read.specs.Blocks.{payloadIn as o80, entryIn as o81}
 use Rattle.tape_read.specs.Entries.{isKind as o82, storable as o83, allStorable as o84}
 use Rattle.tape_read.specs.Numbers.{numberOf as o85, bytesOf as o86}
 use Rattle.tape_read.specs.Tapes.{preceded as o87, blockAt as o88, cut as o89, blocksOf as o90, readBlocks as o91}
 use Rattle.tape_read.specs.Tapes.{readFrom as o92, sessionOf as o93, readTape as o94, written as o95}
 use Rattle.decimal_dates.specs.Dates.{dateKey as o96, monthAndDay as o97, validStartDate as o98, validCardDate as o99}
-use Rattle.decimal_dates.specs.Decimal.{decimalFrom as o100, decimal as o101, decimalByte as o102, digitsOnly as o103, zerosOnly as o104}
+use Rattle.decimal_dates.specs.Decimal.{decimalFrom as o100, decimal as o101, decimalByte as o102, digitsOnly as o103}
+use Rattle.decimal_dates.specs.Decimal.{zerosOnly as o104}
 use Rattle.start_fields.specs.Reading.{readingOf as o105}
-use Rattle.start_valid.specs.Start.{validLength as o106, validKind as o107, validDigits as o108}
-use Rattle.start_valid.specs.Start.{validRandom as o109, validPercentages as o110, validThreshold as o111}
-use Rattle.start_valid.specs.Start.{validAid as o112, validStart as o113, terminalOf as o114, beginsSession as o115}
+use Rattle.start_valid.specs.Start.{validLength as o106, validKind as o107, validDigits as o108, validRandom as o109}
+use Rattle.start_valid.specs.Start.{validPercentages as o110, validThreshold as o111, validAid as o112, validStart as o113}
+use Rattle.start_valid.specs.Start.{terminalOf as o114, beginsSession as o115}
 use Rattle.decide_cryptogram.specs.Cryptograms.{givenBy as o116, allowedBy as o117}
-use Rattle.answer_afl.specs.Cursor.{fromEntry as o118, entryAt as o119, start as o120, isLeft as o121}
-use Rattle.answer_afl.specs.Cursor.{recordAt as o122, stepped as o123, remaining as o124}
+use Rattle.answer_afl.specs.Cursor.{fromEntry as o118, entryAt as o119, start as o120, isLeft as o121, recordAt as o122}
+use Rattle.answer_afl.specs.Cursor.{stepped as o123, remaining as o124}
 use Rattle.answer_afl.specs.Entries.{firstEntry as o125, entries as o126, wholeEntries as o127, sfi as o128, records as o129}
-use Rattle.answer_afl.specs.Entries.{fileRight as o130, entryRight as o131, entriesRight as o132, recordsOf as o133, recordCount as o134}
-use Rattle.answer_afl.specs.Entries.{tooMany as o135, run as o136, readEntry as o137, readAll as o138, toRead as o139}
-use Rattle.answer_common.specs.Answer.{sizeBad as o140, statusBad as o141, only as o142, outer as o143, theOne as o144, tagged as o145}
-use Rattle.answer_common.specs.Answer.{valueUnder as o146, isOne as o147, inside as o148, outerBad as o149, frame as o150}
+use Rattle.answer_afl.specs.Entries.{fileRight as o130, entryRight as o131, entriesRight as o132, recordsOf as o133}
+use Rattle.answer_afl.specs.Entries.{recordCount as o134, tooMany as o135, run as o136, readEntry as o137, readAll as o138}
+use Rattle.answer_afl.specs.Entries.{toRead as o139}
+use Rattle.answer_common.specs.Answer.{sizeBad as o140, statusBad as o141, only as o142, outer as o143, theOne as o144}
+use Rattle.answer_common.specs.Answer.{tagged as o145, valueUnder as o146, isOne as o147, inside as o148, outerBad as o149}
+use Rattle.answer_common.specs.Answer.{frame as o150}
 use Rattle.answer_common.specs.CardNumber.{halves as o151, digits as o152, onlyF as o153, cardNumber as o154}
-use Rattle.answer_common.specs.Content.{meets as o155, rowsFor as o156, namesFor as o157}
-use Rattle.answer_common.specs.Content.{rules as o158, ruleFor as o159, rightValue as o160}
+use Rattle.answer_common.specs.Content.{meets as o155, rowsFor as o156, namesFor as o157, rules as o158, ruleFor as o159}
+use Rattle.answer_common.specs.Content.{rightValue as o160}
 use Rattle.answer_common.specs.Forms.{lacks as o161}
-use Rattle.answer_common.specs.Named.{membersIn as o162, listed as o163, named as o164, among as o165, direct as o166, standing as o167}
-use Rattle.answer_common.specs.Named.{times as o168, told as o169, valueOf as o170, wrongValue as o171, anyTimes as o172, anyWrong as o173}
+use Rattle.answer_common.specs.Named.{membersIn as o162, listed as o163, named as o164, among as o165, direct as o166}
+use Rattle.answer_common.specs.Named.{standing as o167, times as o168, told as o169, valueOf as o170, wrongValue as o171}
+use Rattle.answer_common.specs.Named.{anyTimes as o172, anyWrong as o173}
 use Rattle.session_records.specs.Runs.{noRun as o174, keptRun as o175, runHeld as o176, inRun as o177}
 use Rattle.session_records.specs.Slots.{orElse as o178, room as o179, nowhere as o180, placed as o181, total as o182}
 use Rattle.session_records.specs.Slots.{recordSlot as o183, slotFor as o184, cellIn as o185, read as o186, toldIn as o187}
@@ -58,8 +64,8 @@ use Rattle.session_records.specs.Slots.{keptPlaces as o192, full as o193, empty
 use Rattle.cvm_rules.specs.Conditions.{satisfied as o197}
 use Rattle.cvm_rules.specs.Methods.{methodOf as o198, supported as o199, succeeds as o200, pinBits as o201, triedBits as o202}
 use Rattle.cvm_rules.specs.Turns.{triedTurn as o203, tried as o204, turnOf as o205}
-use Rattle.cvm.specs.Lists.{limitOf as o206, limitX as o207, limitY as o208, rulesOf as o209, rulesIn as o210}
-use Rattle.cvm.specs.Lists.{isResult as o211, areResults as o212, inApplicationCurrency as o213}
+use Rattle.cvm.specs.Lists.{limitOf as o206, limitX as o207, limitY as o208, rulesOf as o209, rulesIn as o210, isResult as o211}
+use Rattle.cvm.specs.Lists.{areResults as o212, inApplicationCurrency as o213}
 use Rattle.cvm.specs.Verified.{following as o214, verifiedFrom as o215, verified as o216}
 use Rattle.decide_tvr.specs.Bits.{joined as o217, meet as o218, flag as o219}
 use Rattle.decide_tvr.specs.Results.{differentVersions as o220, expired as o221, notYetEffective as o222, riskManaged as o223}
@@ -67,27 +73,28 @@ use Rattle.decide_tvr.specs.Results.{atFloorLimit as o224, drawn as o225, restr
 use Rattle.decide_tvr.specs.Results.{tvrAfterRecords as o228, tsiAfterRecords as o229, tsiAfterFirstAnswer as o230}
 use Rattle.decide_tvr.specs.Selection.{biased as o231, chosen as o232, selected as o233}
 use Rattle.decide_requests.specs.Replies.{codeIn as o234, saidBy as o235, replyOf as o236, isReply as o237, responseCode as o238}
-use Rattle.decide_requests.specs.Requests.{issuerCode as o239, codeMatch as o240, byType as o241}
-use Rattle.decide_requests.specs.Requests.{firstRequest as o242, whenUnable as o243, secondRequest as o244}
-use Rattle.decide_verification.specs.Verification.{verificationSupported as o245, resultsDue as o246}
-use Rattle.decide_verification.specs.Verification.{verificationList as o247, resultsWanted as o248, circumstancesOf as o249}
-use Rattle.decide_verification.specs.Verification.{tvrAfterResults as o250, tsiAfterResults as o251}
-use Rattle.dol_wanted.specs.Wanted.{andThen as o252, sizeAt as o253, firstWanted as o254, asks as o255}
-use Rattle.dol_wanted.specs.Wanted.{wantedStep as o256, entriesOf as o257, total as o258, totalBy as o259}
-use Rattle.dol_wanted.specs.Wanted.{totalOf as o260, fits as o261, fillable as o262, tally as o263}
+use Rattle.decide_requests.specs.Requests.{issuerCode as o239, codeMatch as o240, byType as o241, firstRequest as o242}
+use Rattle.decide_requests.specs.Requests.{whenUnable as o243, secondRequest as o244}
+use Rattle.decide_verification.specs.Verification.{verificationSupported as o245, resultsDue as o246, verificationList as o247}
+use Rattle.decide_verification.specs.Verification.{resultsWanted as o248, circumstancesOf as o249, tvrAfterResults as o250}
+use Rattle.decide_verification.specs.Verification.{tsiAfterResults as o251}
+use Rattle.dol_wanted.specs.Wanted.{andThen as o252, sizeAt as o253, firstWanted as o254, asks as o255, wantedStep as o256}
+use Rattle.dol_wanted.specs.Wanted.{entriesOf as o257, total as o258, totalBy as o259, totalOf as o260, fits as o261}
+use Rattle.dol_wanted.specs.Wanted.{fillable as o262, tally as o263}
 use Rattle.dol_values.specs.Known.{ownField as o264, valueBy as o265, valueFor as o266, withFormat as o267, supplied as o268}
 use Rattle.dol_values.specs.Shape.{shaped as o269, formatOf as o270}
-use Rattle.dol_fill.specs.Filled.{entryBytes as o271, firstBytes as o272, filled as o273, filledBy as o274}
-use Rattle.dol_fill.specs.Filled.{filledList as o275, filling as o276, missing as o277, missingIn as o278}
-use Rattle.dol_fill.specs.Filled.{missingBy as o279, unsupplied as o280, summed as o281}
-use Rattle.commands.specs.Commands.{selectCommand as o282, optionsCommand as o283, recordCommand as o284}
-use Rattle.commands.specs.Commands.{withLength as o285, cryptogramCommand as o286, sizeIn as o287, dataSize as o288}
-use Rattle.answer_select.specs.Select.{inner as o289, pdolOf as o290, begins as o291, nameWrong as o292}
-use Rattle.answer_select.specs.Select.{selectTwice as o293, selectWrong as o294, selectLines as o295, selectReason as o296}
-use Rattle.answer_record.specs.Records.{again as o297, anyAgain as o298, recordTwice as o299, recordLines as o300, recordReason as o301}
-use Rattle.answer_record.specs.Records.{valueIn as o302, namedIn as o303, incomplete as o304, completeReason as o305, afterRecords as o306}
-use Rattle.answer_gpo.specs.Options.{profileOf as o307, locatorOf as o308, optionsWrong as o309}
-use Rattle.answer_gpo.specs.Options.{optionsLines as o310, optionsReason as o311}
+use Rattle.dol_fill.specs.Filled.{entryBytes as o271, firstBytes as o272, filled as o273, filledBy as o274, filledList as o275}
+use Rattle.dol_fill.specs.Filled.{filling as o276, missing as o277, missingIn as o278, missingBy as o279, unsupplied as o280}
+use Rattle.dol_fill.specs.Filled.{summed as o281}
+use Rattle.commands.specs.Commands.{selectCommand as o282, optionsCommand as o283, recordCommand as o284, withLength as o285}
+use Rattle.commands.specs.Commands.{cryptogramCommand as o286, sizeIn as o287, dataSize as o288}
+use Rattle.answer_select.specs.Select.{inner as o289, pdolOf as o290, begins as o291, nameWrong as o292, selectTwice as o293}
+use Rattle.answer_select.specs.Select.{selectWrong as o294, selectLines as o295, selectReason as o296}
+use Rattle.answer_record.specs.Records.{again as o297, anyAgain as o298, recordTwice as o299, recordLines as o300}
+use Rattle.answer_record.specs.Records.{recordReason as o301, valueIn as o302, namedIn as o303, incomplete as o304}
+use Rattle.answer_record.specs.Records.{completeReason as o305, afterRecords as o306}
+use Rattle.answer_gpo.specs.Options.{profileOf as o307, locatorOf as o308, optionsWrong as o309, optionsLines as o310}
+use Rattle.answer_gpo.specs.Options.{optionsReason as o311}
 use Rattle.answer_cryptogram.specs.Cryptogram.{informationOf as o312, cryptogramOf as o313, cryptogramWrong as o314}
 use Rattle.answer_cryptogram.specs.Cryptogram.{cryptogramLines as o315, cryptogramReason as o316}
 use Rattle.rulebook.specs.Machine.{due as o317, sayable as o318, next as o319, andOn as o320}
@@ -99,8 +106,9 @@ use Rattle.rulebook.specs.Situation.{begun as o333, knownIn as o334, lis
 use Rattle.rulebook.specs.Turn.{goesOn as o336, opened as o337, selected as o338, managed as o339, requested as o340}
 use Rattle.rulebook.specs.Turn.{verifying as o341, allRead as o342, readOn as o343, withProfile as o344, optioned as o345}
 use Rattle.rulebook.specs.Turn.{withRecord as o346, recorded as o347, answered as o348, replied as o349, online as o350}
-use Rattle.rulebook.specs.Turn.{byFirst as o351, firstAnswered as o352, bySecond as o353, secondAnswered as o354, turn as o355}
-use Rattle.rulebook.specs.Turn.{allowed as o356, replyMade as o357, heard as o358, verifiedBy as o359, after as o360}
+use Rattle.rulebook.specs.Turn.{byFirst as o351, firstAnswered as o352, bySecond as o353, secondAnswered as o354}
+use Rattle.rulebook.specs.Turn.{turn as o355, allowed as o356, replyMade as o357, heard as o358, verifiedBy as o359}
+use Rattle.rulebook.specs.Turn.{after as o360}
 
 -- the state that a session's entries lead to
 unfoldable pub reached : List Entry → Option Machine
