@@ -11,6 +11,7 @@ use Rattle.slices.specs.Tests.{every, alike}
 use Rattle.decimal_dates.specs.Decimal.{decimal, decimalFrom}
 use Rattle.decimal_dates.specs.Dates.{dateKey}
 use Rattle.start_fields.specs.Reading.{Terminal}
+use Rattle.start_fields.specs.Bare.{bare, weighing, telling}
 use Rattle.decide_tvr.specs.Bits.{joined, flag}
 use Rattle.slices.specs.Tables.{beside}
 use Rattle.session_records.specs.Slots.{Facts}
@@ -47,27 +48,12 @@ rounded-first = refl
 -- random number 10, target 10, maximum 10, threshold 0
 abbrev at : ℕ → ℕ → Terminal
 at kind amount =
-    record {
-      kind = kind;
-      amount = 0 ∷ 0 ∷ 0 ∷ 0 ∷ 0 ∷ amount ∷ [];
-      otherAmount = [];
-      country = [];
-      currency = [];
-      date = 0x25 ∷ 0x06 ∷ 0x30 ∷ [];
-      transactionType = [];
-      unpredictable = [];
-      floorLimit = 0 ∷ 0 ∷ 0 ∷ 0 ∷ 0 ∷ 0x60 ∷ [];
-      random = 10;
-      target = 10;
-      threshold = 0 ∷ 0 ∷ 0 ∷ 0 ∷ 0 ∷ 0 ∷ [];
-      maximum = 10;
-      version = 1 ∷ 2 ∷ [];
-      denial = 0 ∷ 0 ∷ 0 ∷ 0 ∷ 0 ∷ [];
-      online = 0 ∷ 0 ∷ 0 ∷ 0 ∷ 0 ∷ [];
-      default = 0 ∷ 0 ∷ 0 ∷ 0 ∷ 0 ∷ [];
-      aid = [];
-      capabilities = none;
-    }
+    telling
+    (weighing (bare kind [] [] []) 10 10 10 (0 ∷ 0 ∷ 0 ∷ 0 ∷ 0 ∷ amount ∷ []) (0 ∷ 0 ∷ 0 ∷ 0 ∷ 0 ∷ 0 ∷ [])
+    (0 ∷ 0 ∷ 0 ∷ 0 ∷ 0 ∷ 0x60 ∷ []))
+    (0x25 ∷ 0x06 ∷ 0x30 ∷ [])
+    (1 ∷ 2 ∷ [])
+    []
 
 -- a card with or without risk management, a version, an expiry day in June 2025, and a first day in June 2025
 abbrev card : ℕ → Option (List ℕ) → ℕ → Option (List ℕ) → List ℕ × Facts

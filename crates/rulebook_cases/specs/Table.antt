@@ -12,7 +12,7 @@ use Rattle.session_records.specs.Slots.{Facts}
 use Rattle.dol_fill.specs.Filled.{filling}
 use Rattle.slices.specs.Writing.{zeros}
 use Rattle.start_fields.specs.Reading.{Terminal}
-use Rattle.start_fields.specs.Bare.{bare}
+use Rattle.start_fields.specs.Bare.{bare, weighing, telling}
 use Rattle.commands.specs.Commands.{recordCommand}
 use Rattle.answer_afl.specs.Entries.{toRead, recordCount}
 use Rattle.answer_gpo.specs.Options.{optionsReason}
@@ -31,27 +31,12 @@ noCodes tag = some (zeros 5)
 -- a terminal with the numbers of E, F and J, and a random number and an amount
 unfoldable pub trial : ℕ → List ℕ → Terminal
 trial random amount =
-    record {
-      kind = 2;
-      amount = amount;
-      otherAmount = zeros 6;
-      country = zeros 2;
-      currency = zeros 2;
-      date = zeros 3;
-      transactionType = zeros 1;
-      unpredictable = 0x11 ∷ 0x22 ∷ 0x33 ∷ 0x44 ∷ [];
-      floorLimit = 0x00 ∷ 0x00 ∷ 0x00 ∷ 0x01 ∷ 0x00 ∷ 0x00 ∷ [];
-      random = random;
-      target = 10;
-      threshold = 0x00 ∷ 0x00 ∷ 0x00 ∷ 0x00 ∷ 0x50 ∷ 0x00 ∷ [];
-      maximum = 70;
-      version = zeros 2;
-      denial = zeros 5;
-      online = zeros 5;
-      default = zeros 5;
-      aid = [];
-      capabilities = none;
-    }
+    telling
+    (weighing (bare 2 (zeros 5) (zeros 5) (zeros 5)) random 10 70 amount (0x00 ∷ 0x00 ∷ 0x00 ∷ 0x00 ∷ 0x50 ∷ 0x00 ∷ [])
+    (0x00 ∷ 0x00 ∷ 0x00 ∷ 0x01 ∷ 0x00 ∷ 0x00 ∷ []))
+    (zeros 3)
+    (zeros 2)
+    (0x11 ∷ 0x22 ∷ 0x33 ∷ 0x44 ∷ [])
 
 unfoldable pub amount7500 : List ℕ
 amount7500 = 0x00 ∷ 0x00 ∷ 0x00 ∷ 0x00 ∷ 0x75 ∷ 0x00 ∷ []
