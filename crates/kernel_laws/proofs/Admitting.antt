@@ -8,7 +8,7 @@ use native.Mathlib.Omega.{arith}
 use lib.Dec.{eqb}
 use lib.ListN.{length}
 use borrow.Author.Tests.{eq-eqb, ne-eqb, le-ltb}
-use Rattle.slices.specs.Choice.{pick, firstOf}
+use Rattle.slices.specs.Choice.{firstOf}
 use Rattle.slices.proofs.Choice.{pick-no, either}
 use Rattle.slices.proofs.Lines.{line-no}
 use Rattle.tape_read.specs.Entries.{Entry, entry, answer, silence, payloadMost}
@@ -19,9 +19,9 @@ use Rattle.session_phase.specs.declared.Speaker.{Speaker}
 use Rattle.session_phase.specs.declared.Waiting.{Waiting}
 use Rattle.session_phase.specs.declared.Waiting.the-variants.{ForCard, ForWord}
 use Rattle.session_laws.proofs.Words.{no-silence, some-kind}
-use Rattle.kernel_refusals.specs.Refusals.{isDue, startBad, answerBad, replyBad, resultsBad, wordLines, refusalLines, callRefusal}
+use Rattle.kernel_refusals.specs.Refusals.{isDue, startBad, answerBad, wordLines, refusalLines, callRefusal}
 use Rattle.kernel.specs.declared.Session.{Session}
-use Rattle.kernel_laws.proofs.Words.{takenBy, word-passes}
+use Rattle.kernel_laws.proofs.Words.{takenBy, answer-passes, word-passes}
 
 -- an event of the kind that is waited for, which is no silence, is due
 kind-due : (x : Waiting) (e : Entry) → (e .kind ≡ silence → ⊥) → e .kind ≡ awaited x → isDue x e ≡ true
@@ -44,11 +44,12 @@ module _ (s : Session) (buf : List ℕ) (room : longest ≤ length buf) where
 
   pub answer-free : (question : Question) → s .state .waiting ≡ ForCard question → (a : List ℕ) → length a ≤ payloadMost
       → callRefusal (s .state .waiting) (entry answer a) buf ≡ 0
-  unfolding awaited startBad answerBad replyBad resultsBad wordLines firstOf pick
+  unfolding awaited startBad answerBad
   answer-free question k a most =
       let waits : awaited (s .state .waiting) ≡ answer = ap awaited k in
       free (entry answer a) (λ z. let none : answer ≡ 0 = sym waits ∙ z in omega arith) refl
-      (kind-due (s .state .waiting) (entry answer a) (λ e. omega arith) (sym waits)) (le-ltb payloadMost (length a) most) refl
+      (kind-due (s .state .waiting) (entry answer a) (λ e. omega arith) (sym waits)) (le-ltb payloadMost (length a) most)
+      (answer-passes (s .state .waiting) a)
 
   pub word-free : (speaker : Speaker) → s .state .waiting ≡ ForWord speaker → (p : List ℕ) → takenBy speaker p ≡ true
       → callRefusal (s .state .waiting) (entry (kindOf speaker) p) buf ≡ 0

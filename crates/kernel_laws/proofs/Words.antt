@@ -11,10 +11,11 @@ use Rattle.slices.specs.Choice.{pick, firstOf}
 use Rattle.slices.proofs.Lines.{line-clear, last-no}
 use Rattle.start_valid.specs.Start.{beginsSession}
 use Rattle.start_valid.proofs.Laws.{begins-valid}
-use Rattle.tape_read.specs.Entries.{entry}
+use Rattle.tape_read.specs.Entries.{entry, answer}
 use Rattle.session_phase.specs.Waiting.{kindOf, wantedOf, resultsIn}
 use Rattle.session_phase.specs.declared.Speaker.{Speaker}
 use Rattle.session_phase.specs.declared.Speaker.the-variants.{Terminal, Issuer, Attendant}
+use Rattle.session_phase.specs.declared.Waiting.{Waiting}
 use Rattle.session_phase.specs.declared.Waiting.the-variants.{ForWord}
 use Rattle.session_events.specs.Events.{allowedBy}
 use Rattle.kernel_refusals.specs.Refusals.{startBad, answerBad, replyBad, resultsBad, wordLines}
@@ -24,6 +25,11 @@ unfoldable pub takenBy : Speaker → List ℕ → Bool
 takenBy Terminal p = beginsSession p
 takenBy Issuer p = allowedBy Issuer p
 takenBy (Attendant count) p = allowedBy (Attendant count) p
+
+-- an answer is no word, and passes them all
+pub answer-passes : (waiting : Waiting) (a : List ℕ) → firstOf (wordLines waiting (entry answer a)) ≡ 0
+unfolding wordLines replyBad resultsBad firstOf pick
+answer-passes waiting a = refl
 
 module _ (p : List ℕ) where
   pub word-passes : (speaker : Speaker) → takenBy speaker p ≡ true
