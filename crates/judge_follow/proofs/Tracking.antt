@@ -32,7 +32,8 @@ use Rattle.session_state.specs.Reading.{heardBy}
 use Rattle.session_state.specs.Results.{decisionIn}
 use Rattle.session_state.specs.declared.State.{State}
 use Rattle.session_moves.specs.Moves.{Moved, speakerOf, keptAs, replyIn, bufferIn}
-use Rattle.session_events.specs.Events.{allowedBy, step}
+use Rattle.session_phase.specs.Saying.{allowedBy}
+use Rattle.session_events.specs.Events.{step}
 use Rattle.session_laws.specs.Agreeing.{StandsAt}
 use Rattle.session_laws.specs.Logging.{Follows}
 use Rattle.session_laws.proofs.Words.{kind-due, allowed-by}

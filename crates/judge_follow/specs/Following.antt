@@ -20,7 +20,8 @@ use Rattle.session_phase.specs.declared.Reply.the-variants.{Command as CommandR
 use Rattle.session_state.specs.Results.{decisionIn}
 use Rattle.session_state.specs.Keeping.{fresh}
 use Rattle.session_moves.specs.Moves.{Moved}
-use Rattle.session_events.specs.Events.{allowedBy, step}
+use Rattle.session_phase.specs.Saying.{allowedBy}
+use Rattle.session_events.specs.Events.{step}
 use Rattle.judge_stages.specs.declared.Stage.{Stage}
 use Rattle.judge_stages.specs.declared.Stage.the-variants.{Word, Command, Answer, Decision, Done, Closed, Broken}
 use Rattle.judge_follow.specs.declared.Judgement.{Judgement}

@@ -7,6 +7,7 @@ use session_events::event;
 use session_phase::Reply;
 use session_phase::Speaker;
 use session_phase::Waiting;
+use session_phase::is_allowed;
 use session_phase::kind_of;
 use session_state::State;
 use session_state::change::fresh;
@@ -141,7 +142,7 @@ fn by_speaker(j: Judgement, speaker: Speaker, index: usize, kind: u8, payload: &
     if kind != kind_of(speaker) {
         return stage(j, Stage::Broken(index));
     }
-    if !event::is_allowed(speaker, payload) {
+    if !is_allowed(speaker, payload) {
         return stage(j, Stage::Broken(index));
     }
     advance(j, payload)

@@ -34,7 +34,7 @@ goes-on x h = ne-eqb (awaited x) 0 h
 
 module _ (s : Session) (buf : List ℕ) (room : longest ≤ length buf) where
   free : (e : Entry) → (awaited (s .state .waiting) ≡ 0 → ⊥) → startBad e ≡ false → isDue (s .state .waiting) e ≡ true → answerBad e ≡ false
-      → firstOf (wordLines (s .state .waiting) e) ≡ 0
+      → firstOf (wordLines (s .state .waiting) (e .payload)) ≡ 0
       → callRefusal (s .state .waiting) e buf ≡ 0
   unfolding callRefusal refusalLines
   free e over start due long words =
@@ -49,7 +49,7 @@ module _ (s : Session) (buf : List ℕ) (room : longest ≤ length buf) where
       let waits : awaited (s .state .waiting) ≡ answer = ap awaited k in
       free (entry answer a) (λ z. let none : answer ≡ 0 = sym waits ∙ z in omega arith) refl
       (kind-due (s .state .waiting) (entry answer a) (λ e. omega arith) (sym waits)) (le-ltb payloadMost (length a) most)
-      (answer-passes (s .state .waiting) a)
+      (ap (λ (x : Waiting). firstOf (wordLines x a)) k ∙ answer-passes question a)
 
   pub word-free : (speaker : Speaker) → s .state .waiting ≡ ForWord speaker → (p : List ℕ) → takenBy speaker p ≡ true
       → callRefusal (s .state .waiting) (entry (kindOf speaker) p) buf ≡ 0
@@ -59,4 +59,4 @@ module _ (s : Session) (buf : List ℕ) (room : longest ≤ length buf) where
       let own = word-passes p speaker fits in
       free (entry (kindOf speaker) p) (λ z. some-kind speaker (sym waits ∙ z)) (own .0)
       (kind-due (s .state .waiting) (entry (kindOf speaker) p) (no-silence speaker) (sym waits)) (own .1)
-      (ap (λ (x : Waiting). firstOf (wordLines x (entry (kindOf speaker) p))) k ∙ own .2)
+      (ap (λ (x : Waiting). firstOf (wordLines x p)) k ∙ own .2)

@@ -9,19 +9,23 @@ use Prim.Native.Nat.{ℕ, zero, suc, _<_}
 use native.Mathlib.Omega.{arith}
 use lib.Dec.{eqb}
 use lib.ListN.{getD}
-use borrow.Author.Tests.{eqb-false, not-true}
+use borrow.Author.Tests.{eqb-false, ne-eqb, not-true}
 use Rattle.slices.specs.Choice.{pick, firstOf}
 use Rattle.slices.specs.Tests.{every}
 use Rattle.slices.proofs.Choice.{pick-yes, pick-no}
 use Rattle.slices.proofs.Tests.{first-held}
 use Rattle.kernel.specs.declared.Session.{Session}
+use Rattle.session_phase.specs.Saying.{refusalBy}
 use Rattle.session_phase.specs.declared.Reply.the-variants.{Refused}
+use Rattle.session_phase.specs.declared.Waiting.{Waiting}
+use Rattle.session_phase.specs.declared.Waiting.the-variants.{ForCard, ForWord, Decided, Closed}
 use Rattle.kernel_refusals.specs.Refusals.{wordLines, refusalLines, callRefusal}
 use Rattle.kernel.specs.Calls.{Called, refused}
 use Rattle.kernel_laws.specs.Log.{Call, made}
 use Rattle.kernel_laws.specs.Table.{tableOf, numbersOf, FirstLine, NoLine}
 use Rattle.kernel_laws.proofs.Turning.{call-refused}
 use Rattle.kernel_laws.proofs.Refusing.{number-of}
+use Rattle.kernel_laws.proofs.Words.{word-number}
 
 -- ---- any table
 deeper : (t : Bool) (table : List Bool) (line : ℕ) → t ≡ false → FirstLine table line → FirstLine (t ∷ table) (suc line)
@@ -75,13 +79,20 @@ none-number [] h = refl
 none-number (l ∷ lines) h = pick-no _ _ _ (h 0) ∙ none-number lines (λ n. h (suc n))
 
 -- ---- the kernel's
+words-numbered : (waiting : Waiting) (p : List ℕ) → numbered (wordLines waiting p) ≡ true
+unfolding wordLines every
+words-numbered (ForWord speaker) p = pick-yes _ _ _ (ap not (ne-eqb (refusalBy speaker) 0 (word-number speaker)))
+words-numbered (ForCard question) p = refl
+words-numbered (Decided outcome reason) p = refl
+words-numbered Closed p = refl
+
 module _ (s : Session) (c : Call) where
   abbrev lines : List (Bool × ℕ)
   lines = refusalLines (s .state .waiting) (c .event) (c .buffer)
 
   all-numbered : numbered lines ≡ true
-  unfolding refusalLines wordLines every pick
-  all-numbered = refl
+  unfolding refusalLines every pick
+  all-numbered = words-numbered (s .state .waiting) (c .event .payload)
 
   -- a number, and the first line of the table that applies
   pub number-line : (n : ℕ) → made s c .reply ≡ Refused n

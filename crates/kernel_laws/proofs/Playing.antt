@@ -15,23 +15,21 @@ use Rattle.slices.proofs.Choice.{pick-yes, pick-no}
 use Rattle.slices.proofs.Comparing.{alike-same}
 use Rattle.tape_read.specs.Entries.{Entry, entry, command, answer, silence, decision}
 use Rattle.commands.specs.Commands.{longest}
-use Rattle.answer_record.specs.Records.{afterRecords}
-use Rattle.decide_requests.specs.Replies.{codeIn, replyOf}
 use Rattle.rulebook.specs.Situation.{Situation}
-use Rattle.rulebook.specs.Phase.{Asked, Heard, terminal, issuer, attendant, Phase, opens}
+use Rattle.rulebook.specs.Phase.{Asked, Heard, terminal, says, Phase, opens}
 use Rattle.rulebook.specs.Phase.{asks, hears, decides, commandOf, dueKind, decisionOf}
-use Rattle.rulebook.specs.Turn.{opened, turn, allowed, replyMade, heard, verifiedBy, after as afterWord}
+use Rattle.rulebook.specs.Turn.{opened, turn, allowed, after as afterWord}
 use Rattle.rulebook.specs.Session.{isPayload, Session as WholeSession}
 use Rattle.rulebook.specs.Machine.{Machine, at, owes, done, due, sayable, next, run}
 use Rattle.rulebook.specs.Roles.{given, begins}
-use Rattle.rulebook.proofs.Passing.{Holds, requested-holds, replied-holds, turn-holds}
+use Rattle.rulebook.proofs.Passing.{Holds, anything-lasts, turn-holds, after-holds}
 use Rattle.rulebook.proofs.Payloads.{payload-most}
 use Rattle.rulebook.proofs.Running.{due-entry, due-test, said-allowed, said-payload, chosen, taken, no-state, session-run}
 use Rattle.session_phase.specs.Waiting.{kindOf}
 use Rattle.session_phase.specs.declared.Speaker.{Speaker}
 use Rattle.dol_fill.specs.Filled.{summed}
 use Rattle.session_moves.specs.Moves.{Moved, questionOf, speakerOf, keptAs}
-use Rattle.session_events.specs.Events.{allowedBy, step}
+use Rattle.session_events.specs.Events.{step}
 use Rattle.session_laws.specs.Agreeing.{Agrees}
 use Rattle.session_laws.specs.Logging.{logged as ruled, landing, Follows as Steps}
 use Rattle.session_laws.proofs.Words.{no-silence, not-given, kind-due}
@@ -71,8 +69,7 @@ word-event h p = ap (λ (k : ℕ). given (entry k p)) (sym (kind-due h)) ∙ not
 abbrev pub Willing : Machine → List Entry → Type 0
 Willing (at (asks w)) es = Unit {0}
 Willing (at (hears terminal)) es = begins es ≡ true
-Willing (at (hears (issuer z))) es = Unit {0}
-Willing (at (hears (attendant z))) es = Unit {0}
+Willing (at (hears (says word z))) es = Unit {0}
 Willing (at (decides outcome reason z)) es = Unit {0}
 Willing (owes w) es = Unit {0}
 Willing done es = Unit {0}
@@ -84,28 +81,23 @@ later : (p : Phase) → Holds Anything p → (es : List Entry) → Willing (at p
 unfolding Holds
 later (asks w) h es = tt
 later (hears terminal) h es = absurd h
-later (hears (issuer z)) h es = tt
-later (hears (attendant z)) h es = tt
+later (hears (says word z)) h es = tt
 later (decides outcome reason z) h es = tt
 
 turn-willing : (w : Asked) (a : List ℕ) (es : List Entry) → Willing (at (turn w a)) es
-turn-willing w a es =
-    later (turn w a)
-    (turn-holds Anything (record { profile = λ z v h. tt; told = λ z r h. tt; read = λ z h. tt; first = λ z h. tt }) w a tt) es
+turn-willing w a es = later (turn w a) (turn-holds Anything anything-lasts w a tt) es
 
 word-willing : (h : Heard) (p : List ℕ) (es : List Entry) → Willing (at (afterWord h p)) es
-unfolding afterWord opened heard
+unfolding afterWord opened
 word-willing terminal p es = tt
-word-willing (issuer z) p es = later _ (replied-holds Anything z tt (replyMade (replyOf p)) (codeIn p)) es
-word-willing (attendant z) p es = later _ (requested-holds Anything (verifiedBy z p) tt (afterRecords (z .facts))) es
+word-willing (says word z) p es = later _ (after-holds Anything word z p tt) es
 
 -- what may be said there, the kernel takes
 word-taken : (h : Heard) (e : Entry) (es : List Entry) → allowed h (e .payload) ≡ true → Willing (at (hears h)) (e ∷ es)
     → takenBy (speakerOf h) (e .payload) ≡ true
-unfolding takenBy speakerOf begins allowed allowedBy
+unfolding takenBy speakerOf begins allowed
 word-taken terminal e es fits w = w
-word-taken (issuer z) e es fits w = fits
-word-taken (attendant z) e es fits w = fits
+word-taken (says word z) e es fits w = fits
 
 module _ (buf : List ℕ) (room : longest ≤ length buf) where
   -- the kernel plays entries from a state of the machine to another: its log grows by them, and by what is pending at the end

@@ -29,7 +29,8 @@ use Rattle.session_phase.specs.declared.Waiting.the-variants.{ForCard, ForWord,
 use Rattle.session_state.specs.Keeping.{changed}
 use Rattle.session_state.specs.declared.State.{State}
 use Rattle.session_moves.specs.Moves.{Moved, speakerOf}
-use Rattle.session_events.specs.Events.{allowedBy, step}
+use Rattle.session_phase.specs.Saying.{allowedBy}
+use Rattle.session_events.specs.Events.{step}
 use Rattle.session_laws.specs.Agreeing.{StandsAt}
 use Rattle.session_laws.specs.Logging.{logged as ruled, Follows as Steps, Reached}
 use Rattle.session_laws.proofs.Words.{no-answer, kind-due, allowed-by, allowed-short}
@@ -116,8 +117,7 @@ module _ (s : Session) (es : List Entry) (buf : List ℕ) (there : Reached (s .s
         let kind : e .kind ≡ kindOf speaker = due-kind (s .state .waiting) e (passed .due) n ∙ ap awaited k in
         let same = as-entry e (kindOf speaker) kind in
         let fits = passed-word p speaker (ap startBad (sym same) ∙ passed .start)
-        (ap (λ (x : Entry). firstOf (wordLines (ForWord speaker) x)) (sym same)
-        ∙ (ap (λ (x : Waiting). firstOf (wordLines x e)) (sym k) ∙ passed .words)) in
+        (ap (λ (x : Waiting). firstOf (wordLines x p)) (sym k) ∙ passed .words) in
         let may : allowed h p ≡ true =
         sym (allowed-by h p) ∙ (ap (λ (x : Speaker). allowedBy x p) (there′ .1 .0) ∙ taken-allowed p speaker fits) in
         let due : e .kind ≡ dueKind h = kind ∙ (ap kindOf (sym (there′ .1 .0)) ∙ kind-due h) in

@@ -30,7 +30,7 @@ pub record Passed (s : Session) (e : Entry) (buf : List ℕ) : Type 0 where
   pub start : startBad e ≡ false
   pub due : isDue (s .state .waiting) e ≡ true
   pub answer : answerBad e ≡ false
-  pub words : firstOf (wordLines (s .state .waiting) e) ≡ 0
+  pub words : firstOf (wordLines (s .state .waiting) (e .payload)) ≡ 0
 
 module _ (s : Session) (e : Entry) (buf : List ℕ) where
   abbrev number : ℕ

@@ -1,54 +1,73 @@
 -- The lines of 01's table at each word: a word that the kernel takes passes them, and one that passes them is taken; and what is taken
--- may be said. A line each.
+-- may be said.
 -- Assumes nothing.
-use mathlib.Core.Path.{_≡_, refl, ap}
+use mathlib.Core.Path.{_≡_, refl, sym, ap, _∙_}
 use mathlib.Core.Bool.{Bool, true, false, not}
 use mathlib.Core.List.{List, []}
 use Prim.Native.Nat.{ℕ}
 use native.Mathlib.Omega.{arith}
-use borrow.Author.Tests.{not-false}
-use Rattle.slices.specs.Choice.{pick, firstOf}
+use borrow.Author.Tests.{not-false, eqb-false}
+use lib.Dec.{eqb}
+use Rattle.slices.specs.Choice.{firstOf}
 use Rattle.slices.proofs.Lines.{line-clear, last-no}
 use Rattle.start_valid.specs.Start.{beginsSession}
 use Rattle.start_valid.proofs.Laws.{begins-valid}
-use Rattle.tape_read.specs.Entries.{entry, answer}
-use Rattle.session_phase.specs.Waiting.{kindOf, wantedOf, resultsIn}
+use Rattle.tape_read.specs.Entries.{entry, start, answer}
+use Rattle.words.specs.Words.{wordKind, wordAllowed}
+use Rattle.words.proofs.Laws.{other-kind as word-kind, no-start, some-refusal}
+use Rattle.session_phase.specs.Waiting.{kindOf}
+use Rattle.session_phase.specs.Saying.{allowedBy, refusalBy}
+use Rattle.session_phase.specs.declared.Question.{Question}
 use Rattle.session_phase.specs.declared.Speaker.{Speaker}
-use Rattle.session_phase.specs.declared.Speaker.the-variants.{Terminal, Issuer, Attendant}
-use Rattle.session_phase.specs.declared.Waiting.{Waiting}
-use Rattle.session_phase.specs.declared.Waiting.the-variants.{ForWord}
-use Rattle.session_events.specs.Events.{allowedBy}
-use Rattle.kernel_refusals.specs.Refusals.{startBad, answerBad, replyBad, resultsBad, wordLines}
+use Rattle.session_phase.specs.declared.Speaker.the-variants.{Terminal, Says}
+use Rattle.session_phase.specs.declared.Waiting.the-variants.{ForCard, ForWord}
+use Rattle.kernel_refusals.specs.Refusals.{startBad, answerBad, wordLines}
+use Rattle.kernel_refusals.proofs.OwnTests.{other-kind}
 
 -- what the kernel takes: of the STARTs only those that a session can be begun with
 unfoldable pub takenBy : Speaker → List ℕ → Bool
 takenBy Terminal p = beginsSession p
-takenBy Issuer p = allowedBy Issuer p
-takenBy (Attendant count) p = allowedBy (Attendant count) p
+takenBy (Says word count) p = wordAllowed word count p
+
+pub taken-allowed : (p : List ℕ) (speaker : Speaker) → takenBy speaker p ≡ true → allowedBy speaker p ≡ true
+unfolding takenBy allowedBy
+taken-allowed p Terminal fits = begins-valid p fits
+taken-allowed p (Says word count) fits = fits
+
+-- every word has a number
+pub word-number : (speaker : Speaker) → refusalBy speaker ≡ 0 → ⊥
+unfolding refusalBy
+word-number Terminal e = omega arith
+word-number (Says word count) e = some-refusal word e
 
 -- an answer is no word, and passes them all
-pub answer-passes : (waiting : Waiting) (a : List ℕ) → firstOf (wordLines waiting (entry answer a)) ≡ 0
-unfolding wordLines replyBad resultsBad firstOf pick
-answer-passes waiting a = refl
+pub answer-passes : (question : Question) (a : List ℕ) → firstOf (wordLines (ForCard question) a) ≡ 0
+unfolding wordLines firstOf
+answer-passes question a = refl
+
+-- a word is neither a bad START nor an answer
+own-line : (k : ℕ) (p : List ℕ) → eqb k start ≡ false → startBad (entry k p) ≡ false
+unfolding startBad
+own-line k p h = other-kind k start _ (eqb-false k start h)
+
+no-answer-line : (k : ℕ) (p : List ℕ) → eqb answer k ≡ false → answerBad (entry k p) ≡ false
+unfolding answerBad
+no-answer-line k p h = other-kind k answer _ (λ e. eqb-false answer k h (sym e))
 
 module _ (p : List ℕ) where
   pub word-passes : (speaker : Speaker) → takenBy speaker p ≡ true
       → (startBad (entry (kindOf speaker) p) ≡ false) × (answerBad (entry (kindOf speaker) p) ≡ false)
-      × (firstOf (wordLines (ForWord speaker) (entry (kindOf speaker) p)) ≡ 0)
-  unfolding kindOf takenBy allowedBy startBad answerBad replyBad resultsBad wordLines firstOf pick resultsIn wantedOf
-  word-passes Terminal fits = (ap not fits, refl, refl)
-  word-passes Issuer fits = (refl, refl, last-no refl 6 (ap not fits))
-  word-passes (Attendant count) fits = (refl, refl, last-no refl 12 (ap not fits))
+      × (firstOf (wordLines (ForWord speaker) p) ≡ 0)
+  unfolding kindOf takenBy wordLines startBad answerBad
+  word-passes Terminal fits = (ap not fits, refl, last-no refl _ (ap not (taken-allowed p Terminal fits)))
+  word-passes (Says word count) fits = (
+    own-line (wordKind word) p (no-start word),
+    no-answer-line (wordKind word) p (word-kind word .no-answer),
+    last-no refl _ (ap not (taken-allowed p (Says word count) fits)),
+  )
 
   pub passed-word : (speaker : Speaker) → startBad (entry (kindOf speaker) p) ≡ false
-      → firstOf (wordLines (ForWord speaker) (entry (kindOf speaker) p)) ≡ 0 → takenBy speaker p ≡ true
-  unfolding kindOf takenBy allowedBy startBad replyBad resultsBad wordLines firstOf pick resultsIn wantedOf
+      → firstOf (wordLines (ForWord speaker) p) ≡ 0 → takenBy speaker p ≡ true
+  unfolding kindOf takenBy allowedBy startBad wordLines
   passed-word Terminal s w = not-false _ s
-  passed-word Issuer s w = not-false _ (line-clear _ 6 [] (λ z. omega arith) w .0)
-  passed-word (Attendant count) s w = not-false _ (line-clear _ 12 [] (λ z. omega arith) w .0)
-
-  pub taken-allowed : (speaker : Speaker) → takenBy speaker p ≡ true → allowedBy speaker p ≡ true
-  unfolding takenBy allowedBy
-  taken-allowed Terminal fits = begins-valid p fits
-  taken-allowed Issuer fits = fits
-  taken-allowed (Attendant count) fits = fits
+  passed-word (Says word count) s w = not-false _ (line-clear _ _ [] (word-number (Says word count)) w .0)

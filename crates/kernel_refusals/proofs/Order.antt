@@ -10,12 +10,14 @@ use borrow.Author.Tests.{eq-eqb, lt-ltb, le-ltb}
 use Rattle.slices.specs.Choice.{pick, firstOf}
 use Rattle.slices.proofs.Choice.{pick-yes, pick-no}
 use Rattle.start_valid.specs.Start.{beginsSession}
-use Rattle.tape_read.specs.Entries.{Entry, entry, start, answer, silence, host, payloadMost}
+use Rattle.tape_read.specs.Entries.{Entry, entry, start, answer, silence, payloadMost}
 use Rattle.commands.specs.Commands.{longest}
-use Rattle.decide_requests.specs.Replies.{replyOf, isReply}
 use Rattle.session_phase.specs.Waiting.{awaited, isOver}
+use Rattle.session_phase.specs.Saying.{allowedBy, refusalBy}
+use Rattle.session_phase.specs.declared.Speaker.{Speaker}
 use Rattle.session_phase.specs.declared.Waiting.{Waiting}
-use Rattle.kernel_refusals.specs.Refusals.{isDue, startBad, answerBad, replyBad, resultsBad, wordLines, refusalLines, callRefusal}
+use Rattle.session_phase.specs.declared.Waiting.the-variants.{ForWord}
+use Rattle.kernel_refusals.specs.Refusals.{isDue, startBad, answerBad, wordLines, refusalLines, callRefusal}
 
 module _ (waiting : Waiting) (buf : List ℕ) where
   -- 1, whatever the session and the event
@@ -48,18 +50,17 @@ module _ (waiting : Waiting) (buf : List ℕ) where
             pick-no _ _ _ (le-ltb (length buf) longest room)
             ∙ (pick-no _ _ _ goes ∙ (pick-no _ _ _ s ∙ (pick-no _ _ _ (ap not d) ∙ pick-yes _ _ _ h)))
 
-        pub no-reply : answerBad e ≡ false → replyBad e ≡ true → callRefusal waiting e buf ≡ 6
+        -- the number of the word that is due: 6 for HOST, 12 for the results
+        pub not-sayable : (speaker : Speaker) → waiting ≡ ForWord speaker → answerBad e ≡ false → allowedBy speaker (e .payload) ≡ false
+            → callRefusal waiting e buf ≡ refusalBy speaker
         unfolding callRefusal refusalLines wordLines firstOf
-        no-reply a h =
-            pick-no _ _ _ (le-ltb (length buf) longest room)
-            ∙ (pick-no _ _ _ goes ∙ (pick-no _ _ _ s ∙ (pick-no _ _ _ (ap not d) ∙ (pick-no _ _ _ a ∙ pick-yes _ _ _ h))))
-
-        pub no-results : answerBad e ≡ false → replyBad e ≡ false → resultsBad waiting e ≡ true → callRefusal waiting e buf ≡ 12
-        unfolding callRefusal refusalLines wordLines firstOf
-        no-results a r h =
+        not-sayable speaker k a h =
             pick-no _ _ _ (le-ltb (length buf) longest room)
             ∙ (pick-no _ _ _ goes
-            ∙ (pick-no _ _ _ s ∙ (pick-no _ _ _ (ap not d) ∙ (pick-no _ _ _ a ∙ (pick-no _ _ _ r ∙ pick-yes _ _ _ h)))))
+            ∙ (pick-no _ _ _ s
+            ∙ (pick-no _ _ _ (ap not d)
+            ∙ (pick-no _ _ _ a
+            ∙ (ap (λ (w : Waiting). firstOf (wordLines w (e .payload))) k ∙ pick-yes _ _ _ (ap not h))))))
 
 -- a silence is turned away wherever no answer is due
 pub silence-not-due : (waiting : Waiting) (p : List ℕ) → eqb (awaited waiting) answer ≡ false → isDue waiting (entry silence p) ≡ false

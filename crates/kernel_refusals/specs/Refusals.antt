@@ -7,13 +7,13 @@ use Prim.Native.Nat.{ℕ}
 use lib.Dec.{eqb, ltb}
 use lib.ListN.{length}
 use Rattle.slices.specs.Choice.{pick, firstOf}
-use Rattle.tape_read.specs.Entries.{Entry, start, answer, silence, host, results, payloadMost}
+use Rattle.tape_read.specs.Entries.{Entry, start, answer, silence, payloadMost}
 use Rattle.start_valid.specs.Start.{beginsSession}
-use Rattle.cvm.specs.Lists.{areResults}
-use Rattle.decide_requests.specs.Replies.{replyOf, isReply}
 use Rattle.commands.specs.Commands.{longest}
-use Rattle.session_phase.specs.Waiting.{awaited, isOver, resultsIn}
+use Rattle.session_phase.specs.Waiting.{awaited, isOver}
+use Rattle.session_phase.specs.Saying.{allowedBy, refusalBy}
 use Rattle.session_phase.specs.declared.Waiting.{Waiting}
+use Rattle.session_phase.specs.declared.Waiting.the-variants.{ForCard, ForWord, Decided, Closed}
 
 -- the event is the one due; a silence, which has no payload, is accepted only where an answer is due
 unfoldable pub isDue : Waiting → Entry → Bool
@@ -27,21 +27,13 @@ startBad e = eqb (e .kind) start && not (beginsSession (e .payload))
 unfoldable pub answerBad : Entry → Bool
 answerBad e = eqb (e .kind) answer && ltb payloadMost (length (e .payload))
 
-unfoldable pub replyBad : Entry → Bool
-replyBad e = eqb (e .kind) host && not (isReply (replyOf (e .payload)))
-
--- as many results as the session waits for, each 0 to 4
-unfoldable pub resultsBad : Waiting → Entry → Bool
-resultsBad waiting e = eqb (e .kind) results && not (areResults (resultsIn waiting) (e .payload))
-
--- the lines of the words that come after START, each for its own kind
-unfoldable pub wordLines : Waiting → Entry → List (Bool × ℕ)
-wordLines waiting e =
-    -- HOST not 3 bytes, or not one of the replies
-    (replyBad e, 6)
-    -- the results of cardholder verification: not one for each rule, or not 0 to 4
-    ∷ (resultsBad waiting e, 12)
-    ∷ []
+-- the line of the word that is waited for, if one is: START invalid; HOST not 3 bytes, or not one of the replies; the results of cardholder
+-- verification not one for each rule, or not 0 to 4. Each has its own number
+unfoldable pub wordLines : Waiting → List ℕ → List (Bool × ℕ)
+wordLines (ForWord speaker) p = (not (allowedBy speaker p), refusalBy speaker) ∷ []
+wordLines (ForCard question) p = []
+wordLines (Decided outcome reason) p = []
+wordLines Closed p = []
 
 -- the table: on a session that waits for something, an event, and the command buffer that is lent for it
 unfoldable pub refusalLines : Waiting → Entry → List ℕ → List (Bool × ℕ)
@@ -56,7 +48,8 @@ refusalLines waiting e buf =
     ∷ (not (isDue waiting e), 4)
     -- answer over 496 bytes
     ∷ (answerBad e, 5)
-    ∷ wordLines waiting e
+    -- 6 for HOST, 12 for the results
+    ∷ wordLines waiting (e .payload)
 
 -- the number; 0 where no line applies, and the call is taken
 unfoldable pub callRefusal : Waiting → Entry → List ℕ → ℕ

@@ -1,15 +1,13 @@
 // When a call of a session is turned away. The event is handed in as the entry that it would be on a tape, by its kind and payload.
 use commands::write::LONGEST;
-use cvm::list::are_results;
-use decide_requests::reply::is_reply;
+use session_phase::Speaker;
 use session_phase::Waiting;
 use session_phase::awaits;
-use session_phase::results_due;
+use session_phase::is_allowed;
+use session_phase::refusal_by;
 use start_valid::begins_session;
 use tape_read::ANSWER;
-use tape_read::HOST;
 use tape_read::PAYLOAD;
-use tape_read::RESULTS;
 use tape_read::SILENCE;
 use tape_read::START;
 ghost use mathlib.Core.Path.{_≡_};
@@ -18,8 +16,9 @@ ghost use lib.ListN.{length};
 ghost use lib.Dec.{ltb};
 ghost use Rattle.tape_read.specs.Entries.{entry, payloadMost};
 ghost use Rattle.start_valid.specs.Start.{beginsSession};
-ghost use Rattle.decide_requests.specs.Replies.{replyOf, isReply};
-ghost use Rattle.kernel_refusals.specs.Refusals.{isDue, startBad, answerBad, replyBad, resultsBad, callRefusal};
+ghost use Rattle.slices.specs.Choice.{firstOf};
+ghost use Rattle.session_phase.specs.declared.Waiting.the-variants.{ForWord};
+ghost use Rattle.kernel_refusals.specs.Refusals.{isDue, startBad, answerBad, wordLines, callRefusal};
 
 // Whether the event is the one due.
 fn is_due(waiting: Waiting, kind: u8, payload: &[u8]) -> bool
@@ -44,16 +43,25 @@ fn is_answer_bad(kind: u8, payload: &[u8]) -> bool
     kind == ANSWER && PAYLOAD < payload.len()
 }
 
-fn is_reply_bad(kind: u8, payload: &[u8]) -> bool
-    ensures { λ r. ⌜ r ≡ replyBad (entry kind (now (payload .entry))) ⌝ }
+fn spoken_refusal(speaker: Speaker, p: &[u8]) -> usize
+    ensures { λ r. ⌜ r ≡ firstOf (wordLines (ForWord speaker) (now (p .entry))) ⌝ }
 {
-    kind == HOST && !is_reply(payload)
+    if is_allowed(speaker, p) {
+        return 0;
+    }
+    refusal_by(speaker)
 }
 
-fn is_results_bad(waiting: Waiting, kind: u8, payload: &[u8]) -> bool
-    ensures { λ r. ⌜ r ≡ resultsBad waiting (entry kind (now (payload .entry))) ⌝ }
+// The number of a word that may not be said; 0 where it may, or none is waited for.
+fn word_refusal(waiting: Waiting, p: &[u8]) -> usize
+    ensures { λ r. ⌜ r ≡ firstOf (wordLines waiting (now (p .entry))) ⌝ }
 {
-    kind == RESULTS && !are_results(results_due(waiting), payload)
+    match waiting {
+        Waiting::ForWord(speaker) => spoken_refusal(speaker, p),
+        Waiting::ForCard(_) => 0,
+        Waiting::Decided(_, _) => 0,
+        Waiting::Closed => 0,
+    }
 }
 
 // The number of the first line of 01's table that applies; 0 where none does, and the call is taken.
@@ -75,11 +83,5 @@ pub fn refusal(waiting: Waiting, kind: u8, payload: &[u8], command: &[u8]) -> us
     if is_answer_bad(kind, payload) {
         return 5;
     }
-    if is_reply_bad(kind, payload) {
-        return 6;
-    }
-    if is_results_bad(waiting, kind, payload) {
-        return 12;
-    }
-    0
+    word_refusal(waiting, payload)
 }

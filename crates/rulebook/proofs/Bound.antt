@@ -26,9 +26,11 @@ use Rattle.decide_verification.specs.Verification.{resultsDue}
 use Rattle.decide_requests.specs.Replies.{codeIn, replyOf}
 use Rattle.decide_requests.specs.declared.reply.HostReply.{HostReply}
 use Rattle.decide_requests.specs.declared.reply.HostReply.the-variants.{Unable}
+use Rattle.words.specs.declared.Word.{Word}
+use Rattle.words.specs.declared.Word.the-variants.{Host, Results}
 use Rattle.rulebook.specs.Situation.{Situation, listIn}
 use Rattle.rulebook.specs.Phase.{Asked, selecting, optioning, reading, first, second, Heard, terminal}
-use Rattle.rulebook.specs.Phase.{issuer, attendant, Phase, asks, hears, decides, decided as settled, ended}
+use Rattle.rulebook.specs.Phase.{says, Phase, asks, hears, decides, decided as settled, ended}
 use Rattle.rulebook.specs.Turn.{goesOn, opened, selected, managed, requested, verifying, allRead, readOn, withProfile}
 use Rattle.rulebook.specs.Turn.{optioned, withRecord, recorded, answered, replied, online, byFirst, firstAnswered}
 use Rattle.rulebook.specs.Turn.{secondAnswered, replyMade, turn, heard as issuerHeard, verifiedBy, after}
@@ -41,7 +43,7 @@ fromFirst = 6
 abbrev afterLast : ℕ
 afterLast = 1 + fromFirst
 
--- from a question on, and from a phase on
+-- from a question on, from a word on, and from a phase on
 unfoldable pub afterAsking : Asked → ℕ
 afterAsking (selecting s) = 4 + 2 * mostRecords + afterLast
 afterAsking (optioning s list) = 2 + 2 * mostRecords + afterLast
@@ -49,11 +51,14 @@ afterAsking (reading s number file rest) = 2 + 2 * length rest + afterLast
 afterAsking (first s request) = fromFirst
 afterAsking (second s request code) = 3
 
+unfoldable pub fromWord : Word → ℕ
+fromWord Host = 4
+fromWord Results = afterLast
+
 unfoldable pub toCome : Phase → ℕ
 toCome (asks w) = afterAsking w
 toCome (hears terminal) = longest
-toCome (hears (issuer s)) = 4
-toCome (hears (attendant s)) = afterLast
+toCome (hears (says word s)) = fromWord word
 toCome (decides outcome reason s) = 1
 
 module _ (s : Situation) where
@@ -72,7 +77,7 @@ module _ (s : Situation) where
   requested-few reason = goes-few fromFirst reason _ (omega arith) (λ e. omega arith)
 
   verifying-few : toCome (verifying s) ≤ afterLast
-  unfolding verifying toCome
+  unfolding verifying toCome fromWord
   verifying-few =
       picked (λ (p : Phase). toCome p ≤ afterLast) (resultsDue (s .terminal) (s .profile) (s .facts)) _ _ (λ e. omega arith)
       (λ e. omega (arith, requested-few (afterRecords (s .facts))))
@@ -82,7 +87,7 @@ module _ (s : Situation) where
   replied-few reply code = picked (λ (p : Phase). toCome p ≤ 3) (fillable (listIn s 0x8D)) _ _ (λ e. omega arith) (λ e. omega arith)
 
   online-few : toCome (online s) ≤ 4
-  unfolding online toCome
+  unfolding online toCome fromWord
   online-few =
       picked (λ (p : Phase). toCome p ≤ 4) _ _ _ (λ e. let h = replied-few Unable [] in omega arith) (λ e. omega arith)
 
@@ -121,10 +126,10 @@ turn-fewer (second s request code) a = goes-fewer s _ _ _ (omega arith) (λ e. o
 
 -- and what is heard its one
 pub after-fewer : (h : Heard) (p : List ℕ) → 1 + toCome (after h p) ≤ toCome (hears h)
-unfolding after issuerHeard toCome afterAsking opened
+unfolding after issuerHeard toCome afterAsking fromWord opened
 after-fewer terminal p = omega arith
-after-fewer (issuer s) p = omega (arith, replied-few s (replyMade (replyOf p)) (codeIn p))
-after-fewer (attendant s) p = omega (arith, requested-few (verifiedBy s p) (afterRecords (s .facts)))
+after-fewer (says Host s) p = omega (arith, replied-few s (replyMade (replyOf p)) (codeIn p))
+after-fewer (says Results s) p = omega (arith, requested-few (verifiedBy s p) (afterRecords (s .facts)))
 
 -- each phase leaves something to come
 pub some-come : (p : Phase) → 1 ≤ toCome p

@@ -8,20 +8,17 @@ use lib.ListN.{length, take}
 use Rattle.slices.specs.Writing.{zeros}
 use Rattle.start_fields.specs.Reading.{Terminal}
 use Rattle.tape_read.specs.Entries.{Entry}
-use Rattle.answer_record.specs.Records.{afterRecords}
 use Rattle.decide_tvr.specs.Bits.{joined}
-use Rattle.decide_requests.specs.Replies.{codeIn}
-use Rattle.decide_requests.specs.declared.reply.HostReply.{HostReply}
 use Rattle.decide_verification.proofs.Laws.{results-kept, performed-kept}
 use Rattle.decide_tvr.proofs.Rows.{joined-self, kept-on}
 use Rattle.decide_tvr.proofs.Laws.{tvr-kept, tsi-kept, tsi-kept-on}
 use Rattle.rulebook.specs.Situation.{Situation, begun}
-use Rattle.rulebook.specs.Phase.{Asked, Heard, terminal, issuer, attendant, Phase, asks, hears, situationOf, tvrOf, tsiOf}
-use Rattle.rulebook.specs.Turn.{opened, managed, requested, withProfile, withRecord}
-use Rattle.rulebook.specs.Turn.{answered, turn, heard as issuerHeard, verifiedBy, after}
+use Rattle.words.specs.declared.Word.{Word}
+use Rattle.rulebook.specs.Phase.{Asked, Heard, terminal, says, Phase, asks, hears, situationOf, tvrOf, tsiOf}
+use Rattle.rulebook.specs.Turn.{opened, managed, withProfile, withRecord, answered, turn, verifiedBy, after}
 use Rattle.rulebook.specs.Stated.{Grows, Growing, alone, onward}
 use Rattle.rulebook.specs.Session.{Plays, exchanged, heard, decided as settled, phasesOf, Reads}
-use Rattle.rulebook.proofs.Passing.{Holds, Lasting, holds-seen, requested-holds, replied-holds, turn-holds}
+use Rattle.rulebook.proofs.Passing.{left, Holds, Lasting, holds-seen, turn-holds, after-holds}
 
 -- every bit that is set in a situation is set in a phase
 pub record Reaches (s : Situation) (q : Phase) : Type 0 where
@@ -68,24 +65,17 @@ pub opened-grows : (t : Terminal) → Grows (hears terminal) (opened t)
 unfolding tvrOf tsiOf opened begun situationOf
 opened-grows t = record { tvr = joined-self (zeros 5); tsi = joined-self (zeros 2) }
 
-pub heard-grows : (s : Situation) (reply : HostReply) (payload : List ℕ) → Grows (hears (issuer s)) (issuerHeard s reply payload)
-unfolding tvrOf tsiOf issuerHeard
-heard-grows s reply payload =
-    let reached = reaches s _ (replied-holds (Kept s) s (self s) reply (codeIn payload)) in
-    record { tvr = reached .tvr; tsi = reached .tsi }
-
-pub verified-grows : (s : Situation) (p : List ℕ) → Grows (hears (attendant s)) (requested (afterRecords (s .facts)) (verifiedBy s p))
+pub word-grows : (word : Word) (s : Situation) (p : List ℕ) → Grows (hears (says word s)) (after (says word s) p)
 unfolding tvrOf tsiOf verifiedBy
-verified-grows s p =
+word-grows word s p =
     let more : Kept s (verifiedBy s p) = (results-kept (s .terminal) (s .facts) p (s .tvr), performed-kept (s .tsi)) in
-    let reached = reaches s _ (requested-holds (Kept s) (verifiedBy s p) more (afterRecords (s .facts))) in
+    let reached = reaches s _ (after-holds (Kept s) word s p (left (Kept s) word s p (self s) (λ e. more))) in
     record { tvr = reached .tvr; tsi = reached .tsi }
 
 pub after-grows : (h : Heard) (p : List ℕ) → Grows (hears h) (after h p)
 unfolding after
 after-grows terminal p = opened-grows _
-after-grows (issuer s) p = heard-grows s _ p
-after-grows (attendant s) p = verified-grows s p
+after-grows (says word s) p = word-grows word s p
 
 stays : (p : Phase) → Grows p p
 stays p = record { tvr = joined-self (tvrOf p); tsi = joined-self (tsiOf p) }

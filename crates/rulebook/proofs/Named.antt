@@ -12,8 +12,10 @@ use Rattle.decide_requests.specs.Replies.{replyOf, isReply}
 use Rattle.decide_requests.specs.declared.reply.HostReply.{HostReply}
 use Rattle.decide_requests.specs.declared.reply.HostHeard.{HostHeard}
 use Rattle.decide_requests.specs.declared.reply.HostHeard.the-variants.{Said}
+use Rattle.words.specs.Words.{wordKind, wordAllowed}
+use Rattle.words.specs.declared.Word.the-variants.{Host}
 use Rattle.rulebook.specs.Situation.{Situation}
-use Rattle.rulebook.specs.Phase.{terminal, issuer, Phase, opens, hears, dueKind}
+use Rattle.rulebook.specs.Phase.{terminal, says, Phase, opens, hears, dueKind}
 use Rattle.rulebook.specs.Turn.{opened, allowed, replyMade, heard, after}
 use Rattle.rulebook.specs.Session.{isPayload}
 use Rattle.rulebook.specs.Machine.{at, next}
@@ -25,14 +27,14 @@ unfolding allowed after dueKind
 takes-start b valid ok = takes-heard terminal b valid ok
 
 module _ (s : Situation) (p : List ℕ) (r : HostReply) (said : replyOf p ≡ Said r) where
-  pub reply-allowed : allowed (issuer s) p ≡ true
-  unfolding allowed isReply
+  pub reply-allowed : allowed (says Host s) p ≡ true
+  unfolding allowed wordAllowed isReply
   reply-allowed = ap isReply said
 
-  pub after-reply : after (issuer s) p ≡ heard s r p
+  pub after-reply : after (says Host s) p ≡ heard s r p
   unfolding after replyMade
   after-reply = ap (λ (x : HostHeard). heard s (replyMade x) p) said
 
-  pub takes-reply : isPayload p ≡ true → next (at (hears (issuer s))) (entry host p) ≡ some (at (heard s r p))
-  unfolding dueKind
-  takes-reply ok = takes-heard (issuer s) p reply-allowed ok ∙ ap (λ (q : Phase). some (at q)) after-reply
+  pub takes-reply : isPayload p ≡ true → next (at (hears (says Host s))) (entry host p) ≡ some (at (heard s r p))
+  unfolding dueKind wordKind
+  takes-reply ok = takes-heard (says Host s) p reply-allowed ok ∙ ap (λ (q : Phase). some (at q)) after-reply

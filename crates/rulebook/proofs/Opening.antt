@@ -97,18 +97,19 @@ use Rattle.answer_gpo.specs.Options.{profileOf as o307, locatorOf as o308, opti
 use Rattle.answer_gpo.specs.Options.{optionsReason as o311}
 use Rattle.answer_cryptogram.specs.Cryptogram.{informationOf as o312, cryptogramOf as o313, cryptogramWrong as o314}
 use Rattle.answer_cryptogram.specs.Cryptogram.{cryptogramLines as o315, cryptogramReason as o316}
-use Rattle.rulebook.specs.Machine.{due as o317, sayable as o318, next as o319, andOn as o320}
-use Rattle.rulebook.specs.Phase.{situationOf as o321, commandOf as o322, dueKind as o323, decisionOf as o324}
-use Rattle.rulebook.specs.Phase.{decided as o325, ended as o326, tvrOf as o327, tsiOf as o328}
-use Rattle.rulebook.specs.Roles.{given as o329, begins as o330}
-use Rattle.rulebook.specs.Session.{isPayload as o331, phasesOf as o332}
-use Rattle.rulebook.specs.Situation.{begun as o333, knownIn as o334, listIn as o335}
-use Rattle.rulebook.specs.Turn.{goesOn as o336, opened as o337, selected as o338, managed as o339, requested as o340}
-use Rattle.rulebook.specs.Turn.{verifying as o341, allRead as o342, readOn as o343, withProfile as o344, optioned as o345}
-use Rattle.rulebook.specs.Turn.{withRecord as o346, recorded as o347, answered as o348, replied as o349, online as o350}
-use Rattle.rulebook.specs.Turn.{byFirst as o351, firstAnswered as o352, bySecond as o353, secondAnswered as o354}
-use Rattle.rulebook.specs.Turn.{turn as o355, allowed as o356, replyMade as o357, heard as o358, verifiedBy as o359}
-use Rattle.rulebook.specs.Turn.{after as o360}
+use Rattle.words.specs.Words.{wordKind as o317, wordAllowed as o318, wordRefusal as o319}
+use Rattle.rulebook.specs.Machine.{due as o320, sayable as o321, next as o322, andOn as o323}
+use Rattle.rulebook.specs.Phase.{situationOf as o324, commandOf as o325, dueKind as o326, decisionOf as o327}
+use Rattle.rulebook.specs.Phase.{decided as o328, ended as o329, tvrOf as o330, tsiOf as o331}
+use Rattle.rulebook.specs.Roles.{given as o332, begins as o333}
+use Rattle.rulebook.specs.Session.{isPayload as o334, phasesOf as o335}
+use Rattle.rulebook.specs.Situation.{begun as o336, knownIn as o337, listIn as o338}
+use Rattle.rulebook.specs.Turn.{goesOn as o339, opened as o340, selected as o341, managed as o342, requested as o343}
+use Rattle.rulebook.specs.Turn.{verifying as o344, allRead as o345, readOn as o346, withProfile as o347, optioned as o348}
+use Rattle.rulebook.specs.Turn.{withRecord as o349, recorded as o350, answered as o351, replied as o352, online as o353}
+use Rattle.rulebook.specs.Turn.{byFirst as o354, firstAnswered as o355, bySecond as o356, secondAnswered as o357}
+use Rattle.rulebook.specs.Turn.{turn as o358, wantedIn as o359, allowed as o360, replyMade as o361, heard as o362}
+use Rattle.rulebook.specs.Turn.{verifiedBy as o363, after as o364}
 
 -- the state that a session's entries lead to
 unfoldable pub reached : List Entry → Option Machine
@@ -125,5 +126,5 @@ unfolding o0 o1 o2 o3 o4 o5 o6 o7 o8 o9 o10 o11 o12 o13 o14 o15 o16 o17 o18 o19 
     o270 o271 o272 o273 o274 o275 o276 o277 o278 o279 o280 o281 o282 o283 o284 o285 o286 o287 o288 o289 o290 o291 o292 o293 o294
     o295 o296 o297 o298 o299 o300 o301 o302 o303 o304 o305 o306 o307 o308 o309 o310 o311 o312 o313 o314 o315 o316 o317 o318 o319
     o320 o321 o322 o323 o324 o325 o326 o327 o328 o329 o330 o331 o332 o333 o334 o335 o336 o337 o338 o339 o340 o341 o342 o343 o344
-    o345 o346 o347 o348 o349 o350 o351 o352 o353 o354 o355 o356 o357 o358 o359 o360 run
+    o345 o346 o347 o348 o349 o350 o351 o352 o353 o354 o355 o356 o357 o358 o359 o360 o361 o362 o363 o364 run
 reached es = run es (at opens)

@@ -30,13 +30,17 @@ use Rattle.decide_tvr.proofs.Laws.{byte-3-stays, b7-stays, b7-stays-on}
 use Rattle.decide_verification.specs.Verification.{resultsDue, verificationList, circumstancesOf}
 use Rattle.decide_verification.proofs.Laws.{byte-3, other-bytes, b7-set, low-bits, high-bits, other-byte}
 use Rattle.decide_requests.specs.Requests.{firstRequest}
+use Rattle.words.proofs.Laws.{results-kind}
+use Rattle.words.specs.declared.Word.{Word}
+use Rattle.words.specs.declared.Word.the-variants.{Results}
 use Rattle.rulebook.specs.Situation.{Situation, begun, listIn}
-use Rattle.rulebook.specs.Phase.{Asked, first, terminal, issuer, attendant, Phase, opens, asks, hears}
+use Rattle.rulebook.specs.Phase.{Asked, first, terminal, says, Phase, opens, asks, hears}
 use Rattle.rulebook.specs.Phase.{decides, situationOf, dueKind, terminated, ended, tvrOf, tsiOf}
 use Rattle.rulebook.specs.Turn.{goesOn, opened, managed, requested, withProfile, withRecord}
-use Rattle.rulebook.specs.Turn.{answered, turn, heard as issuerHeard, verifiedBy, after}
+use Rattle.rulebook.specs.Turn.{answered, turn, verifiedBy, after}
 use Rattle.rulebook.specs.Session.{Plays, exchanged, heard, decided, phasesOf}
-use Rattle.rulebook.proofs.Passing.{Awaited, Holds, Lasting, holds-seen, requested-holds, replied-holds, turn-holds}
+use Rattle.rulebook.proofs.Passing.{Past, Due, leaving, left, Lasting, Holds, holds-seen, turn-holds}
+use Rattle.rulebook.proofs.Passing.{after-holds, Awaited, Awaiting, turn-awaiting, after-awaiting}
 
 -- TVR byte 3, and TSI byte 1 b7
 abbrev pub byte3 : List ℕ → ℕ
@@ -85,11 +89,12 @@ pub start-unverified : (p : List ℕ) → Unverified (hears terminal) (after ter
 unfolding after opened begun situationOf tvrOf tsiOf
 start-unverified p = record { tvr = refl; tsi = refl }
 
--- and not the issuer's reply
-pub reply-unverified : (s : Situation) (p : List ℕ) → Unverified (hears (issuer s)) (after (issuer s) p)
-unfolding after issuerHeard tvrOf tsiOf
-reply-unverified s p =
-    let same = seen s _ (replied-holds (Same s) s (refl, refl) _ _) in
+-- and no word but the results
+pub word-unverified : (word : Word) → (word ≡ Results → ⊥) → (s : Situation) (p : List ℕ)
+    → Unverified (hears (says word s)) (after (says word s) p)
+unfolding tvrOf tsiOf
+word-unverified word other s p =
+    let same = seen s _ (after-holds (Same s) word s p (left (Same s) word s p (refl, refl) (λ e. absurd (other e)))) in
     record { tvr = same .0; tsi = same .1 }
 
 -- ---- what the results set
@@ -110,19 +115,19 @@ module _ (s : Situation) (p : List ℕ) where
   done = verifiedBy s p
 
   -- the phase has TVR and TSI of the situation that the results make
-  as-made : (tvrOf (after (attendant s) p) ≡ done .tvr) × (tsiOf (after (attendant s) p) ≡ done .tsi)
-  unfolding after
+  as-made : (tvrOf (after (says Results s) p) ≡ done .tvr) × (tsiOf (after (says Results s) p) ≡ done .tsi)
+  unfolding leaving
   as-made =
-      holds-seen (λ (tvr tsi : List ℕ). (tvr ≡ done .tvr) × (tsi ≡ done .tsi)) (requested (afterRecords (s .facts)) done)
-      (requested-holds (λ t. (t .tvr ≡ done .tvr) × (t .tsi ≡ done .tsi)) done (refl, refl) (afterRecords (s .facts)))
+      holds-seen (λ (tvr tsi : List ℕ). (tvr ≡ done .tvr) × (tsi ≡ done .tsi)) (after (says Results s) p)
+      (after-holds (λ t. (t .tvr ≡ done .tvr) × (t .tsi ≡ done .tsi)) Results s p (refl, refl))
 
-  tvr-at : (i : ℕ) → getD (tvrOf (after (attendant s) p)) i 0 ≡ getD (done .tvr) i 0
+  tvr-at : (i : ℕ) → getD (tvrOf (after (says Results s) p)) i 0 ≡ getD (done .tvr) i 0
   tvr-at i = ap (λ (l : List ℕ). getD l i 0) (as-made .0)
 
-  tsi-at : (i : ℕ) → getD (tsiOf (after (attendant s) p)) i 0 ≡ getD (done .tsi) i 0
+  tsi-at : (i : ℕ) → getD (tsiOf (after (says Results s) p)) i 0 ≡ getD (done .tsi) i 0
   tsi-at i = ap (λ (l : List ℕ). getD l i 0) (as-made .1)
 
-  pub results-set : Verified s p (after (attendant s) p)
+  pub results-set : Verified s p (after (says Results s) p)
   unfolding verifiedBy
   results-set =
       record {
@@ -154,7 +159,7 @@ module _ (s : Situation) (p : List ℕ) where
   abbrev asking : Phase
   asking = asks (first made (firstRequest (made .terminal) (made .facts) (made .tvr)))
 
-  by-list : ByList (after (attendant s) p)
+  by-list : ByList (after (says Results s) p)
   unfolding after requested goesOn ended
   by-list =
       reason-of (λ (n : ℕ). ByList (pick (eqb n 0) asking (decides terminated n made))) (s .facts)
@@ -162,28 +167,28 @@ module _ (s : Situation) (p : List ℕ) where
       (subst ByList (sym (pick-no _ _ _ refl)) (refl, inl refl))
       (subst ByList (sym (pick-no _ _ _ refl)) (refl, inr refl))
 
-  pub ends-by-list : (outcome reason : ℕ) (t : Situation) → after (attendant s) p ≡ decides outcome reason t
+  pub ends-by-list : (outcome reason : ℕ) (t : Situation) → after (says Results s) p ≡ decides outcome reason t
       → (outcome ≡ terminated) × ((reason ≡ 8) ⊎ (reason ≡ 9))
   ends-by-list outcome reason t e = subst ByList e by-list
 
   -- and where results are awaited, nothing mandatory is missing: what they lead to is settled by 8C, which they do not touch
-  module _ (awaited : Awaited s) where
+  module _ (awaited : Awaited Results s) where
     reason-is : afterRecords (s .facts) ≡ pick (not (fillable (listIn s 0x8C))) 9 0
-    unfolding afterRecords completeReason firstOf listIn
+    unfolding afterRecords completeReason firstOf listIn Past
     reason-is =
         either (incomplete (λ name. isSome (s .facts name)))
         (λ y. absurd (eqb-false (afterRecords (s .facts)) 8 (awaited .complete) (pick-yes _ _ _ y)))
         (λ n. pick-no _ _ _ n)
 
     goes : (reason : ℕ) → afterRecords (s .facts) ≡ reason
-        → after (attendant s) p ≡ pick (eqb reason 0) asking (decides terminated reason made)
+        → after (says Results s) p ≡ pick (eqb reason 0) asking (decides terminated reason made)
     unfolding after requested goesOn ended
     goes reason e = ap (λ (n : ℕ). pick (eqb n 0) asking (decides terminated n made)) e
 
-    pub results-ask : fillable (listIn s 0x8C) ≡ true → after (attendant s) p ≡ asking
+    pub results-ask : fillable (listIn s 0x8C) ≡ true → after (says Results s) p ≡ asking
     results-ask h = goes 0 (reason-is ∙ pick-no _ _ _ (ap not h)) ∙ pick-yes _ _ _ refl
 
-    pub list-ends : fillable (listIn s 0x8C) ≡ false → after (attendant s) p ≡ decides terminated 9 made
+    pub list-ends : fillable (listIn s 0x8C) ≡ false → after (says Results s) p ≡ decides terminated 9 made
     list-ends h = goes 9 (reason-is ∙ pick-yes _ _ _ (ap not h)) ∙ pick-no _ _ _ refl
 
 -- ---- where START has no capabilities
@@ -197,17 +202,20 @@ unfolding withProfile withRecord managed answered
 of-lasts t = record { profile = λ s v h. h; told = λ s a h. h; read = λ s h. h; first = λ s h. h }
 
 module _ (w : Asked) (a : List ℕ) (s : Situation) where
-  -- where an answer makes results awaited, they are due to the same terminal
-  pub turn-awaits : turn w a ≡ hears (attendant s) → (s .terminal ≡ situationOf w .terminal) × Awaited s
-  unfolding Holds
-  turn-awaits e =
-      let t = situationOf w .terminal in
-      subst (Holds (λ u. u .terminal ≡ t)) e (turn-holds (λ u. u .terminal ≡ t) (of-lasts t) w a refl)
+  -- where an answer makes a word awaited, it is due to the same terminal
+  pub turn-awaits : (word : Word) → turn w a ≡ hears (says word s) → (s .terminal ≡ situationOf w .terminal) × Awaited word s
+  unfolding Holds Awaiting
+  turn-awaits word e =
+      let t = situationOf w .terminal in (
+        subst (Holds (λ u. u .terminal ≡ t)) e (turn-holds (λ u. u .terminal ≡ t) (of-lasts t) w a refl),
+        subst Awaiting e (turn-awaiting w a),
+      )
 
-  -- which has capabilities
-  pub turn-never : situationOf w .terminal .capabilities ≡ none → turn w a ≡ hears (attendant s) → ⊥
+  -- which for the results has capabilities
+  pub turn-never : situationOf w .terminal .capabilities ≡ none → turn w a ≡ hears (says Results s) → ⊥
+  unfolding Due
   turn-never e h =
-      let there = turn-awaits h in
+      let there = turn-awaits Results h in
       lacking (s .terminal) (s .profile) (s .facts) (ap (λ (t : Terminal). t .capabilities) (there .0) ∙ e) (there .1 .due)
 
 -- ---- whole sessions
@@ -236,23 +244,24 @@ bare-lasts =
       first = λ t h. (h .0, (h .1 .0, b7-stays-on (t .tsi) ∙ h .1 .1));
     }
 
-bare-plays : {q : Phase} {es : List Entry} (play : Plays q es) → Holds Bare q → Without es × Clear (phasesOf play)
-unfolding Holds phasesOf tvrOf tsiOf after issuerHeard dueKind
-bare-plays (exchanged {w} {a} c ok play) h =
-    let rest = bare-plays play (turn-holds Bare bare-lasts w a h) in
+bare-plays : {q : Phase} {es : List Entry} (play : Plays q es) → Holds Bare q → Awaiting q → Without es × Clear (phasesOf play)
+unfolding Holds Awaiting Due phasesOf tvrOf tsiOf dueKind
+bare-plays (exchanged {w} {a} c ok play) h aw =
+    let rest = bare-plays play (turn-holds Bare bare-lasts w a h) (turn-awaiting w a) in
     (((λ e. omega arith), ((λ e. omega arith), rest .0)), (h .1 .0, (h .1 .1, (h .1 .0, (h .1 .1, rest .1)))))
-bare-plays (heard {h = terminal} k fits ok play) h = absurd h
-bare-plays (heard {h = issuer s} k fits ok play) h =
-    let rest = bare-plays play (replied-holds Bare s h _ _) in
-    (((λ e. omega (arith, k)), rest .0), (h .1 .0, (h .1 .1, rest .1)))
-bare-plays (heard {h = attendant s} k fits ok play) h =
-    absurd (lacking (s .terminal) (s .profile) (s .facts) (h .0 .0) (h .1 .due))
-bare-plays (decided d) h = (((λ e. omega arith), tt), (h .1 .0, (h .1 .1, tt)))
+bare-plays (heard {h = terminal} f fits ok play) h aw = absurd h
+bare-plays (heard {h = says word s} {k} {p} f fits ok play) h aw =
+    let never : word ≡ Results → ⊥ =
+    λ e. lacking (s .terminal) (s .profile) (s .facts) (h .0) (subst (λ (x : Word). Due x s) e (aw .due)) in
+    let kept = left Bare word s p h (λ e. absurd (never e)) in
+    let rest = bare-plays play (after-holds Bare word s p kept) (after-awaiting word s p aw) in
+    (((λ e. never (results-kind word (sym f ∙ e))), rest .0), (h .1 .0, (h .1 .1, rest .1)))
+bare-plays (decided d) h aw = (((λ e. omega arith), tt), (h .1 .0, (h .1 .1, tt)))
 
 -- a session whose START has 74 bytes hands no results in, and sets neither
 pub old-session : (b : List ℕ) (es : List Entry) → length b ≤ startLength → (session : Plays opens (entry start b ∷ es))
     → Without (entry start b ∷ es) × Clear (phasesOf session)
-unfolding Holds phasesOf tvrOf tsiOf after opened begun situationOf zeros
+unfolding Holds Awaiting phasesOf tvrOf tsiOf after opened begun situationOf zeros
 old-session b es few (heard k fits ok play) =
-    let rest = bare-plays play (no-capabilities b few, (refl, refl)) in
+    let rest = bare-plays play (no-capabilities b few, (refl, refl)) tt in
     (((λ e. omega arith), rest .0), (refl, (refl, rest .1)))

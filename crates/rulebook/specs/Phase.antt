@@ -5,7 +5,9 @@ use mathlib.Core.Option.{Option, none, some}
 use Prim.Native.Nat.{ℕ}
 use Rattle.slices.specs.Writing.{zeros}
 use Rattle.dol_fill.specs.Filled.{filling}
-use Rattle.tape_read.specs.Entries.{start, host, results}
+use Rattle.tape_read.specs.Entries.{start}
+use Rattle.words.specs.Words.{wordKind}
+use Rattle.words.specs.declared.Word.{Word}
 use Rattle.commands.specs.Commands.{selectCommand, optionsCommand, recordCommand, cryptogramCommand}
 use Rattle.decide_cryptogram.specs.Cryptograms.{p1Of}
 use Rattle.decide_cryptogram.specs.declared.Cryptogram.{Cryptogram}
@@ -28,10 +30,8 @@ pub data Asked : Type 0 where
 pub data Heard : Type 0 where
   -- START
   terminal : Heard
-  -- the issuer's reply
-  issuer : Situation → Heard
-  -- the results of cardholder verification (02, R-7)
-  attendant : Situation → Heard
+  -- a word that is due in a situation: the issuer's reply, or the results of cardholder verification (02, R-7)
+  says : Word → Situation → Heard
 
 pub data Phase : Type 0 where
   -- a command is due, and then the card's answer
@@ -64,8 +64,7 @@ commandOf (second s request code) = cryptogramCommand (p1Of request) (filling (s
 -- the kind of the entry that says it (01, "The tape")
 unfoldable pub dueKind : Heard → ℕ
 dueKind terminal = start
-dueKind (issuer s) = host
-dueKind (attendant s) = results
+dueKind (says word s) = wordKind word
 
 -- the outcomes (01, "The tape")
 abbrev pub approved : ℕ
@@ -91,13 +90,11 @@ ended reason s = decides terminated reason s
 unfoldable pub tvrOf : Phase → List ℕ
 tvrOf (asks w) = situationOf w .tvr
 tvrOf (hears terminal) = zeros 5
-tvrOf (hears (issuer s)) = s .tvr
-tvrOf (hears (attendant s)) = s .tvr
+tvrOf (hears (says word s)) = s .tvr
 tvrOf (decides outcome reason s) = s .tvr
 
 unfoldable pub tsiOf : Phase → List ℕ
 tsiOf (asks w) = situationOf w .tsi
 tsiOf (hears terminal) = zeros 2
-tsiOf (hears (issuer s)) = s .tsi
-tsiOf (hears (attendant s)) = s .tsi
+tsiOf (hears (says word s)) = s .tsi
 tsiOf (decides outcome reason s) = s .tsi

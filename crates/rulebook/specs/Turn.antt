@@ -10,9 +10,11 @@ use Rattle.slices.specs.Choice.{pick}
 use Rattle.slices.specs.Tests.{isSome}
 use Rattle.start_fields.specs.Reading.{Terminal, readingOf}
 use Rattle.start_valid.specs.Start.{validStart}
-use Rattle.session_records.specs.Slots.{orElse}
+use Rattle.session_records.specs.Slots.{Facts, orElse}
 use Rattle.answer_common.specs.Content.{namesFor}
-use Rattle.cvm.specs.Lists.{areResults}
+use Rattle.words.specs.Words.{wordAllowed}
+use Rattle.words.specs.declared.Word.{Word}
+use Rattle.words.specs.declared.Word.the-variants.{Host, Results}
 use Rattle.dol_wanted.specs.Wanted.{fillable}
 use Rattle.answer_select.specs.Select.{selectReason, pdolOf}
 use Rattle.answer_gpo.specs.Options.{optionsReason, profileOf, locatorOf}
@@ -28,14 +30,14 @@ use Rattle.decide_cryptogram.specs.declared.Given.{Given}
 use Rattle.decide_cryptogram.specs.declared.Given.the-variants.{Of, Reserved}
 use Rattle.decide_cryptogram.specs.declared.Request.the-variants.{First, Second}
 use Rattle.decide_requests.specs.Requests.{firstRequest, secondRequest}
-use Rattle.decide_requests.specs.Replies.{codeIn, replyOf, isReply, responseCode}
+use Rattle.decide_requests.specs.Replies.{codeIn, replyOf, responseCode}
 use Rattle.decide_requests.specs.declared.reply.HostReply.{HostReply}
 use Rattle.decide_requests.specs.declared.reply.HostReply.the-variants.{Unable}
 use Rattle.decide_requests.specs.declared.reply.HostHeard.{HostHeard}
 use Rattle.decide_requests.specs.declared.reply.HostHeard.the-variants.{Said, Nothing}
 use Rattle.rulebook.specs.Situation.{Situation, begun, listIn}
 use Rattle.rulebook.specs.Phase.{Asked, selecting, optioning, reading, first, second, Heard, terminal}
-use Rattle.rulebook.specs.Phase.{issuer, attendant, Phase, asks, hears, decided, ended, approved, declined}
+use Rattle.rulebook.specs.Phase.{says, Phase, asks, hears, decided, ended, approved, declined}
 
 -- a bad answer ends the session with its reason; otherwise it goes on
 unfoldable pub goesOn : ℕ → Situation → Phase → Phase
@@ -67,7 +69,7 @@ requested reason s = goesOn reason s (asks (first s (firstRequest (s .terminal) 
 -- the results of cardholder verification, where they are due; else the first request (02, R-7)
 unfoldable pub verifying : Situation → Phase
 verifying s =
-    pick (resultsDue (s .terminal) (s .profile) (s .facts)) (hears (attendant s)) (requested (afterRecords (s .facts)) s)
+    pick (resultsDue (s .terminal) (s .profile) (s .facts)) (hears (says Results s)) (requested (afterRecords (s .facts)) s)
 
 -- after the last record: 8 comes before the bits are set; 9 after, and after the results of cardholder verification
 unfoldable pub allRead : Situation → Phase
@@ -113,7 +115,7 @@ replied s reply code =
 
 -- an ARQC waits for the issuer; a terminal of type 0 goes on as unable
 unfoldable pub online : Situation → Phase
-online s = pick (eqb (s .terminal .kind) 0) (replied s Unable []) (hears (issuer s))
+online s = pick (eqb (s .terminal .kind) 0) (replied s Unable []) (hears (says Host s))
 
 -- a TC approves, an AAC declines, an ARQC goes online; the reserved type does not come here, since no request allows it
 unfoldable pub byFirst : Given → Situation → Phase
@@ -145,11 +147,15 @@ turn (reading s number file rest) a = recorded s rest a
 turn (first s request) a = firstAnswered s request a
 turn (second s request code) a = secondAnswered s request a
 
--- what may be said: a valid START (01, "The tape"); one of the issuer's replies; a result for each rule (02, R-7)
+-- how many are wanted of what is counted in a word: a result for each rule (02, R-7)
+unfoldable pub wantedIn : Word → Facts → ℕ
+wantedIn Host facts = 0
+wantedIn Results facts = resultsWanted facts
+
+-- what may be said: a valid START (01, "The tape"), or what the word that is due allows
 unfoldable pub allowed : Heard → List ℕ → Bool
 allowed terminal p = validStart p
-allowed (issuer s) p = isReply (replyOf p)
-allowed (attendant s) p = areResults (resultsWanted (s .facts)) p
+allowed (says word s) p = wordAllowed word (wantedIn word (s .facts)) p
 
 -- the reply that is made; what is none is not allowed, and counts as unable
 unfoldable pub replyMade : HostHeard → HostReply
@@ -174,5 +180,5 @@ verifiedBy s results =
 -- after what somebody else says
 unfoldable pub after : Heard → List ℕ → Phase
 after terminal p = opened (readingOf p)
-after (issuer s) p = heard s (replyMade (replyOf p)) p
-after (attendant s) p = requested (afterRecords (s .facts)) (verifiedBy s p)
+after (says Host s) p = heard s (replyMade (replyOf p)) p
+after (says Results s) p = requested (afterRecords (s .facts)) (verifiedBy s p)

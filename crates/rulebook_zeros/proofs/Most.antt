@@ -25,7 +25,9 @@ use Rattle.dol_fill.specs.Filled.{unsupplied}
 use Rattle.dol_fill.proofs.Missing.{unsupplied-half}
 use Rattle.rulebook.specs.Situation.{Situation, begun, knownIn, listIn}
 use Rattle.rulebook.specs.Phase.{Asked, selecting, optioning, reading, first, second, Heard}
-use Rattle.rulebook.specs.Phase.{terminal, issuer, attendant, Phase, opens, asks, hears, decides}
+use Rattle.words.specs.declared.Word.{Word}
+use Rattle.words.specs.declared.Word.the-variants.{Host, Results}
+use Rattle.rulebook.specs.Phase.{terminal, says, Phase, opens, asks, hears, decides}
 use Rattle.rulebook.specs.Turn.{goesOn, opened, selected, managed, requested, verifying, allRead, readOn}
 use Rattle.rulebook.specs.Turn.{withProfile, optioned, withRecord, recorded, answered, replied, online, byFirst}
 use Rattle.rulebook.specs.Turn.{firstAnswered, secondAnswered, turn, replyMade, heard, verifiedBy, after}
@@ -56,8 +58,7 @@ Short s = (tag : ℕ) → length (listIn s tag) ≤ valueMost
 abbrev ShortIn : Phase → Type 0
 ShortIn (asks w) = Short (situationOf w)
 ShortIn (hears terminal) = Unit {0}
-ShortIn (hears (issuer s)) = Short s
-ShortIn (hears (attendant s)) = Short s
+ShortIn (hears (says word s)) = Short s
 ShortIn (decides outcome reason s) = Unit {0}
 
 -- the most that the lists still to come can add
@@ -68,11 +69,14 @@ leftAsking (reading s number file rest) = 2 * mostEntries
 leftAsking (first s request) = mostEntries
 leftAsking (second s request code) = 0
 
+unfoldable leftBefore : Word → ℕ
+leftBefore Host = mostEntries
+leftBefore Results = 2 * mostEntries
+
 unfoldable leftIn : Phase → ℕ
 leftIn (asks w) = leftAsking w
 leftIn (hears terminal) = 3 * mostEntries
-leftIn (hears (issuer s)) = mostEntries
-leftIn (hears (attendant s)) = 2 * mostEntries
+leftIn (hears (says word s)) = leftBefore word
 leftIn (decides outcome reason s) = 0
 
 -- a phase adds and leaves no more than n
@@ -153,7 +157,7 @@ module _ (s : Situation) (short : Short s) where
       goes-within (2 * mostEntries) reason s (asks (first s request)) (short, omega arith)
 
   verifying-within : Within (2 * mostEntries) (verifying s)
-  unfolding verifying unsuppliedIn leftIn
+  unfolding verifying unsuppliedIn leftIn leftBefore
   verifying-within =
       picked (Within (2 * mostEntries)) (resultsDue (s .terminal) (s .profile) (s .facts)) _ _ (λ y. (short, omega arith))
       (λ n. requested-within (afterRecords (s .facts)))
@@ -167,7 +171,7 @@ module _ (s : Situation) (short : Short s) where
       (λ y. (short, omega arith)) (λ n. ended-within mostEntries 9 s)
 
   online-within : Within mostEntries (online s)
-  unfolding online unsuppliedIn leftIn
+  unfolding online unsuppliedIn leftIn leftBefore
   online-within =
       picked (Within mostEntries) (eqb (s .terminal .kind) 0) _ _ (λ y. replied-within Unable []) (λ n. (short, omega arith))
 
@@ -202,10 +206,10 @@ turn-within (first s request) a short = goes-within _ _ s _ (by-first-within (an
 turn-within (second s request code) a short = goes-within _ _ s _ (decided-within 0 _ s)
 
 after-within : (h : Heard) (p : List ℕ) → ShortIn (hears h) → Within (leftIn (hears h)) (after h p)
-unfolding after opened heard leftIn leftAsking unsuppliedIn unsuppliedAsking situationOf begun listIn
+unfolding after opened heard leftIn leftAsking leftBefore unsuppliedIn unsuppliedAsking situationOf begun listIn
 after-within terminal p short = ((λ tag. omega arith), omega arith)
-after-within (issuer s) p short = replied-within s short (replyMade (replyOf p)) (codeIn p)
-after-within (attendant s) p short = requested-within (verifiedBy s p) (verified-short s short p) (afterRecords (s .facts))
+after-within (says Host s) p short = replied-within s short (replyMade (replyOf p)) (codeIn p)
+after-within (says Results s) p short = requested-within (verifiedBy s p) (verified-short s short p) (afterRecords (s .facts))
 
 -- ---- and so does the machine
 

@@ -1,16 +1,12 @@
 -- An accepted event, by its payload: the rulebook's transition, read off the state, and the state that goes on from there. The kind of
 -- the event is that of what the state waits for; whoever hands it in has seen to that.
 -- Assumes nothing.
-use mathlib.Core.Bool.{Bool}
 use mathlib.Core.List.{List}
 use Prim.Native.Nat.{ℕ}
-use Rattle.start_valid.specs.Start.{validStart}
-use Rattle.cvm.specs.Lists.{areResults}
-use Rattle.decide_requests.specs.Replies.{replyOf, isReply}
 use Rattle.rulebook.specs.Turn.{turn, after}
 use Rattle.session_phase.specs.declared.Question.{Question}
 use Rattle.session_phase.specs.declared.Speaker.{Speaker}
-use Rattle.session_phase.specs.declared.Speaker.the-variants.{Terminal, Issuer, Attendant}
+use Rattle.session_phase.specs.declared.Speaker.the-variants.{Terminal, Says}
 use Rattle.session_phase.specs.declared.Waiting.{Waiting}
 use Rattle.session_phase.specs.declared.Waiting.the-variants.{ForCard, ForWord, Decided, Closed}
 use Rattle.session_state.specs.Reading.{askedBy, heardBy}
@@ -26,8 +22,7 @@ answerStep question s a buf = moved (turn (askedBy question s) a) (keeping (aske
 -- somebody else's word: with START the state begins anew
 unfoldable pub keepingWord : Speaker → List ℕ → State → State
 keepingWord Terminal p s = begun p
-keepingWord Issuer p s = s
-keepingWord (Attendant count) p s = s
+keepingWord (Says word count) p s = s
 
 unfoldable pub wordStep : Speaker → State → List ℕ → List ℕ → Moved
 wordStep speaker s p buf = moved (after (heardBy speaker s) p) (keepingWord speaker p s) buf
@@ -41,9 +36,3 @@ stepAt Closed s p buf = unmoved s buf
 
 unfoldable pub step : State → List ℕ → List ℕ → Moved
 step s p buf = stepAt (s .waiting) s p buf
-
--- what may be said: a valid START, one of the issuer's replies, so many results
-unfoldable pub allowedBy : Speaker → List ℕ → Bool
-allowedBy Terminal p = validStart p
-allowedBy Issuer p = isReply (replyOf p)
-allowedBy (Attendant count) p = areResults count p

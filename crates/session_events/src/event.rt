@@ -1,10 +1,8 @@
 // One event, one step on.
 use commands::write;
-use cvm::list::are_results;
 use decide_requests::reply::HostHeard;
 use decide_requests::reply::HostReply;
 use decide_requests::reply::code_in;
-use decide_requests::reply::is_reply;
 use decide_requests::reply::reply_of;
 use session_moves::Step;
 use session_online::request_second;
@@ -15,17 +13,18 @@ use session_phase::Waiting;
 use session_state::State;
 use session_state::change::begun;
 use session_verification::on_results;
-use start_valid::valid_start;
+use words::Word;
 ghost use mathlib.Core.Path.{_≡_};
 ghost use mathlib.Core.List.{List};
 ghost use Rattle.start_fields.specs.Reading.{readingOf};
 ghost use Rattle.decide_requests.specs.Replies.{replyOf};
-ghost use Rattle.rulebook.specs.Turn.{opened, heard, replyMade};
+ghost use Rattle.rulebook.specs.Phase.{says};
+ghost use Rattle.rulebook.specs.Turn.{opened, heard, replyMade, after};
 ghost use Rattle.session_phase.specs.declared.Reply.the-variants.{Refused};
 ghost use Rattle.session_state.specs.Reading.{late};
 ghost use Rattle.session_state.specs.Keeping.{begun as begunState};
 ghost use Rattle.session_moves.specs.Moves.{played, moved};
-ghost use Rattle.session_events.specs.Events.{answerStep, wordStep, step as stepOf, allowedBy};
+ghost use Rattle.session_events.specs.Events.{answerStep, wordStep, step as stepOf};
 
 // START. What was known before does not matter.
 fn on_start(terminal: &[u8], buf: &mut [u8]) -> Step
@@ -57,13 +56,21 @@ fn on_reply(s: State, h: &[u8], buf: &mut [u8]) -> Step
     request_second(s, reply_made(h), code_in(h), buf)
 }
 
-fn on_word(s: State, speaker: Speaker, p: &[u8], buf: &mut [u8]) -> Step
+fn on_word(s: State, word: Word, p: &[u8], buf: &mut [u8]) -> Step
+    ensures { λ r. ⌜ played r (now (buf .exit)) ≡ moved (after (says word (late s)) (now (p .entry))) s (now (buf .entry)) ⌝ }
+{
+    match word {
+        Word::Host => on_reply(s, p, buf),
+        Word::Results => on_results(s, p, buf),
+    }
+}
+
+fn by_speaker(s: State, speaker: Speaker, p: &[u8], buf: &mut [u8]) -> Step
     ensures { λ r. ⌜ played r (now (buf .exit)) ≡ wordStep speaker s (now (p .entry)) (now (buf .entry)) ⌝ }
 {
     match speaker {
         Speaker::Terminal => on_start(p, buf),
-        Speaker::Issuer => on_reply(s, p, buf),
-        Speaker::Attendant(_) => on_results(s, p, buf),
+        Speaker::Says(word, _) => on_word(s, word, p, buf),
     }
 }
 
@@ -96,19 +103,8 @@ pub fn step(s: State, p: &[u8], buf: &mut [u8]) -> Step
     let waiting = s.waiting;
     match waiting {
         Waiting::ForCard(question) => on_answer(s, question, p, buf),
-        Waiting::ForWord(speaker) => on_word(s, speaker, p, buf),
+        Waiting::ForWord(speaker) => by_speaker(s, speaker, p, buf),
         Waiting::Decided(_, _) => stay(s),
         Waiting::Closed => stay(s),
-    }
-}
-
-// Whether somebody's word may be taken.
-pub fn is_allowed(speaker: Speaker, p: &[u8]) -> bool
-    ensures { λ r. ⌜ r ≡ allowedBy speaker (now (p .entry)) ⌝ }
-{
-    match speaker {
-        Speaker::Terminal => valid_start(p),
-        Speaker::Issuer => is_reply(p),
-        Speaker::Attendant(count) => are_results(count, p),
     }
 }

@@ -13,35 +13,29 @@ use Rattle.slices.proofs.Choice.{picked, either}
 use Rattle.slices.specs.Tests.{isSome}
 use Rattle.start_fields.specs.Layout.{fullLength}
 use Rattle.start_fields.specs.Reading.{readingOf}
-use Rattle.dol_wanted.specs.Wanted.{fillable}
 use Rattle.answer_afl.specs.Cursor.{isLeft}
 use Rattle.answer_afl.proofs.Walking.{none-remain, one-less}
 use Rattle.answer_select.specs.Select.{selectReason}
 use Rattle.answer_gpo.specs.Options.{optionsReason}
 use Rattle.answer_common.specs.Content.{namesFor}
-use Rattle.answer_record.specs.Records.{recordReason, afterRecords}
+use Rattle.answer_record.specs.Records.{recordReason}
 use Rattle.answer_cryptogram.specs.Cryptogram.{cryptogramReason, cryptogramOf}
 use Rattle.start_valid.proofs.Laws.{valid-length}
-use Rattle.decide_verification.specs.Verification.{resultsDue}
-use Rattle.decide_requests.specs.Replies.{codeIn, replyOf}
 use Rattle.decide_cryptogram.specs.Cryptograms.{allowedBy}
 use Rattle.decide_cryptogram.specs.declared.Cryptogram.{Cryptogram}
-use Rattle.decide_cryptogram.specs.declared.Cryptogram.the-variants.{Aac, Tc, Arqc}
-use Rattle.decide_cryptogram.specs.declared.Given.{Given}
-use Rattle.decide_cryptogram.specs.declared.Given.the-variants.{Of, Reserved}
 use Rattle.decide_cryptogram.specs.declared.Request.the-variants.{First, Second}
-use Rattle.decide_requests.specs.declared.reply.HostReply.{HostReply}
-use Rattle.decide_requests.specs.declared.reply.HostReply.the-variants.{Unable}
-use Rattle.rulebook.specs.Situation.{Situation, listIn, begun as situationBegun}
-use Rattle.rulebook.specs.Phase.{Asked, selecting, optioning, reading, first, second, attendant, Phase}
-use Rattle.rulebook.specs.Phase.{hears, decides, situationOf, terminated, decided, ended, tvrOf, tsiOf}
-use Rattle.rulebook.specs.Turn.{goesOn, opened, selected, managed, requested, verifying, allRead, readOn, optioned, recorded, answered}
-use Rattle.rulebook.specs.Turn.{replied, online, byFirst, firstAnswered, secondAnswered, turn, allowed, replyMade, heard, verifiedBy, after}
+use Rattle.words.specs.declared.Word.{Word}
+use Rattle.rulebook.specs.Situation.{Situation, begun as situationBegun}
+use Rattle.rulebook.specs.Phase.{Asked, selecting, optioning, reading, first, second, says, Phase}
+use Rattle.rulebook.specs.Phase.{asks, hears, decides, situationOf, decided, ended, tvrOf, tsiOf}
+use Rattle.rulebook.specs.Turn.{goesOn, opened, selected, managed, allRead, readOn, optioned, recorded, answered}
+use Rattle.rulebook.specs.Turn.{firstAnswered, secondAnswered, turn, allowed, verifiedBy, after}
+use Rattle.rulebook.proofs.Passing.{past-all, left, Leads, first-leads, after-leads, all-read-leads}
 use Rattle.session_state.specs.Reading.{startIn, situationWith, early, late, recordsLeft, askedBy, heardBy}
 use Rattle.session_phase.specs.declared.Question.{Question}
 use Rattle.session_phase.specs.declared.Question.the-variants.{Select, Options, Record, First, Second}
 use Rattle.session_phase.specs.declared.Speaker.{Speaker}
-use Rattle.session_phase.specs.declared.Speaker.the-variants.{Terminal, Issuer, Attendant}
+use Rattle.session_phase.specs.declared.Speaker.the-variants.{Terminal, Says}
 use Rattle.session_records.specs.Slots.{told, withRecord}
 use Rattle.session_records.specs.Runs.{inRun}
 use Rattle.session_state.specs.Keeping.{withTold, withOptions, changed, stateAt, begun}
@@ -83,41 +77,39 @@ module _ (s : State) where
       record { terminal = readingOf (startIn s); profile = s .profile; facts = told (s .told); tvr = tvr; tsi = tsi }
 
   module _ (tvr tsi : List ℕ) where
-    abbrev z : Situation
-    z = lateWith tvr tsi
+    asking-first : (request : Cryptogram) → Fits (asks (first (lateWith tvr tsi) request)) s
+    unfolding Fits Knows forgets standing changed keptAs questionOf tvrOf tsiOf situationOf cursorAfter cursorAsking askedBy late
+        situationWith
+    asking-first request = refl
 
-    requested-fits : (reason : ℕ) → Fits (requested reason z) s
-    unfolding requested Fits Knows forgets standing changed keptAs questionOf tvrOf tsiOf situationOf cursorAfter cursorAsking askedBy
-        late situationWith
-    requested-fits reason = goes-fits reason z _ refl
+    asking-second : (request : Cryptogram) (code : List ℕ) → Fits (asks (second (lateWith tvr tsi) request code)) s
+    unfolding Fits Knows forgets standing changed keptAs questionOf tvrOf tsiOf situationOf cursorAfter cursorAsking askedBy late
+        situationWith
+    asking-second request code = refl
 
-    verifying-fits : Fits (verifying z) s
-    unfolding verifying Fits Knows standing changed keptAs speakerOf heardBy tvrOf tsiOf cursorAfter late situationWith
-    verifying-fits =
-        picked (λ (q : Phase). Fits q s) (resultsDue (z .terminal) (z .profile) (z .facts)) _ _ (λ y. refl)
-        (λ n. requested-fits (afterRecords (z .facts)))
+    hearing-word : (word : Word) → Fits (hears (says word (lateWith tvr tsi))) s
+    unfolding Fits Knows standing changed keptAs speakerOf heardBy tvrOf tsiOf cursorAfter late situationWith
+    hearing-word word = refl
 
-    replied-fits : (reply : HostReply) (code : List ℕ) → Fits (replied z reply code) s
-    unfolding replied ended Fits Knows forgets standing changed keptAs questionOf tvrOf tsiOf situationOf cursorAfter cursorAsking
-        askedBy late situationWith
-    replied-fits reply code = picked (λ (q : Phase). Fits q s) (fillable (listIn z 0x8D)) _ _ (λ y. refl) (λ n. decides-fits terminated 9 z)
+  -- so it is with any situation that is read off the state but for TVR and TSI
+  abbrev OfState : Situation → Type 0
+  OfState z = lateWith (z .tvr) (z .tsi) ≡ z
 
-    online-fits : Fits (online z) s
-    unfolding online Fits Knows standing changed keptAs speakerOf heardBy tvrOf tsiOf cursorAfter late situationWith
-    online-fits = picked (λ (q : Phase). Fits q s) (eqb (z .terminal .kind) 0) _ _ (λ y. replied-fits Unable []) (λ n. refl)
-
-    by-first-fits : (given : Given) → Fits (byFirst given z) s
-    unfolding byFirst decided
-    by-first-fits (Of Tc) = decides-fits _ 0 z
-    by-first-fits (Of Aac) = decides-fits _ 0 z
-    by-first-fits (Of Arqc) = online-fits
-    by-first-fits Reserved = decides-fits _ 0 z
+  onward : Leads OfState (λ z. Unit {0}) (λ p. Fits p s)
+  onward =
+      record {
+        decision = λ outcome reason z q. decides-fits outcome reason z;
+        first = λ z request q. subst (λ (x : Situation). Fits (asks (first x request)) s) q (asking-first (z .tvr) (z .tsi) request);
+        second =
+            λ z request code q.
+            subst (λ (x : Situation). Fits (asks (second x request code)) s) q (asking-second (z .tvr) (z .tsi) request code);
+        word = λ word z q past due. subst (λ (x : Situation). Fits (hears (says word x)) s) q (hearing-word (z .tvr) (z .tsi) word);
+        complete = λ z n. tt;
+      }
 
   all-read-fits : Fits (allRead (late s)) s
-  unfolding allRead ended managed late situationWith
-  all-read-fits =
-      picked (λ (q : Phase). Fits q s) (eqb (afterRecords (late s .facts)) 8) _ _ (λ y. decides-fits _ 8 (late s))
-      (λ n. verifying-fits (managed (late s) .tvr) (managed (late s) .tsi))
+  unfolding managed late situationWith
+  all-read-fits = all-read-leads onward (late s) refl refl
 
   -- the next record is the one at the cursor, and the cursor goes one further
   read-fits : Fits (readOn (late s) (recordsLeft s)) s
@@ -163,7 +155,7 @@ module _ (s : State) (a : List ℕ) where
   unfolding turn keeping firstAnswered answered late situationWith
   first-fits request =
       goes-fits s (cryptogramReason (allowedBy (First request)) a) (late s) _
-      (by-first-fits s (s .tvr) (answered (late s) .tsi) (cryptogramOf a))
+      (first-leads (onward s) (answered (late s)) refl (cryptogramOf a))
 
   second-fits : (request : Cryptogram) → Turns (second (late s) request [])
   unfolding turn keeping secondAnswered decided
@@ -187,8 +179,8 @@ started-fits b e = ap (λ (z : Situation). selecting z) (early-begun b e)
 -- somebody else's word that may be taken
 pub word-fits : (speaker : Speaker) (s : State) (p : List ℕ) → allowed (heardBy speaker s) p ≡ true
     → Fits (after (heardBy speaker s) p) (keepingWord speaker p s)
-unfolding heardBy allowed after keepingWord heard verifiedBy late situationWith
+unfolding heardBy allowed after keepingWord verifiedBy late situationWith
 word-fits Terminal s p fits = started-fits p (valid-length p fits)
-word-fits Issuer s p fits = replied-fits s (s .tvr) (s .tsi) (replyMade (replyOf p)) (codeIn p)
-word-fits (Attendant count) s p fits =
-    requested-fits s (verifiedBy (late s) p .tvr) (verifiedBy (late s) p .tsi) (afterRecords (late s .facts))
+word-fits (Says word count) s p fits =
+    after-leads (onward s) word (late s) p (left (OfState s) word (late s) p refl (λ e. refl))
+    (past-all (λ z. Unit {0}) (λ z. tt) word (late s))

@@ -8,14 +8,14 @@ use Rattle.slices.specs.Writing.{laid}
 use Rattle.commands.specs.Commands.{sizeIn}
 use Rattle.answer_afl.specs.Cursor.{stepped}
 use Rattle.answer_afl.specs.declared.cursor.Cursor.{Cursor}
-use Rattle.decide_verification.specs.Verification.{resultsWanted}
-use Rattle.rulebook.specs.Phase.{Asked, selecting, optioning, reading, first, second, Heard, terminal, issuer}
-use Rattle.rulebook.specs.Phase.{attendant, Phase, asks, hears, decides, commandOf, dueKind, tvrOf, tsiOf}
+use Rattle.rulebook.specs.Phase.{Asked, selecting, optioning, reading, first, second, Heard, terminal, says}
+use Rattle.rulebook.specs.Phase.{Phase, asks, hears, decides, commandOf, dueKind, tvrOf, tsiOf}
+use Rattle.rulebook.specs.Turn.{wantedIn}
 use Rattle.rulebook_zeros.specs.Zeros.{unsuppliedIn}
 use Rattle.session_phase.specs.declared.Question.{Question}
 use Rattle.session_phase.specs.declared.Question.the-variants.{Select, Options, Record, First, Second}
 use Rattle.session_phase.specs.declared.Speaker.{Speaker}
-use Rattle.session_phase.specs.declared.Speaker.the-variants.{Terminal, Issuer, Attendant}
+use Rattle.session_phase.specs.declared.Speaker.the-variants.{Terminal, Says}
 use Rattle.session_phase.specs.declared.Waiting.{Waiting}
 use Rattle.session_phase.specs.declared.Waiting.the-variants.{ForCard, ForWord, Decided}
 use Rattle.session_phase.specs.declared.Reply.{Reply}
@@ -45,8 +45,7 @@ questionOf (second s request code) = Second request
 
 unfoldable pub speakerOf : Heard → Speaker
 speakerOf terminal = Terminal
-speakerOf (issuer s) = Issuer
-speakerOf (attendant s) = Attendant (resultsWanted (s .facts))
+speakerOf (says word s) = Says word (wantedIn word (s .facts))
 
 unfoldable pub keptAs : Phase → Waiting
 keptAs (asks w) = ForCard (questionOf w)

@@ -2,14 +2,18 @@
 use crate::Step;
 use session_phase::Question;
 use session_phase::Reply;
+use session_phase::Speaker;
 use session_phase::Waiting;
 use session_state::State;
 use session_state::change::change;
+use words::Word;
 ghost use mathlib.Core.Path.{_≡_};
 ghost use Prim.Native.Nat.{_%_};
 ghost use Rattle.session_moves.specs.Moves.{waitingFor, askedFor};
-ghost use Rattle.session_phase.specs.declared.Reply.the-variants.{Decided as DecidedReply};
-ghost use Rattle.session_phase.specs.declared.Waiting.the-variants.{Decided as DecidedKept};
+ghost use Rattle.session_phase.specs.declared.Reply.the-variants.{Due, Decided as DecidedReply};
+ghost use Rattle.session_phase.specs.declared.Speaker.the-variants.{Says};
+ghost use Rattle.session_phase.specs.declared.Waiting.the-variants.{ForWord, Decided as DecidedKept};
+ghost use Rattle.words.specs.Words.{wordKind};
 
 // The same state, but for what is waited for.
 pub fn wait(s: State, waiting: Waiting, reply: Reply) -> Step
@@ -37,6 +41,17 @@ pub fn ask(s: State, question: Question, n: usize, zeros: usize) -> Step
         reply: Reply::Command(n),
         zeros,
     }
+}
+
+// The same state, with somebody's word due, and so many wanted of what is counted in it.
+pub fn hear(s: State, word: Word, count: usize) -> Step
+    ensures { λ r. ⌜ r ≡ waitingFor (ForWord (Says word count)) (Due (wordKind word)) s ⌝ }
+{
+    wait(
+        s,
+        Waiting::ForWord(Speaker::Says(word, count)),
+        Reply::Due(words::kind(word)),
+    )
 }
 
 pub fn decide(s: State, outcome: u8) -> Step

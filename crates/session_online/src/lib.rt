@@ -11,18 +11,15 @@ use session_moves::command::missing;
 use session_moves::ends::ask;
 use session_moves::ends::decide;
 use session_moves::ends::end;
-use session_moves::ends::wait;
+use session_moves::ends::hear;
 use session_moves::known::at_second;
 use session_phase::Question;
-use session_phase::Reply;
-use session_phase::Speaker;
-use session_phase::Waiting;
 use session_records::records::bytes_of;
 use session_records::slots::value;
 use session_state::State;
 use slices::part;
 use start_fields::fields;
-use tape_read::HOST;
+use words::Word;
 ghost use mathlib.Core.Path.{_≡_};
 ghost use Rattle.decide_requests.specs.Requests.{secondRequest};
 ghost use Rattle.start_fields.specs.Reading.{readingOf};
@@ -68,7 +65,7 @@ fn go_online(s: State, buf: &mut [u8]) -> Step
     if fields::kind(part(&start, 0, size)) == 0 {
         request_second(s, HostReply::Unable, [0, 0], buf)
     } else {
-        wait(s, Waiting::ForWord(Speaker::Issuer), Reply::Due(HOST))
+        hear(s, Word::Host, 0)
     }
 }
 

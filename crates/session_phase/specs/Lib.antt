@@ -1,2 +1,3 @@
--- What a session waits for.
+-- What a session waits for, and what it may be told.
 pub mod Waiting
+pub mod Saying

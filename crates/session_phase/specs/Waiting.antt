@@ -4,17 +4,17 @@
 use mathlib.Core.Bool.{Bool, true, false}
 use Prim.Native.Nat.{ℕ}
 use lib.Dec.{eqb}
-use Rattle.tape_read.specs.Entries.{start, answer, host, results}
+use Rattle.tape_read.specs.Entries.{start, answer}
+use Rattle.words.specs.Words.{wordKind}
 use Rattle.session_phase.specs.declared.Speaker.{Speaker}
-use Rattle.session_phase.specs.declared.Speaker.the-variants.{Terminal, Issuer, Attendant}
+use Rattle.session_phase.specs.declared.Speaker.the-variants.{Terminal, Says}
 use Rattle.session_phase.specs.declared.Waiting.{Waiting}
 use Rattle.session_phase.specs.declared.Waiting.the-variants.{ForCard, ForWord, Decided, Closed}
 
 -- the kind of the entry that has somebody's word
 unfoldable pub kindOf : Speaker → ℕ
 kindOf Terminal = start
-kindOf Issuer = host
-kindOf (Attendant count) = results
+kindOf (Says word count) = wordKind word
 
 -- the kind of the entry that is due; 0, the kind of no entry, after a decision or a closing silence
 unfoldable pub awaited : Waiting → ℕ
@@ -23,11 +23,10 @@ awaited (ForWord speaker) = kindOf speaker
 awaited (Decided outcome reason) = 0
 awaited Closed = 0
 
--- how many results of cardholder verification are due; 0 where none are
+-- how many are wanted of what is counted, the results of cardholder verification (02, R-7); 0 where nothing is
 unfoldable pub wantedOf : Speaker → ℕ
 wantedOf Terminal = 0
-wantedOf Issuer = 0
-wantedOf (Attendant count) = count
+wantedOf (Says word count) = count
 
 unfoldable pub resultsIn : Waiting → ℕ
 resultsIn (ForCard question) = 0

@@ -2,8 +2,6 @@
 use crate::Speaker;
 use crate::Waiting;
 use tape_read::ANSWER;
-use tape_read::HOST;
-use tape_read::RESULTS;
 use tape_read::START;
 ghost use mathlib.Core.Path.{_≡_};
 ghost use Rattle.session_phase.specs.Waiting.{kindOf, awaited, wantedOf, resultsIn, outcomeOf, reasonOf};
@@ -14,8 +12,7 @@ pub fn kind_of(speaker: Speaker) -> u8
 {
     match speaker {
         Speaker::Terminal => START,
-        Speaker::Issuer => HOST,
-        Speaker::Attendant(_) => RESULTS,
+        Speaker::Says(word, _) => words::kind(word),
     }
 }
 
@@ -31,14 +28,13 @@ pub fn awaits(waiting: Waiting) -> u8
     }
 }
 
-// How many results somebody is to hand in.
+// How many somebody is to hand in.
 fn wanted(speaker: Speaker) -> usize
     ensures { λ r. ⌜ r ≡ wantedOf speaker ⌝ }
 {
     match speaker {
         Speaker::Terminal => 0,
-        Speaker::Issuer => 0,
-        Speaker::Attendant(count) => count,
+        Speaker::Says(_, count) => count,
     }
 }
 

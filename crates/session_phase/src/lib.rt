@@ -1,5 +1,6 @@
 // What a session waits for, and what a call is answered with.
 mod due;
+mod say;
 
 use decide_cryptogram::Cryptogram;
 pub use due::awaits;
@@ -7,6 +8,9 @@ pub use due::kind_of;
 pub use due::outcome;
 pub use due::reason;
 pub use due::results_due;
+pub use say::is_allowed;
+pub use say::refusal_by;
+use words::Word;
 
 // What the card was asked.
 pub enum Question {
@@ -17,12 +21,11 @@ pub enum Question {
     Second(Cryptogram),
 }
 
-// Who else can have the next word: the terminal with START, the issuer with its reply, the attendant with so many results of
-// cardholder verification.
+// Who else can have the next word: the terminal with START; after it whoever has the word that is due, and how many are wanted of what is
+// counted in it.
 pub enum Speaker {
     Terminal,
-    Issuer,
-    Attendant(usize),
+    Says(Word, usize),
 }
 
 // An answer of the card's, or somebody else's word; or the session is over, with its outcome and its reason or 0, or closed by

@@ -10,22 +10,20 @@ use session_moves::command::generate;
 use session_moves::command::missing;
 use session_moves::ends::ask;
 use session_moves::ends::end;
-use session_moves::ends::wait;
+use session_moves::ends::hear;
 use session_moves::known::at_first;
 use session_phase::Question;
-use session_phase::Reply;
-use session_phase::Speaker;
-use session_phase::Waiting;
 use session_records::records;
 use session_records::slots::value;
 use session_state::State;
 use session_state::change::change;
 use slices::part;
-use tape_read::RESULTS;
+use words::Word;
 ghost use mathlib.Core.Path.{_≡_};
 ghost use Prim.Native.Nat.{_<_};
 ghost use Rattle.answer_record.specs.Records.{afterRecords};
-ghost use Rattle.rulebook.specs.Phase.{attendant};
+ghost use Rattle.words.specs.declared.Word.the-variants.{Results};
+ghost use Rattle.rulebook.specs.Phase.{says};
 ghost use Rattle.rulebook.specs.Turn.{requested, verifying, after};
 ghost use Rattle.session_state.specs.Reading.{late};
 ghost use Rattle.session_records.specs.Slots.{told as toldBy};
@@ -71,11 +69,7 @@ pub fn verify(s: State, buf: &mut [u8]) -> Step
     let store = s.told;
     let told = records::bytes_of(store);
     if is_due(part(&start, 0, size), profile, &told) {
-        return wait(
-            s,
-            Waiting::ForWord(Speaker::Attendant(wanted(&told))),
-            Reply::Due(RESULTS),
-        );
+        return hear(s, Word::Results, wanted(&told));
     }
     request_first(s, reason(s), buf)
 }
@@ -103,7 +97,7 @@ fn verified(s: State, results: &[u8]) -> State
 
 // After the results.
 pub fn on_results(s: State, results: &[u8], buf: &mut [u8]) -> Step
-    ensures { λ r. ⌜ played r (now (buf .exit)) ≡ moved (after (attendant (late s)) (now (results .entry))) s (now (buf .entry)) ⌝ }
+    ensures { λ r. ⌜ played r (now (buf .exit)) ≡ moved (after (says Results (late s)) (now (results .entry))) s (now (buf .entry)) ⌝ }
 {
     request_first(verified(s, results), reason(s), buf)
 }

@@ -2,19 +2,18 @@
 -- unless they were broken before.
 -- Assumes nothing.
 use mathlib.Core.Path.{_≡_, refl, ap, subst}
-use mathlib.Core.Bool.{true, false≢true}
+use mathlib.Core.Bool.{true}
 use mathlib.Core.List.{List, [], _∷_, _++_, append-assoc}
 use mathlib.Core.Logic.{⊎-elim}
 use native.Mathlib.Omega.{arith}
 use lib.ListN.{length}
 use Rattle.tape_read.specs.Entries.{Entry, entry, silence, results, isKind}
-use Rattle.rulebook.specs.Phase.{terminal, issuer, attendant, Phase, dueKind}
+use Rattle.rulebook.specs.Phase.{Phase}
 use Rattle.rulebook.specs.Session.{Lawful, BreaksAt}
 use Rattle.rulebook.proofs.Trichotomy.{snoc-same}
 use Rattle.rulebook.proofs.Breaks.{break-here}
 use Rattle.rulebook.proofs.Verifying.{Without}
-use Rattle.verdict_before.specs.Before.{allowedBefore}
-use Rattle.verdict_before.specs.Sessions.{PlaysBefore, exchangedBefore, heardBefore, decidedBefore, SessionBefore}
+use Rattle.verdict_before.specs.Sessions.{PlaysBefore, exchangedBefore, startedBefore, repliedBefore, decidedBefore, SessionBefore}
 use Rattle.verdict_before.specs.Sessions.{BeginningBefore, ClosedBefore, OpenBefore, LawfulBefore, Short}
 use Rattle.verdict_before.proofs.Sessions.{lawful-same}
 
@@ -25,11 +24,9 @@ new-kind-readable = refl
 
 -- no session before cardholder verification has one
 without : {q : Phase} {es : List Entry} → PlaysBefore q es → Without es
-unfolding allowedBefore dueKind
 without (exchangedBefore f ok play) = ((λ e. omega arith), ((λ e. omega arith), without play))
-without (heardBefore {h = terminal} f fits ok play) = ((λ e. omega (arith, f)), without play)
-without (heardBefore {h = issuer s} f fits ok play) = ((λ e. omega (arith, f)), without play)
-without (heardBefore {h = attendant s} f fits ok play) = absurd (false≢true fits)
+without (startedBefore f fits ok play) = ((λ e. omega (arith, f)), without play)
+without (repliedBefore f fits ok play) = ((λ e. omega (arith, f)), without play)
 without (decidedBefore f) = ((λ e. omega arith), tt)
 
 without-at : (es : List Entry) (e : Entry) (more : List Entry) → Without (es ++ (e ∷ more)) → e .kind ≡ results → ⊥

@@ -1,8 +1,8 @@
 -- Where the terminal has no capabilities a session goes on as it did before cardholder verification: nine names count in a record, and
 -- after the last one no results are awaited.
 -- Assumes nothing.
-use mathlib.Core.Path.{_≡_, refl, ap, _∙_}
-use mathlib.Core.Bool.{false}
+use mathlib.Core.Path.{_≡_, refl, sym, ap, _∙_}
+use mathlib.Core.Bool.{false, false≢true}
 use mathlib.Core.List.{List, [], _∷_, map}
 use mathlib.Core.Option.{none}
 use Prim.Native.Nat.{ℕ}
@@ -17,9 +17,12 @@ use Rattle.answer_gpo.specs.Options.{optionsReason, profileOf, locatorOf}
 use Rattle.answer_afl.specs.Entries.{toRead}
 use Rattle.answer_record.specs.Records.{recordReason, namedIn, afterRecords}
 use Rattle.decide_verification.specs.Verification.{resultsDue}
+use Rattle.words.specs.declared.Word.{Word}
+use Rattle.words.specs.declared.Word.the-variants.{Host, Results}
 use Rattle.rulebook.specs.Situation.{Situation}
 use Rattle.rulebook.specs.Phase.{Asked, selecting, optioning, reading, first, second, situationOf, ended}
 use Rattle.rulebook.specs.Turn.{goesOn, managed, requested, verifying, allRead, readOn, withProfile, optioned, withRecord, recorded, turn}
+use Rattle.rulebook.proofs.Passing.{Due, Awaited}
 use Rattle.verdict_before.specs.Before.{namesBefore, allReadBefore, readOnBefore, optionedBefore}
 use Rattle.verdict_before.specs.Before.{withRecordBefore, recordedBefore, turnBefore}
 
@@ -27,6 +30,12 @@ use Rattle.verdict_before.specs.Before.{withRecordBefore, recordedBefore
 pub not-due : (t : Terminal) (aip : List ℕ) (told : Facts) → t .capabilities ≡ none → resultsDue t aip told ≡ false
 unfolding resultsDue isSome every
 not-due t aip told e = pick-no _ _ _ (ap isSome e)
+
+-- so that only the issuer's word is ever awaited
+pub only-replies : (word : Word) (s : Situation) → s .terminal .capabilities ≡ none → Awaited word s → word ≡ Host
+unfolding Due
+only-replies Host s e aw = refl
+only-replies Results s e aw = absurd (false≢true (sym (not-due (s .terminal) (s .profile) (s .facts) e) ∙ aw .due))
 
 -- nine names count
 pub nine-names : (t : Terminal) → t .capabilities ≡ none → namesFor t ≡ namesBefore

@@ -2,7 +2,7 @@
 -- last record, and which START is valid. Each definition is today's of the same name with the older ones in place (rulebook, specs/Turn);
 -- what the request left alone is named from where it stands.
 -- Assumes nothing.
-use mathlib.Core.Bool.{Bool, false}
+use mathlib.Core.Bool.{Bool}
 use mathlib.Core.List.{List, [], _∷_, map}
 use Prim.Native.Nat.{ℕ}
 use lib.Dec.{eqb}
@@ -10,7 +10,6 @@ use lib.ListN.{length}
 use Rattle.slices.specs.Choice.{pick}
 use Rattle.slices.specs.Tests.{every, isSome}
 use Rattle.start_fields.specs.Layout.{startLength}
-use Rattle.start_fields.specs.Reading.{readingOf}
 use Rattle.start_valid.specs.Start.{validStart}
 use Rattle.session_records.specs.Slots.{orElse}
 use Rattle.answer_common.specs.declared.content.Format.{Format}
@@ -18,11 +17,9 @@ use Rattle.answer_common.specs.declared.content.Format.the-variants.{Numeric, C
 use Rattle.answer_gpo.specs.Options.{optionsReason, profileOf, locatorOf}
 use Rattle.answer_afl.specs.Entries.{toRead}
 use Rattle.answer_record.specs.Records.{recordReason, namedIn, afterRecords}
-use Rattle.decide_requests.specs.Replies.{replyOf, isReply}
 use Rattle.rulebook.specs.Situation.{Situation}
-use Rattle.rulebook.specs.Phase.{Asked, selecting, optioning, reading, first, second, Heard}
-use Rattle.rulebook.specs.Phase.{terminal, issuer, attendant, Phase, asks, hears, ended}
-use Rattle.rulebook.specs.Turn.{goesOn, opened, selected, managed, requested, withProfile, firstAnswered, secondAnswered, replyMade, heard}
+use Rattle.rulebook.specs.Phase.{Asked, selecting, optioning, reading, first, second, Phase, asks, ended}
+use Rattle.rulebook.specs.Turn.{goesOn, selected, managed, requested, withProfile, firstAnswered, secondAnswered}
 
 -- what records named, each with its format in object lists: card number, expiry, effective date, version, the object lists for the first
 -- and the second GENERATE AC, and the action codes default, denial and online
@@ -83,15 +80,3 @@ turnBefore (second s request code) a = secondAnswered s request a
 -- START had 74 bytes
 unfoldable pub validBefore : List ℕ → Bool
 validBefore p = every (eqb (length p) startLength ∷ validStart p ∷ [])
-
--- what could be said: a valid START; one of the issuer's replies; and nothing else
-unfoldable pub allowedBefore : Heard → List ℕ → Bool
-allowedBefore terminal p = validBefore p
-allowedBefore (issuer s) p = isReply (replyOf p)
-allowedBefore (attendant s) p = false
-
--- after what somebody else says; where nothing could be said nothing follows
-unfoldable pub afterBefore : Heard → List ℕ → Phase
-afterBefore terminal p = opened (readingOf p)
-afterBefore (issuer s) p = heard s (replyMade (replyOf p)) p
-afterBefore (attendant s) p = hears (attendant s)

@@ -1,5 +1,5 @@
 -- Whole sessions before cardholder verification (02, R-7), in the very words of today's (rulebook, specs/Session), over the rules as they
--- were.
+-- were. Beside the card only the terminal had a word, with START, and the issuer.
 -- Assumes nothing.
 use mathlib.Core.Path.{_≡_}
 use mathlib.Core.Bool.{true}
@@ -7,20 +7,26 @@ use mathlib.Core.List.{List, [], _∷_, _++_}
 use mathlib.Core.Logic.{_⊎_}
 use Prim.Native.Nat.{ℕ, _+_, _≤_}
 use lib.ListN.{length, take}
-use Rattle.tape_read.specs.Entries.{Entry, entry, command, answer, silence, decision}
+use Rattle.tape_read.specs.Entries.{Entry, entry, start, command, answer, silence, host, decision}
 use Rattle.start_fields.specs.Layout.{startLength}
+use Rattle.start_fields.specs.Reading.{readingOf}
+use Rattle.decide_requests.specs.Replies.{replyOf, isReply}
+use Rattle.words.specs.declared.Word.the-variants.{Host}
 use Rattle.rulebook.specs.Situation.{Situation}
-use Rattle.rulebook.specs.Phase.{Asked, Heard, Phase, opens, asks, hears, decides, dueKind, decisionOf}
+use Rattle.rulebook.specs.Phase.{Asked, terminal, says, Phase, opens, asks, hears, decides, decisionOf}
+use Rattle.rulebook.specs.Turn.{opened, replyMade, heard}
 use Rattle.rulebook.specs.Session.{isPayload}
-use Rattle.verdict_before.specs.Before.{turnBefore, allowedBefore, afterBefore}
+use Rattle.verdict_before.specs.Before.{turnBefore, validBefore}
 use Rattle.verdict_before.specs.Filled.{commandBefore}
 
 -- the entries from a phase on, to the end of the session
 pub data PlaysBefore : Phase → List Entry → Type 0 where
   exchangedBefore : {w : Asked} {c a : List ℕ} {es : List Entry} → c ≡ commandBefore w → isPayload a ≡ true
       → PlaysBefore (turnBefore w a) es → PlaysBefore (asks w) (entry command c ∷ entry answer a ∷ es)
-  heardBefore : {h : Heard} {k : ℕ} {p : List ℕ} {es : List Entry} → k ≡ dueKind h → allowedBefore h p ≡ true → isPayload p ≡ true
-      → PlaysBefore (afterBefore h p) es → PlaysBefore (hears h) (entry k p ∷ es)
+  startedBefore : {k : ℕ} {p : List ℕ} {es : List Entry} → k ≡ start → validBefore p ≡ true → isPayload p ≡ true
+      → PlaysBefore (opened (readingOf p)) es → PlaysBefore (hears terminal) (entry k p ∷ es)
+  repliedBefore : {s : Situation} {k : ℕ} {p : List ℕ} {es : List Entry} → k ≡ host → isReply (replyOf p) ≡ true → isPayload p ≡ true
+      → PlaysBefore (heard s (replyMade (replyOf p)) p) es → PlaysBefore (hears (says Host s)) (entry k p ∷ es)
   decidedBefore : {outcome reason : ℕ} {s : Situation} {d : List ℕ} → d ≡ decisionOf outcome reason s
       → PlaysBefore (decides outcome reason s) (entry decision d ∷ [])
 

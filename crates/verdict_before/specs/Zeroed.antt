@@ -8,16 +8,22 @@ use Prim.Native.Nat.{ℕ}
 use lib.ListN.{length, take}
 use Rattle.tape_read.specs.Entries.{Entry, entry, silence}
 use Rattle.tape_read.specs.Tapes.{entries, unreadable, readTape}
+use Rattle.start_fields.specs.Reading.{readingOf}
+use Rattle.decide_requests.specs.Replies.{replyOf}
 use Rattle.rulebook.specs.Phase.{Phase, opens}
+use Rattle.rulebook.specs.Turn.{opened, replyMade, heard}
 use Rattle.rulebook_zeros.specs.Zeros.{sum}
-use Rattle.verdict_before.specs.Before.{turnBefore, afterBefore}
+use Rattle.verdict_before.specs.Before.{turnBefore}
 use Rattle.verdict_before.specs.Filled.{unsuppliedInBefore}
-use Rattle.verdict_before.specs.Sessions.{PlaysBefore, exchangedBefore, heardBefore, decidedBefore, AwaitsCardBefore, BreaksAtBefore}
+use Rattle.verdict_before.specs.Sessions.{PlaysBefore, exchangedBefore, startedBefore, repliedBefore, decidedBefore}
+use Rattle.verdict_before.specs.Sessions.{AwaitsCardBefore, BreaksAtBefore}
 
 -- what each entry of a session adds
 unfoldable pub addedByBefore : {p : Phase} {es : List Entry} → PlaysBefore p es → List ℕ
 addedByBefore (exchangedBefore {w} {c} {a} same ok play) = 0 ∷ unsuppliedInBefore (turnBefore w a) ∷ addedByBefore play
-addedByBefore (heardBefore {h} {k} {p} same fits ok play) = unsuppliedInBefore (afterBefore h p) ∷ addedByBefore play
+addedByBefore (startedBefore {k} {p} same fits ok play) = unsuppliedInBefore (opened (readingOf p)) ∷ addedByBefore play
+addedByBefore (repliedBefore {s} {k} {p} same fits ok play) =
+    unsuppliedInBefore (heard s (replyMade (replyOf p)) p) ∷ addedByBefore play
 addedByBefore (decidedBefore same) = 0 ∷ []
 
 -- the sum over entries that some session begins with

@@ -15,7 +15,7 @@ use Rattle.start_valid.specs.Start.{validStart}
 use Rattle.decide_requests.specs.Replies.{replyOf, isReply}
 use Rattle.tape_read.specs.Entries.{Entry, entry, start, command, answer, silence, host, decision}
 use Rattle.rulebook.specs.Situation.{Situation}
-use Rattle.rulebook.specs.Phase.{Asked, Heard, terminal, issuer, opens, asks, hears, decides, commandOf, dueKind, decisionOf}
+use Rattle.rulebook.specs.Phase.{Asked, Heard, terminal, opens, asks, hears, decides, commandOf, dueKind, decisionOf}
 use Rattle.rulebook.specs.Turn.{opened, turn, allowed, heard, after}
 use Rattle.rulebook.specs.Session.{isPayload}
 use Rattle.slices.specs.Tests.{alike}

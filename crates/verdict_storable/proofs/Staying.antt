@@ -43,7 +43,9 @@ use Rattle.decide_verification.specs.Verification.{resultsDue}
 use Rattle.decide_verification.proofs.Laws.{results-length, results-bytes, performed-length, performed-bytes}
 use Rattle.rulebook.specs.Situation.{Situation, begun, listIn}
 use Rattle.rulebook.specs.Phase.{Asked, selecting, optioning, reading, first, second, Heard, terminal}
-use Rattle.rulebook.specs.Phase.{issuer, attendant, Phase, asks, hears, decides, decided, ended, terminated}
+use Rattle.words.specs.declared.Word.{Word}
+use Rattle.words.specs.declared.Word.the-variants.{Host, Results}
+use Rattle.rulebook.specs.Phase.{says, Phase, asks, hears, decides, decided, ended, terminated}
 use Rattle.rulebook.specs.Turn.{goesOn, opened, selected, managed, requested, verifying, allRead, readOn, withProfile}
 use Rattle.rulebook.specs.Turn.{optioned, withRecord, recorded, answered, replied, online, byFirst, bySecond}
 use Rattle.rulebook.specs.Turn.{firstAnswered, secondAnswered, turn, heard as issuerHeard, verifiedBy, after}
@@ -82,8 +84,7 @@ Asking (second s request code) = Knows s × (areBytes code ≡ true)
 abbrev pub Stays : Phase → Type 0
 Stays (asks w) = Asking w
 Stays (hears terminal) = Unit {0}
-Stays (hears (issuer s)) = Knows s
-Stays (hears (attendant s)) = Knows s
+Stays (hears (says word s)) = Knows s
 Stays (decides outcome reason s) = Knows s × ((outcome < 256) × (reason < 256))
 
 -- ---- after START
@@ -201,7 +202,7 @@ module _ (s : Situation) (k : Knows s) where
   first-stays (Of Tc) = (k, (omega arith, omega arith))
   first-stays (Of Aac) = (k, (omega arith, omega arith))
   first-stays (Of Arqc) =
-      picked Stays (eqb (s .terminal .kind) 0) (replied s Unable []) (hears (issuer s)) (λ y. replied-stays Unable [] refl) (λ l. k)
+      picked Stays (eqb (s .terminal .kind) 0) (replied s Unable []) (hears (says Host s)) (λ y. replied-stays Unable [] refl) (λ l. k)
   first-stays Reserved = (k, (omega arith, omega arith))
 
 -- ---- the records, and verification
@@ -213,7 +214,7 @@ requested-stays facts s k = goes-stays s k (afterRecords facts) _ (after-small f
 verifying-stays : (s : Situation) → Knows s → Stays (verifying s)
 unfolding verifying
 verifying-stays s k =
-    picked Stays (resultsDue (s .terminal) (s .profile) (s .facts)) (hears (attendant s)) _ (λ y. k) (λ n. requested-stays (s .facts) s k)
+    picked Stays (resultsDue (s .terminal) (s .profile) (s .facts)) (hears (says Results s)) _ (λ y. k) (λ n. requested-stays (s .facts) s k)
 
 read-stays : (s : Situation) (rest : List (ℕ × ℕ)) → Knows s → areBytes (numbersOf rest) ≡ true → Stays (readOn s rest)
 unfolding readOn allRead ended
@@ -228,8 +229,8 @@ read-stays s (r ∷ rest) k h = (k, (bytes-head (r .0) (numbersOf rest) h, bytes
 pub after-stays : (h : Heard) (p : List ℕ) → Stays (hears h) → areBytes p ≡ true → Stays (after h p)
 unfolding after issuerHeard
 after-stays terminal p k bytes = opened-stays p bytes
-after-stays (issuer s) p k bytes = heard-stays s k _ p bytes
-after-stays (attendant s) p k bytes = requested-stays (s .facts) (verifiedBy s p) (verified-knows s k p)
+after-stays (says Host s) p k bytes = heard-stays s k _ p bytes
+after-stays (says Results s) p k bytes = requested-stays (s .facts) (verifiedBy s p) (verified-knows s k p)
 
 -- ---- whatever the card answers
 

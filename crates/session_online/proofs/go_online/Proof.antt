@@ -11,9 +11,10 @@ use Rattle.start_fields.specs.Reading.{readingOf}
 use Rattle.dol_wanted.specs.Wanted.{fillable}
 use Rattle.decide_requests.specs.Requests.{secondRequest}
 use Rattle.decide_requests.specs.declared.reply.HostReply.the-variants.{Unable}
+use Rattle.words.specs.declared.Word.the-variants.{Host}
 use Rattle.rulebook.specs.Situation.{listIn}
-use Rattle.rulebook.specs.Phase.{issuer, second, Phase, asks, dueKind, tvrOf, tsiOf, ended}
-use Rattle.rulebook.specs.Turn.{replied, online}
+use Rattle.rulebook.specs.Phase.{says, second, Phase, asks, dueKind, tvrOf, tsiOf, ended}
+use Rattle.rulebook.specs.Turn.{wantedIn, replied, online}
 use Rattle.session_state.specs.Reading.{startIn, situationWith, late}
 use Rattle.session_moves.specs.Moves.{speakerOf, moved}
 use Rattle.session_moves.proofs.Moving.{hearing}
@@ -42,12 +43,12 @@ returns c =
     .ensures)) ∙ c .before .before .before .before .if1 .taken))))
 
 returns-2 : tie.Need-returns-2
-unfolding online late situationWith speakerOf dueKind tvrOf tsiOf
+unfolding online late situationWith speakerOf wantedIn dueKind tvrOf tsiOf
 returns-2 c =
     let args = c .before .before .before .before .before .before .before .args in
     let s = args .s in
     let buf = args .buf .now in
-    hearing s buf (issuer (late s)) (c .wait .ensures) refl refl
+    hearing s buf (says Host (late s)) (c .hear .ensures) refl refl
     ∙ sym
     (ap (λ (p : Phase). moved p s buf)
     (pick-no _ _ _ (ne-eqb (readingOf (startIn s) .kind) 0 (λ e. c .before .if1 .left (c .before .before .kind .ensures

@@ -7,14 +7,15 @@ use native.Mathlib.Omega.{arith}
 use borrow.Author.Needs.{needs}
 use Rattle.slices.proofs.Choice.{pick-yes, pick-no}
 use Rattle.start_fields.specs.Reading.{readingOf}
-use Rattle.tape_read.specs.Entries.{results}
+use Rattle.words.specs.Words.{wordKind}
+use Rattle.words.specs.declared.Word.the-variants.{Results}
 use Rattle.answer_record.specs.Records.{afterRecords}
 use Rattle.answer_laws.proofs.Reasons.{after-small}
 use Rattle.session_records.specs.Slots.{toldIn, told}
 use Rattle.decide_verification.specs.Verification.{resultsDue, resultsWanted}
-use Rattle.rulebook.specs.Phase.{attendant, Phase, dueKind, tvrOf, tsiOf}
-use Rattle.rulebook.specs.Turn.{requested, verifying}
-use Rattle.session_phase.specs.declared.Speaker.the-variants.{Attendant}
+use Rattle.rulebook.specs.Phase.{says, Phase, dueKind, tvrOf, tsiOf}
+use Rattle.rulebook.specs.Turn.{requested, wantedIn, verifying}
+use Rattle.session_phase.specs.declared.Speaker.the-variants.{Says}
 use Rattle.session_phase.specs.declared.Waiting.the-variants.{ForWord}
 use Rattle.session_phase.specs.declared.Reply.the-variants.{Due}
 use Rattle.session_state.specs.Reading.{situationWith, late}
@@ -24,7 +25,7 @@ use Rattle.session_verification.proofs.verify.Statement.{statement}
 use Rattle.session_verification.proofs.verify.Tie as tie
 
 returns : tie.Need-returns
-unfolding verifying late situationWith told speakerOf dueKind tvrOf tsiOf
+unfolding verifying late situationWith told speakerOf wantedIn dueKind tvrOf tsiOf
 returns c =
     let args = c .before .before .before .before .before .before .before .before .before .before .before .before .before .args in
     let s = args .s in
@@ -34,8 +35,8 @@ returns c =
     ∙ ap₂ (λ (x d : List ℕ). resultsDue (readingOf x) (s .profile) (toldIn d)) (c .before .before .before .before .before .before .part
     .ensures) bytes in
     let count = c .before .wanted .ensures ∙ ap (λ (d : List ℕ). resultsWanted (toldIn d)) bytes in
-    hearing s buf (attendant (late s)) (c .wait .ensures ∙ ap (λ (n : ℕ). waitingFor (ForWord (Attendant n))
-    (Due results) s) count) refl refl
+    hearing s buf (says Results (late s)) (c .hear .ensures ∙ ap (λ (n : ℕ). waitingFor (ForWord (Says Results n))
+    (Due (wordKind Results)) s) count) refl refl
     ∙ sym (ap (λ (p : Phase). moved p s buf) (pick-yes _ _ _ (sym due ∙ c .before .before .before .if1 .taken)))
 
 request-first-requires : tie.Need-request-first-requires

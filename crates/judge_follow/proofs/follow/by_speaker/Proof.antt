@@ -4,7 +4,7 @@ use borrow.Author.Needs.{needs}
 use borrow.Author.Tests.{not-true, not-false}
 use mathlib.Core.Path.{_≡_, sym, _∙_}
 use Rattle.session_phase.specs.Waiting.{kindOf}
-use Rattle.session_events.specs.Events.{allowedBy}
+use Rattle.session_phase.specs.Saying.{allowedBy}
 use Rattle.judge_stages.specs.declared.Stage.the-variants.{Broken}
 use Rattle.judge_follow.specs.Following.{staged, advanced, spoken}
 use Rattle.judge_follow.proofs.Deciding.{other-kind, test-fails, test-holds}

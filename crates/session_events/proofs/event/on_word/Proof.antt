@@ -1,43 +1,33 @@
--- `event::on_word` meets its contract: each arm is the definition's at that speaker.
+-- `event::on_word` meets its contract: each arm is the rulebook's at that word.
 -- Assumes nothing.
 use mathlib.Core.Path.{_≡_, sym, ap, _∙_}
 use borrow.Author.Needs.{needs}
+use Rattle.words.specs.declared.Word.{Word}
+use Rattle.rulebook.specs.Phase.{says}
 use Rattle.rulebook.specs.Turn.{after}
-use Rattle.session_phase.specs.declared.Speaker.{Speaker}
-use Rattle.session_state.specs.Reading.{heardBy}
-use Rattle.session_events.specs.Events.{keepingWord, wordStep}
+use Rattle.session_state.specs.Reading.{late}
+use Rattle.session_moves.specs.Moves.{moved}
 use Rattle.session_events.proofs.event.on_word.Statement.{statement}
 use Rattle.session_events.proofs.event.on_word.Tie as tie
 
 returns : tie.Need-returns
-unfolding wordStep heardBy keepingWord after
+unfolding after
 returns c =
     let args = c .before .before .before .before .before .before .before .before .args in
     let s = args .s in
     let p = args .p .now in
     let buf = args .buf .now in
-    c .before .before .on-start .ensures
-    ∙ sym (ap (λ (x : Speaker). wordStep x s p buf) (c .before .before .before .before .enum-told .given .1))
+    c .before .before .on-reply .ensures
+    ∙ sym (ap (λ (x : Word). moved (after (says x (late s)) p) s buf) (c .before .before .before .before .enum-told .given .1))
 
 returns-2 : tie.Need-returns-2
-unfolding wordStep heardBy keepingWord after
 returns-2 c =
     let args = c .before .before .before .before .before .before .before .before .args in
     let s = args .s in
     let p = args .p .now in
     let buf = args .buf .now in
-    c .before .before .on-reply .ensures
-    ∙ sym (ap (λ (x : Speaker). wordStep x s p buf) (c .before .before .before .before .enum-told2 .given .1))
-
-returns-3 : tie.Need-returns-3
-unfolding wordStep heardBy keepingWord
-returns-3 c =
-    let args = c .before .before .before .before .before .before .before .before .args in
-    let s = args .s in
-    let p = args .p .now in
-    let buf = args .buf .now in
     c .before .before .on-results .ensures
-    ∙ sym (ap (λ (x : Speaker). wordStep x s p buf) (c .before .before .before .before .enum-told3 .given .1))
+    ∙ sym (ap (λ (x : Word). moved (after (says x (late s)) p) s buf) (c .before .before .before .before .enum-told2 .given .1))
 
 pub on-word-spec : {M : Type 1} → statement M
 on-word-spec =
@@ -48,10 +38,6 @@ on-word-spec =
     (λ c. search needs)
     (λ c κs. search needs)
     (λ c. search needs)
-    (λ c κs. search needs)
-    (λ c. search needs)
     returns
     (λ c. search needs)
-    returns-2
-    (λ c. search needs)
-    returns-3)
+    returns-2)

@@ -25,7 +25,7 @@ returns-2 c =
     let s = args .s in
     let p = args .p .now in
     let buf = args .buf .now in
-    c .before .before .on-word .ensures
+    c .before .before .by-speaker .ensures
     ∙ sym (ap (λ (x : Waiting). stepAt x s p buf) (c .before .before .before .before .before .waiting2 .given .1))
 
 returns-3 : tie.Need-returns-3

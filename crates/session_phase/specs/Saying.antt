@@ -1,0 +1,20 @@
+-- What may be said by whoever has the word, and the number with which anything else is turned away. 01, "The tape" and "When a call is
+-- turned away"; 02, R-7.
+-- Assumes nothing.
+use mathlib.Core.Bool.{Bool}
+use mathlib.Core.List.{List}
+use Prim.Native.Nat.{ℕ}
+use Rattle.start_valid.specs.Start.{validStart}
+use Rattle.words.specs.Words.{wordAllowed, wordRefusal}
+use Rattle.session_phase.specs.declared.Speaker.{Speaker}
+use Rattle.session_phase.specs.declared.Speaker.the-variants.{Terminal, Says}
+
+-- a valid START, or what the word that is due allows
+unfoldable pub allowedBy : Speaker → List ℕ → Bool
+allowedBy Terminal p = validStart p
+allowedBy (Says word count) p = wordAllowed word count p
+
+-- the line of 01's table for anything else
+unfoldable pub refusalBy : Speaker → ℕ
+refusalBy Terminal = 3
+refusalBy (Says word count) = wordRefusal word

@@ -1,0 +1,2 @@
+-- What somebody other than the card says after START.
+pub mod Words
