@@ -12,7 +12,8 @@ use Rattle.slices.specs.Writing.{zeros}
 use Rattle.slices.proofs.Writing.{zeros-length}
 use Rattle.start_fields.specs.Reading.{readingOf}
 use Rattle.start_valid.specs.Start.{validKind, validDigits, validRandom, validPercentages}
-use Rattle.start_valid.specs.Start.{validThreshold, validAid, validLength, validStart, beginsSession}
+use Rattle.start_fields.specs.Layout.{isLength}
+use Rattle.start_valid.specs.Start.{validThreshold, validAid, validStart, beginsSession}
 use Rattle.start_valid.proofs.Laws.{begins-valid}
 use Rattle.slices.specs.Tests.{every, between}
 use Rattle.decimal_dates.specs.Decimal.{decimalFrom, decimal, decimalByte, digitsOnly, zerosOnly}
@@ -105,7 +106,7 @@ abbrev begin : List ℕ
 begin = startOf 2
 
 valid : beginsSession begin ≡ true
-unfolding beginsSession validStart validLength every pick between validKind validDigits digitsOnly decimalByte validStartDate
+unfolding beginsSession validStart isLength every pick between validKind validDigits digitsOnly decimalByte validStartDate
     monthAndDay validRandom validPercentages validThreshold validAid zerosOnly readingOf decimal decimalFrom
 valid = refl
 

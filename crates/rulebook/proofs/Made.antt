@@ -11,6 +11,7 @@ use lib.Dec.{eqb}
 use lib.ListN.{length}
 use borrow.Author.Tests.{eqb-false}
 use Rattle.slices.specs.Tests.{isSome}
+use Rattle.start_fields.proofs.Sample.{filled}
 use Rattle.tape_read.specs.Entries.{Entry, entry, start, command, answer, silence, decision}
 use Rattle.rulebook.specs.Phase.{Phase, opens}
 use Rattle.rulebook.specs.Session.{Session, BreaksAt}
@@ -34,7 +35,7 @@ shortIn year kind amount denial =
 
 -- the same with Terminal Capabilities: every means of verification
 abbrev pub startIn : ℕ → ℕ → List ℕ → ℕ → List ℕ
-startIn year kind amount denial = shortIn year kind amount denial ++ (0xE0 ∷ 0xF8 ∷ 0xC8 ∷ [])
+startIn year kind amount denial = filled (shortIn year kind amount denial ++ (0xE0 ∷ 0xF8 ∷ 0xC8 ∷ []))
 
 -- in 2025
 abbrev pub startWith : ℕ → List ℕ → ℕ → List ℕ

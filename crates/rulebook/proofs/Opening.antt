@@ -35,10 +35,11 @@ use Rattle.tape_read.specs.Tapes.{readFrom as o92, sessionOf as o93, readTape a
 use Rattle.decimal_dates.specs.Dates.{dateKey as o96, monthAndDay as o97, validStartDate as o98, validCardDate as o99}
 use Rattle.decimal_dates.specs.Decimal.{decimalFrom as o100, decimal as o101, decimalByte as o102, digitsOnly as o103}
 use Rattle.decimal_dates.specs.Decimal.{zerosOnly as o104}
-use Rattle.start_fields.specs.Reading.{readingOf as o105}
-use Rattle.start_valid.specs.Start.{validLength as o106, validKind as o107, validDigits as o108, validRandom as o109}
-use Rattle.start_valid.specs.Start.{validPercentages as o110, validThreshold as o111, validAid as o112, validStart as o113}
-use Rattle.start_valid.specs.Start.{terminalOf as o114, beginsSession as o115}
+use Rattle.start_fields.specs.Layout.{isLength as o105}
+use Rattle.start_fields.specs.Reading.{readingOf as o106}
+use Rattle.start_valid.specs.Start.{validKind as o107, validDigits as o108, validRandom as o109, validPercentages as o110}
+use Rattle.start_valid.specs.Start.{validThreshold as o111, validAid as o112, validStart as o113, terminalOf as o114}
+use Rattle.start_valid.specs.Start.{beginsSession as o115}
 use Rattle.decide_cryptogram.specs.Cryptograms.{givenBy as o116, allowedBy as o117}
 use Rattle.answer_afl.specs.Cursor.{fromEntry as o118, entryAt as o119, start as o120, isLeft as o121, recordAt as o122}
 use Rattle.answer_afl.specs.Cursor.{stepped as o123, remaining as o124}

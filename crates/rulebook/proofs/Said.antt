@@ -9,7 +9,8 @@ use native.Mathlib.Omega.{arith}
 use Rattle.slices.specs.Choice.{pick}
 use Rattle.slices.specs.Tests.{every, between}
 use Rattle.start_fields.specs.Reading.{readingOf}
-use Rattle.start_valid.specs.Start.{validLength, validKind, validDigits, validRandom}
+use Rattle.start_fields.specs.Layout.{isLength}
+use Rattle.start_valid.specs.Start.{validKind, validDigits, validRandom}
 use Rattle.start_valid.specs.Start.{validPercentages, validThreshold, validAid, validStart}
 use Rattle.decimal_dates.specs.Decimal.{decimalFrom, decimal, decimalByte, digitsOnly, zerosOnly}
 use Rattle.decimal_dates.specs.Dates.{monthAndDay, validStartDate}
@@ -58,7 +59,7 @@ sample =
     ∷ []
 
 sample-valid : validStart sample ≡ true
-unfolding validStart every pick between validLength validKind validDigits digitsOnly decimalByte validStartDate monthAndDay validRandom
+unfolding validStart every pick between isLength validKind validDigits digitsOnly decimalByte validStartDate monthAndDay validRandom
     validPercentages validThreshold validAid zerosOnly readingOf decimal decimalFrom
 sample-valid = refl
 

@@ -1,6 +1,8 @@
 -- Where START's fields stand: 01, "Terminal data (START, 74 bytes)"; 02, R-7.
 -- Assumes nothing.
+use mathlib.Core.Bool.{Bool, _||_}
 use Prim.Native.Nat.{ℕ}
+use lib.Dec.{eqb}
 use Rattle.start_fields.specs.declared.fields.Field.{Field}
 use Rattle.start_fields.specs.declared.fields.Field.the-variants.{Amount, OtherAmount, Country, Currency, Date}
 use Rattle.start_fields.specs.declared.fields.Field.the-variants.{TransactionType, Unpredictable, FloorLimit, Threshold}
@@ -59,9 +61,13 @@ aidAt = 58
 abbrev pub aidRoom : ℕ
 aidRoom = 16
 
--- START as a whole, and with Terminal Capabilities behind it (02, R-7)
+-- the bytes of the shortest START, which is 01's, and of the longest: with Terminal Capabilities behind it (02, R-7)
 abbrev pub startLength : ℕ
 startLength = 74
 
 abbrev pub fullLength : ℕ
 fullLength = 77
+
+-- how many bytes a START can have
+unfoldable pub isLength : ℕ → Bool
+isLength n = eqb n startLength || eqb n fullLength

@@ -3,7 +3,7 @@
 ghost use mathlib.Core.Path.{_≡_};
 ghost use Prim.Native.Nat.{_<_, _≤_};
 ghost use lib.ListN.{length, take, drop};
-ghost use Rattle.start_fields.specs.Layout.{beginOf, sizeOf, octetAt};
+ghost use Rattle.start_fields.specs.Layout.{beginOf, sizeOf, octetAt, isLength};
 ghost use Rattle.start_fields.specs.Reading.{readingOf, bytesOf, octetOf, amountOf, otherAmountOf};
 ghost use Rattle.start_fields.specs.Reading.{floorLimitOf, thresholdOf, digitsIn, aidLengthIn, aidRoomIn};
 ghost use Rattle.slices.specs.Tests.{isSome};
@@ -11,10 +11,16 @@ ghost use Rattle.decimal_dates.specs.Decimal.{decimal as decimalOf, sixBytesLim
 use decimal_dates::decimal::two_digits;
 use slices::part;
 
-// START as a whole, and with Terminal Capabilities behind it.
-pub const LENGTH: usize = 74;
+// The bytes of the shortest START and of the longest, which has Terminal Capabilities behind it.
+const LENGTH: usize = 74;
 
 pub const FULL: usize = 77;
+
+pub fn is_length(n: usize) -> bool
+    ensures { λ r. ⌜ r ≡ isLength n ⌝ }
+{
+    n == LENGTH || n == FULL
+}
 
 // The fields that are runs of bytes.
 pub enum Field {

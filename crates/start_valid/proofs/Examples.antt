@@ -9,9 +9,10 @@ use Rattle.slices.specs.Choice.{pick}
 use Rattle.slices.specs.Tests.{every, between}
 use Rattle.decimal_dates.specs.Decimal.{decimalFrom, decimal, decimalByte, digitsOnly, zerosOnly}
 use Rattle.decimal_dates.specs.Dates.{monthAndDay, validStartDate}
+use Rattle.start_fields.specs.Layout.{fullLength, isLength}
 use Rattle.start_fields.specs.Reading.{readingOf}
 use Rattle.start_fields.proofs.Sample.{sample, fullSample}
-use Rattle.start_valid.specs.Start.{validLength, validKind, validDigits, validRandom, validPercentages}
+use Rattle.start_valid.specs.Start.{validKind, validDigits, validRandom, validPercentages}
 use Rattle.start_valid.specs.Start.{validThreshold, validAid, validStart, beginsSession}
 
 -- the sample with some of its bytes changed
@@ -50,22 +51,24 @@ rows =
     ∷ []
 
 rows-judged : map (λ row. validStart (changed (row .0))) rows ≡ map (λ row. row .1) rows
-unfolding validStart every pick between validLength validKind validDigits digitsOnly decimalByte validStartDate monthAndDay validRandom
+unfolding validStart every pick between isLength validKind validDigits digitsOnly decimalByte validStartDate monthAndDay validRandom
     validPercentages validThreshold validAid zerosOnly readingOf decimal decimalFrom
 rows-judged = refl
 
--- so many bytes of the sample, Terminal Capabilities and one byte more
+-- so many bytes of the longer sample: whether the START is valid, and whether a session can be begun with it. 74 bytes are only judged
 abbrev sized : ℕ → List ℕ
-sized n = take n (fullSample ++ (0 ∷ []))
+sized n = take n fullSample
 
--- a length, whether the START is valid, and whether a session can be begun with it: 74 bytes are only judged
 abbrev sizes : List (ℕ × Bool × Bool)
 sizes =
-    (0, false, false) ∷ (73, false, false) ∷ (74, true, false) ∷ (75, false, false) ∷ (76, false, false) ∷ (77, true, true)
-    ∷ (78, false, false)
-    ∷ []
+    (0, false, false) ∷ (73, false, false) ∷ (74, true, false) ∷ (75, false, false) ∷ (76, false, false) ∷ (fullLength, true, true) ∷ []
 
 sizes-judged : map (λ row. (length (sized (row .0)), validStart (sized (row .0)), beginsSession (sized (row .0)))) sizes ≡ sizes
-unfolding beginsSession validStart every pick between validLength validKind validDigits digitsOnly decimalByte validStartDate
+unfolding beginsSession validStart every pick between isLength validKind validDigits digitsOnly decimalByte validStartDate
     monthAndDay validRandom validPercentages validThreshold validAid zerosOnly readingOf decimal decimalFrom
 sizes-judged = refl
+
+-- one byte more
+too-long : validStart (fullSample ++ (0 ∷ [])) ≡ false
+unfolding validStart every pick isLength
+too-long = refl

@@ -1,9 +1,9 @@
--- What is known of the terminal data that a valid START hands over: it is the reading of 74 or 77 bytes, every field has its
+-- What is known of the terminal data that a valid START hands over: it is the reading of as many bytes as START can have, every field has its
 -- length, and every number is in its range. Each fact is one of the tests that the START passed. A START that begins a session is
--- a valid one of 77 bytes.
+-- a valid one of the longest.
 -- Assumes nothing.
 use mathlib.Core.Path.{_≡_, refl, subst}
-use mathlib.Core.Bool.{Bool, true, false, _||_}
+use mathlib.Core.Bool.{true, false}
 use mathlib.Core.List.{List, [], _∷_}
 use mathlib.Core.Logic.{_⊎_, inl, inr}
 use mathlib.Core.Option.{some, none, Option·some-injective, Option·none-ne-some}
@@ -18,10 +18,10 @@ use Rattle.start_fields.specs.declared.fields.Field.the-variants.{Amount, Other
 use Rattle.slices.specs.Tests.{between}
 use Rattle.start_fields.specs.Layout.{beginOf, sizeOf, startLength, fullLength}
 use Rattle.start_fields.specs.Reading.{Terminal, readingOf, bytesOf, amountOf, otherAmountOf, floorLimitOf, thresholdOf, aidLengthIn}
-use Rattle.start_valid.specs.Start.{startTests, validLength, validKind, validDigits, validRandom, validPercentages}
+use Rattle.start_valid.specs.Start.{startTests, validKind, validDigits, validRandom, validPercentages}
 use Rattle.start_valid.specs.Start.{validThreshold, validAid, validStart, terminalOf, beginsSession}
 use Rattle.slices.proofs.Tests.{each-held}
-use Rattle.start_fields.proofs.Reading.{short-read, all-read, whole-read, no-capabilities}
+use Rattle.start_fields.proofs.Reading.{short-read, all-read, between-lengths, all-or-none}
 use Rattle.decimal_dates.proofs.Digits.{digits-split, twelve-digits}
 
 pub accepted : (s : List ℕ) → validStart s ≡ true → terminalOf s ≡ some (readingOf s)
@@ -74,43 +74,17 @@ zero-or-below t =
     (λ e q. inl (eqb-true _ _ e))
     (λ e q. inr (ltb-true _ _ q))
 
-one-of-two : (n : ℕ) → validLength n ≡ true → (n ≡ startLength) ⊎ (n ≡ fullLength)
-unfolding validLength
-one-of-two n valid = by (eqb n startLength) refl valid
-  where
-    by : (t : Bool) → eqb n startLength ≡ t → (t || eqb n fullLength) ≡ true → (n ≡ startLength) ⊎ (n ≡ fullLength)
-    by true e h = inl (eqb-true _ _ e)
-    by false e h = inr (eqb-true _ _ h)
-
 module _ (s : List ℕ) (valid : validStart s ≡ true) where
   -- the tests that it passed, by their places in 01's order
   test : (k : ℕ) → getD (startTests s) k true ≡ true
   unfolding validStart
   test k = each-held (startTests s) valid k
 
-  start-length : (length s ≡ startLength) ⊎ (length s ≡ fullLength)
-  start-length = one-of-two (length s) (test 0)
-
-  between-lengths : (startLength ≤ length s) × (length s ≤ fullLength)
-  between-lengths = by-length start-length
-    where
-      by-length : (length s ≡ startLength) ⊎ (length s ≡ fullLength) → (startLength ≤ length s) × (length s ≤ fullLength)
-      by-length (inl e) = (omega arith, omega arith)
-      by-length (inr e) = (omega arith, omega arith)
-
   pub valid-least : startLength ≤ length s
-  valid-least = between-lengths .0
+  valid-least = between-lengths (length s) (test 0) .0
 
   pub valid-length : length s ≤ fullLength
-  valid-length = between-lengths .1
-
-  capable : (readingOf s .capabilities ≡ none) ⊎ (length (bytesOf Capabilities (readingOf s)) ≡ sizeOf Capabilities)
-  capable = by-length start-length
-    where
-      by-length : (length s ≡ startLength) ⊎ (length s ≡ fullLength)
-          → (readingOf s .capabilities ≡ none) ⊎ (length (bytesOf Capabilities (readingOf s)) ≡ sizeOf Capabilities)
-      by-length (inl e) = inl (no-capabilities s (omega arith))
-      by-length (inr e) = inr (whole-read Capabilities s e)
+  valid-length = between-lengths (length s) (test 0) .1
 
   percentages : (readingOf s .target ≤ readingOf s .maximum) × (readingOf s .maximum ≤ 99)
   unfolding validPercentages
@@ -135,7 +109,7 @@ module _ (s : List ℕ) (valid : validStart s ≡ true) where
   unfolding validAid readingOf
   aid-size =
       let size = bounds 5 16 (aidLengthIn s) (each-held _ (test 7) 0) in
-      simp (length-take, length-drop) (omega (arith, between-lengths .0))
+      simp (length-take, length-drop) (omega (arith, valid-least))
 
   pub in-range : Ranges (readingOf s)
   unfolding validKind validRandom
@@ -149,8 +123,8 @@ module _ (s : List ℕ) (valid : validStart s ≡ true) where
         target = percentages .0;
         maximum = percentages .1;
         threshold = zero-or-below _ (test 6);
-        bytes = λ f h. all-read f s (omega (arith, between-lengths .0));
-        capabilities = capable;
+        bytes = λ f h. all-read f s (omega (arith, valid-least));
+        capabilities = all-or-none s (test 0);
         aid = aid-size;
       }
 

@@ -1,6 +1,6 @@
 -- Which STARTs are valid: 01, "Terminal data (START, 74 bytes)", its last sentence, a definition for each condition; 02, R-7.
 -- Assumes nothing.
-use mathlib.Core.Bool.{Bool, true, _||_}
+use mathlib.Core.Bool.{Bool, true}
 use mathlib.Core.List.{List, [], _∷_}
 use mathlib.Core.Option.{Option, some, none}
 use Prim.Native.Nat.{ℕ}
@@ -10,12 +10,8 @@ use Rattle.slices.specs.Choice.{pick}
 use Rattle.slices.specs.Tests.{every, between}
 use Rattle.decimal_dates.specs.Decimal.{digitsOnly, zerosOnly}
 use Rattle.decimal_dates.specs.Dates.{validStartDate}
-use Rattle.start_fields.specs.Layout.{startLength, fullLength, aidRoom}
+use Rattle.start_fields.specs.Layout.{fullLength, isLength, aidRoom}
 use Rattle.start_fields.specs.Reading.{Terminal, readingOf, floorLimitOf, thresholdOf, digitsIn, aidLengthIn, aidRoomIn}
-
--- 74 bytes, or 77: what Terminal Capabilities say is free (02, R-7)
-unfoldable pub validLength : ℕ → Bool
-validLength n = eqb n startLength || eqb n fullLength
 
 -- type 0-2
 unfoldable pub validKind : Terminal → Bool
@@ -41,10 +37,10 @@ validThreshold t = pick (eqb (thresholdOf t) 0) true (ltb (thresholdOf t) (floor
 unfoldable pub validAid : ℕ → List ℕ → Bool
 validAid n room = every (between 5 aidRoom n ∷ zerosOnly (drop n room) ∷ [])
 
--- all that is asked of a START, in 01's order
+-- all that is asked of a START, in 01's order; what Terminal Capabilities say is free (02, R-7)
 abbrev pub startTests : List ℕ → List Bool
 startTests s =
-    validLength (length s)
+    isLength (length s)
     ∷ validKind (readingOf s)
     ∷ validDigits s
     ∷ validStartDate (readingOf s .date)

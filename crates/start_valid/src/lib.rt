@@ -2,7 +2,7 @@
 ghost use mathlib.Core.Path.{_≡_};
 ghost use Rattle.start_fields.specs.Reading.{readingOf, aidLengthIn, aidRoomIn};
 ghost use Rattle.start_valid.specs.Start.{validKind, validDigits, validRandom, validPercentages};
-ghost use Rattle.start_valid.specs.Start.{validThreshold, validAid, validLength, validStart, beginsSession};
+ghost use Rattle.start_valid.specs.Start.{validThreshold, validAid, validStart, beginsSession};
 use decimal_dates::dates::valid_start_date;
 use decimal_dates::decimal::digits_only;
 use decimal_dates::decimal::zeros_only;
@@ -11,13 +11,6 @@ use start_fields::fields;
 use start_fields::fields::AID_ROOM;
 use start_fields::fields::FULL;
 use start_fields::fields::Field;
-use start_fields::fields::LENGTH;
-
-fn valid_length(n: usize) -> bool
-    ensures { λ r. ⌜ r ≡ validLength n ⌝ }
-{
-    n == LENGTH || n == FULL
-}
 
 fn valid_kind(s: &[u8]) -> bool
     ensures { λ r. ⌜ r ≡ validKind (readingOf (now (s .entry))) ⌝ }
@@ -64,7 +57,7 @@ fn valid_aid(s: &[u8]) -> bool
 pub fn valid_start(s: &[u8]) -> bool
     ensures { λ r. ⌜ r ≡ validStart (now (s .entry)) ⌝ }
 {
-    if !valid_length(s.len()) {
+    if !fields::is_length(s.len()) {
         return false;
     }
     if !valid_kind(s) {

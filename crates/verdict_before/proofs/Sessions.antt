@@ -14,7 +14,8 @@ use Rattle.decimal_dates.specs.Decimal.{decimalFrom, decimal, decimalByte, digi
 use Rattle.decimal_dates.specs.Dates.{monthAndDay, validStartDate}
 use Rattle.start_fields.specs.Reading.{readingOf}
 use Rattle.start_fields.proofs.Sample.{sample}
-use Rattle.start_valid.specs.Start.{validLength, validKind, validDigits, validRandom}
+use Rattle.start_fields.specs.Layout.{isLength}
+use Rattle.start_valid.specs.Start.{validKind, validDigits, validRandom}
 use Rattle.start_valid.specs.Start.{validPercentages, validThreshold, validAid, validStart}
 use Rattle.tape_read.specs.Entries.{Entry, entry, start, answer}
 use Rattle.rulebook.specs.Phase.{terminal, opens, dueKind}
@@ -56,7 +57,7 @@ session-same es short = (λ play. session-then play short .0, λ play. session-n
 
 -- some session has a START of 74 bytes, by today's rules
 sample-valid : validStart sample ≡ true
-unfolding validStart every pick between validLength validKind validDigits digitsOnly decimalByte validStartDate monthAndDay
+unfolding validStart every pick between isLength validKind validDigits digitsOnly decimalByte validStartDate monthAndDay
     validRandom validPercentages validThreshold validAid zerosOnly readingOf decimal decimalFrom
 sample-valid = refl
 

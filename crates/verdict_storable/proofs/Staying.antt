@@ -214,7 +214,8 @@ requested-stays facts s k = goes-stays s k (afterRecords facts) _ (after-small f
 verifying-stays : (s : Situation) → Knows s → Stays (verifying s)
 unfolding verifying
 verifying-stays s k =
-    picked Stays (resultsDue (s .terminal) (s .profile) (s .facts)) (hears (says Results s)) _ (λ y. k) (λ n. requested-stays (s .facts) s k)
+    picked Stays (resultsDue (s .terminal) (s .profile) (s .facts)) (hears (says Results s)) _ (λ y. k)
+    (λ n. requested-stays (s .facts) s k)
 
 read-stays : (s : Situation) (rest : List (ℕ × ℕ)) → Knows s → areBytes (numbersOf rest) ≡ true → Stays (readOn s rest)
 unfolding readOn allRead ended

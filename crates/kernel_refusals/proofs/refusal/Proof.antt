@@ -53,7 +53,8 @@ returns-6 : tie.Need-returns-6
 unfolding callRefusal refusalLines isOver
 returns-6 c =
     c .word-refusal .ensures
-    ∙ sym (line-no {r = false} (sym (le-ltb _ _ (c .before .before .before .before .before .before .before .before .before .if1 .left))) 1 _ refl
+    ∙ sym (line-no {r = false}
+    (sym (le-ltb _ _ (c .before .before .before .before .before .before .before .before .before .if1 .left))) 1 _ refl
     ∙ (line-no {r = false}
     (sym (ne-eqb _ _
     (λ e. c .before .before .before .before .before .before .before .if2 .left

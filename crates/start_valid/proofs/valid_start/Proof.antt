@@ -18,7 +18,7 @@ From k s = validStart s ≡ every (drop k (startTests s))
 
 at-1 : (c : tie.Else1) → From 1 (c .before .before .before .args .s .now)
 unfolding validStart
-at-1 c = passed (c .before .valid-length .ensures) _ (c .if1 .left)
+at-1 c = passed (c .before .is-length .ensures) _ (c .if1 .left)
 
 at-2 : (c : tie.Else2) → From 2 (c .before .before .before .before .before .args .s .now)
 at-2 c = at-1 (c .before .before) ∙ passed (c .before .valid-kind .ensures) _ (c .if2 .left)
@@ -42,7 +42,7 @@ at-6 c = at-5 (c .before .before) ∙ passed (c .before .valid-percentages .ensu
 
 returns : tie.Need-returns
 unfolding validStart
-returns c = sym (refused (c .before .valid-length .ensures) _ (c .if1 .taken))
+returns c = sym (refused (c .before .is-length .ensures) _ (c .if1 .taken))
 
 returns-2 : tie.Need-returns-2
 returns-2 c = sym (at-1 (c .before .before) ∙ refused (c .before .valid-kind .ensures) _ (c .if2 .taken))

@@ -20,4 +20,6 @@ returns-2 c =
     c .are-results .ensures ∙ sym (ap (λ (x : Word). wordAllowed x (args .count) (args .p .now)) (c .before .enum-told2 .given .1))
 
 pub is-allowed-spec : {M : Type 1} → statement M
-is-allowed-spec = tie.close (tie.spec (λ c. search needs) (λ c κs. search needs) (λ c. search needs) (λ c κs. search needs) returns returns-2)
+is-allowed-spec =
+    tie.close
+    (tie.spec (λ c. search needs) (λ c κs. search needs) (λ c. search needs) (λ c κs. search needs) returns returns-2)

@@ -20,4 +20,6 @@ returns-2 c =
     c .is-allowed .ensures ∙ sym (ap (λ (x : Speaker). allowedBy x (args .p .now)) (c .before .before .speaker .given .1))
 
 pub is-allowed-spec : {M : Type 1} → statement M
-is-allowed-spec = tie.close (tie.spec (λ c. search needs) (λ c κs. search needs) (λ c. search needs) (λ c κs. search needs) returns returns-2)
+is-allowed-spec =
+    tie.close
+    (tie.spec (λ c. search needs) (λ c κs. search needs) (λ c. search needs) (λ c κs. search needs) returns returns-2)
