@@ -9,12 +9,12 @@ use native.Mathlib.Omega.{arith}
 use lib.ListN.{length, take, drop, length-append}
 use lib.Seq.{take-at}
 use Rattle.slices.specs.Writing.{put}
-use Rattle.slices.proofs.Choice.{and-both}
 use Rattle.slices.proofs.Writing.{put-length, put-start, put-step, put-nothing}
 use Rattle.tape_read.specs.Entries.{Entry, blockSize, blocksMost, tapeMost, allStorable}
 use Rattle.tape_read.specs.Blocks.{block}
 use Rattle.tape_read.specs.Tapes.{written}
-use Rattle.tape_read.proofs.Roundtrip.{first-storable, rest-storable, written-length}
+use Rattle.tape_read.proofs.Roundtrip.{rest-storable, written-length}
+use Rattle.verdict_storable.proofs.Theorem.{front-storable}
 use Rattle.tape_write.specs.Appending.{fresh}
 use Rattle.tape_write.specs.declared.Writer.{Writer}
 use Rattle.kernel.specs.declared.Session.{Session}
@@ -55,11 +55,6 @@ same-session [] q p h = h
 same-session (c ∷ cs) q p h = same-session cs (taped q c) (after p c) (ap (λ (s : Session). made s c .session) h)
 
 -- ---- some entries, and then others
-
-front-storable : (es fs : List Entry) → allStorable (es ++ fs) ≡ true → allStorable es ≡ true
-unfolding allStorable
-front-storable [] fs h = refl
-front-storable (e ∷ es) fs h = and-both _ _ (first-storable e (es ++ fs) h) (front-storable es fs (rest-storable e (es ++ fs) h))
 
 back-storable : (es fs : List Entry) → allStorable (es ++ fs) ≡ true → allStorable fs ≡ true
 back-storable [] fs h = h

@@ -95,5 +95,6 @@ no-capabilities s h = not-there (runIn Capabilities s) (simp (length-take, lengt
 pub all-or-none : (s : List ℕ) → isLength (length s) ≡ true
     → (readingOf s .capabilities ≡ none) ⊎ (length (bytesOf Capabilities (readingOf s)) ≡ sizeOf Capabilities)
 all-or-none s valid =
-    one-length (λ n. length s ≡ n → (readingOf s .capabilities ≡ none) ⊎ (length (bytesOf Capabilities (readingOf s)) ≡ sizeOf Capabilities))
+    one-length
+    (λ n. length s ≡ n → (readingOf s .capabilities ≡ none) ⊎ (length (bytesOf Capabilities (readingOf s)) ≡ sizeOf Capabilities))
     (λ e. inl (no-capabilities s (omega arith))) (λ e. inr (all-read Capabilities s (omega arith))) (length s) valid refl

@@ -1,6 +1,6 @@
--- What is known of the terminal data that a valid START hands over: it is the reading of as many bytes as START can have, every field has its
--- length, and every number is in its range. Each fact is one of the tests that the START passed. A START that begins a session is
--- a valid one of the longest.
+-- What is known of the terminal data that a valid START hands over: it is the reading of as many bytes as START can have, every field
+-- has its length, and every number is in its range. Each fact is one of the tests that the START passed. A START that begins a session
+-- is a valid one of the longest.
 -- Assumes nothing.
 use mathlib.Core.Path.{_≡_, refl, subst}
 use mathlib.Core.Bool.{true, false}

@@ -39,7 +39,8 @@ pub session-storable : (es : List Entry) → Session es → allStorable es ≡ t
 unfolding Session
 session-storable es play = plays-storable play tt
 
-front-storable : (es fs : List Entry) → allStorable (es ++ fs) ≡ true → allStorable es ≡ true
+-- and so can what it begins with
+pub front-storable : (es fs : List Entry) → allStorable (es ++ fs) ≡ true → allStorable es ≡ true
 unfolding allStorable
 front-storable [] fs h = refl
 front-storable (e ∷ es) fs h = and-both _ _ (first-storable e (es ++ fs) h) (front-storable es fs (rest-storable e (es ++ fs) h))

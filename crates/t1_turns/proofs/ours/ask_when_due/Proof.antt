@@ -1,26 +1,23 @@
 -- `ours::ask_when_due` meets its contract: by the role. Assumes nothing.
-use mathlib.Core.Path.{_≡_, sym, ap, _∙_}
-use Rattle.t1_state.specs.declared.Role.{Role}
+use mathlib.Core.Path.{_≡_, _∙_}
 use Rattle.t1_state.specs.declared.Role.the-variants.{Terminal, Card}
 use Rattle.t1_state.specs.declared.Turn.{Turn}
 use Rattle.t1_again.specs.Again.{forRole}
+use Rattle.t1_again.proofs.Roles.{by-role}
 use Rattle.t1_turns.specs.Turns.{askIn}
 use borrow.Author.Needs.{needs}
 use Rattle.t1_turns.proofs.ours.ask_when_due.Statement.{statement}
 use Rattle.t1_turns.proofs.ours.ask_when_due.Tie as tie
 
-told : (r x : Role) (t c : Turn) → r ≡ x → forRole x t c ≡ forRole r t c
-told r x t c e = sym (ap (λ (y : Role). forRole y t c) e)
-
 returns : tie.Need-returns
 unfolding askIn forRole
 returns c =
-    c .refused-as .ensures ∙ told _ Terminal _ _ (c .before .enum-told .given .1)
+    c .refused-as .ensures ∙ by-role _ Terminal _ _ (c .before .enum-told .given .1)
 
 returns-2 : tie.Need-returns-2
 unfolding askIn forRole
 returns-2 c =
-    c .card-asks .ensures ∙ told _ Card _ _ (c .before .enum-told2 .given .1)
+    c .card-asks .ensures ∙ by-role _ Card _ _ (c .before .enum-told2 .given .1)
 
 pub ask-when-due-spec : {M : Type 1} → statement M
 ask-when-due-spec =
