@@ -1,74 +1,72 @@
 // One event, with its reply printed.
+use crate::asked::ASK;
+use crate::asked::BLOCK;
+use crate::asked::CARD;
+use crate::asked::HELLO;
+use crate::asked::SEND;
+use crate::asked::SILENCE;
+use crate::asked::small;
+use crate::asked::what_of;
 use crate::say;
-use slices::alike;
-use slices::part;
+use t1::Reply;
 use t1::Step;
-use t1::ask as ask_for;
-use t1::hello as first;
+use t1::ask;
+use t1::fresh;
+use t1::hello;
 use t1::receive;
-use t1::send as send_message;
+use t1::send;
 use t1::silent;
-use t1_block::What;
+use t1_state::Role;
 use t1_state::State;
-use text_hex::unhex;
 use text_lines::after_word;
 use text_lines::number;
-use text_lines::word_end;
 
-pub fn small(n: usize) -> u8 {
-    if n < 256 { n as u8 } else { 255 }
+pub fn stepped(
+    s: State,
+    asked: usize,
+    rest: &[u8],
+    given: &[u8],
+    out: &mut [u8; 258],
+    message: &mut [u8; 4354],
+) -> Step {
+    match asked {
+        BLOCK => receive(s, given, out, message),
+        SEND => send(s, given, out),
+        HELLO => hello(s, out),
+        SILENCE => silent(s),
+        ASK => ask(s, what_of(rest), small(number(after_word(rest))), out),
+        _ => begun(asked, rest),
+    }
 }
 
-fn told(step: Step, out: &[u8; 258], message: &[u8; 4354]) -> State {
+// An end at the beginning; sizes beyond a byte are taken as 255.
+fn begun(asked: usize, rest: &[u8]) -> Step {
+    Step {
+        state: fresh(role_of(asked), small(number(rest)), own_size(asked, rest)),
+        reply: Reply::Nothing,
+    }
+}
+
+fn role_of(asked: usize) -> Role {
+    if asked == CARD {
+        Role::Card
+    } else {
+        Role::Terminal
+    }
+}
+
+fn own_size(asked: usize, rest: &[u8]) -> u8 {
+    if asked == CARD {
+        small(number(after_word(rest)))
+    } else {
+        254
+    }
+}
+
+pub fn told(step: Step, out: &[u8; 258], message: &[u8; 4354]) -> State {
     let state = step.state;
-    let said = step.reply;
-    say::reply(said, out, message);
+    let reply = step.reply;
+    say::reply(reply, out, message);
     say::state(state);
     state
-}
-
-pub fn block(s: State, digits: &[u8], out: &mut [u8; 258], message: &mut [u8; 4354]) -> State {
-    let mut bytes = [0u8; 8192];
-    let n = unhex(digits, &mut bytes);
-    if digits.len() != 2 * n {
-        text_print::text(b"ERROR not hexadecimal\n");
-        return s;
-    }
-    let step = receive(s, part(&bytes, 0, n), out, message);
-    told(step, out, message)
-}
-
-pub fn send(s: State, digits: &[u8], out: &mut [u8; 258], message: &[u8; 4354]) -> State {
-    let mut bytes = [0u8; 8192];
-    let n = unhex(digits, &mut bytes);
-    if digits.len() != 2 * n {
-        text_print::text(b"ERROR not hexadecimal\n");
-        return s;
-    }
-    let step = send_message(s, part(&bytes, 0, n), out);
-    told(step, out, message)
-}
-
-pub fn hello(s: State, out: &mut [u8; 258], message: &[u8; 4354]) -> State {
-    let step = first(s, out);
-    told(step, out, message)
-}
-
-pub fn silence(s: State, out: &[u8; 258], message: &[u8; 4354]) -> State {
-    told(silent(s), out, message)
-}
-
-pub fn ask(s: State, rest: &[u8], out: &mut [u8; 258], message: &[u8; 4354]) -> State {
-    let what = part(rest, 0, word_end(rest, 0));
-    let value = small(number(after_word(rest)));
-    if alike(what, b"IFS") {
-        let step = ask_for(s, What::Ifs, value, out);
-        return told(step, out, message);
-    }
-    if alike(what, b"WTX") {
-        let step = ask_for(s, What::Wtx, value, out);
-        return told(step, out, message);
-    }
-    text_print::text(b"ERROR neither IFS nor WTX\n");
-    s
 }

@@ -23,20 +23,26 @@
 //
 // TEST is answered by VALID and what the block says, or by INVALID with the code and the name of the test; CUT by a line SEND for each
 // block. ERROR why answers any other line; nothing changes.
+mod asked;
 mod blocks;
 mod events;
 mod say;
+mod words;
 
-use slices::alike;
+use asked::CUT;
+use asked::TEST;
+use asked::asked_by;
+use asked::digits_in;
+use events::stepped;
+use events::told;
 use slices::part;
 use t1::fresh;
 use t1_state::Role;
 use t1_state::State;
+use text_hex::unhex;
 use text_input::Line;
 use text_input::read_line;
 use text_lines::after_word;
-use text_lines::number;
-use text_lines::word_end;
 
 // A line with 8,192 bytes.
 const LONGEST: usize = 16_500;
@@ -63,57 +69,33 @@ fn exchange(line: &mut [u8], out: &mut [u8; 258], message: &mut [u8; 4354]) {
 }
 
 fn said(s: State, line: &[u8], out: &mut [u8; 258], message: &mut [u8; 4354]) -> State {
-    let end = word_end(line, 0);
-    let word = part(line, 0, end);
-    let rest = after_word(line);
-    if alike(word, b"BLOCK") {
-        return events::block(s, rest, out, message);
-    }
-    if alike(word, b"SEND") {
-        return events::send(s, rest, out, message);
-    }
-    other(s, word, rest, out, message)
+    let digits = digits_in(line);
+    let mut bytes = [0u8; 8192];
+    let n = unhex(digits, &mut bytes);
+    let asked = asked_by(line, digits.len() == 2 * n);
+    answered(s, asked, after_word(line), part(&bytes, 0, n), out, message)
 }
 
-fn other(s: State, word: &[u8], rest: &[u8], out: &mut [u8; 258], message: &[u8; 4354]) -> State {
-    if alike(word, b"HELLO") {
-        return events::hello(s, out, message);
+fn answered(
+    s: State,
+    asked: usize,
+    rest: &[u8],
+    given: &[u8],
+    out: &mut [u8; 258],
+    message: &mut [u8; 4354],
+) -> State {
+    if asked < TEST {
+        let step = stepped(s, asked, rest, given, out, message);
+        return told(step, out, message);
     }
-    if alike(word, b"SILENCE") {
-        return events::silence(s, out, message);
-    }
-    if alike(word, b"ASK") {
-        return events::ask(s, rest, out, message);
-    }
-    rare(s, word, rest, out)
-}
-
-fn rare(s: State, word: &[u8], rest: &[u8], out: &mut [u8; 258]) -> State {
-    if alike(word, b"TERMINAL") {
-        return begun(Role::Terminal, rest, b"254");
-    }
-    if alike(word, b"CARD") {
-        return begun(Role::Card, rest, after_word(rest));
-    }
-    if alike(word, b"TEST") {
-        blocks::test(rest);
-        return s;
-    }
-    if alike(word, b"CUT") {
-        blocks::cut(rest, out);
-        return s;
-    }
-    text_print::text(b"ERROR unknown word\n");
+    other(asked, rest, given, out);
     s
 }
 
-// An end at the beginning; sizes beyond a byte are taken as 255.
-fn begun(role: Role, theirs: &[u8], ours: &[u8]) -> State {
-    let s = fresh(
-        role,
-        events::small(number(theirs)),
-        events::small(number(ours)),
-    );
-    say::state(s);
-    s
+fn other(asked: usize, rest: &[u8], given: &[u8], out: &mut [u8; 258]) {
+    match asked {
+        TEST => blocks::test(given, rest),
+        CUT => blocks::cut(given, rest, out),
+        _ => say::error(asked),
+    }
 }

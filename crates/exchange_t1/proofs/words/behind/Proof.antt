@@ -1,0 +1,25 @@
+-- `words::behind` meets its contract: it is safe and ends, since the words are counted. Assumes nothing.
+use Prim.Native.Nat.{_≤_, _-_}
+use native.Mathlib.Omega.{arith}
+use borrow.Author.Needs.{needs}
+use Rattle.exchange_t1.proofs.words.behind.Statement.{statement}
+use Rattle.exchange_t1.proofs.words.behind.Tie as tie
+
+abbrev Inv-loop : tie.InvT-loop
+Inv-loop s n left₀ i₀ left i = i ≤ n
+
+abbrev μ-loop : tie.MeasureT-loop
+μ-loop s n left₀ i₀ left i = n - i
+
+pub behind-spec : {M : Type 1} → statement M
+behind-spec =
+    tie.close
+    (tie.spec
+    Inv-loop
+    μ-loop
+    (λ c. omega arith)
+    (λ c κs. search needs)
+    (λ c. omega arith)
+    (λ c. omega arith)
+    (λ c. omega arith)
+    (λ c. search needs))
