@@ -32,14 +32,18 @@ fn main() {
 }
 
 fn show(record: &[u8]) {
+    let mut t = [0u8; LONGEST];
+    show_in(record, &mut t);
+}
+
+fn show_in(record: &[u8], t: &mut [u8]) {
     if record.len() < RECORD {
         return;
     }
-    let mut t = [0u8; LONGEST];
     let size = number(record, NAME) % 2049;
     let times = number(record, NAME + 2);
     io::write_all(STDOUT_FILENO, &record[0..NAME]);
-    let n = repeat(&mut t, &record[HEAD..HEAD + size], times);
+    let n = repeat(t, &record[HEAD..HEAD + size], times);
     read(&t[0..n]);
 }
 

@@ -1,0 +1,13 @@
+-- `show` meets its contract: it is safe. That the buffer has its length is by a law; search would count it out.
+-- Assumes nothing.
+use mathlib.Core.Path.{sym}
+use Prim.Native.Nat.{ℕ}
+use lib.ListN.{length-replicate}
+use borrow.Author.Needs.{needs}
+use Rattle.bench_tape.proofs.show.Statement.{statement}
+use Rattle.bench_tape.proofs.show.Tie as tie
+
+pub show-spec : {M : Type 1} → statement M
+show-spec =
+    tie.close
+    (tie.spec (λ c. sym (length-replicate {A = ℕ} 526336 0)) (λ c κs. search needs) (λ c. search needs))
