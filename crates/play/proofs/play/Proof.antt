@@ -1,0 +1,17 @@
+-- `play` meets its contract: it is safe. That the tape's buffer has its length is by a law; search would count it out.
+-- Assumes nothing.
+use mathlib.Core.Path.{sym}
+use Prim.Native.Nat.{ℕ}
+use lib.ListN.{length-replicate}
+use borrow.Author.Needs.{needs}
+use Rattle.play.proofs.play.Statement.{statement}
+use Rattle.play.proofs.play.Tie as tie
+
+pub play-spec : {M : Type 1} → statement M
+play-spec =
+    tie.close
+    (tie.spec
+    (λ c. search needs)
+    (λ c. sym (length-replicate {A = ℕ} 524288 0))
+    (λ c κs. search needs)
+    (λ c. search needs))
