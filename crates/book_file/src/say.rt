@@ -3,7 +3,9 @@ use book::Book;
 use book::Reply;
 use book_block::entry_in;
 use libc::STDERR_FILENO;
+use slices::part;
 use tape_read::block_at;
+use text_lines::line_end;
 use text_print::number;
 use text_print::text;
 
@@ -39,17 +41,26 @@ pub fn replied(reply: Reply) {
     }
 }
 
+// The faults stand in one text, nine bytes each: a text for each arm is dear to prove.
 pub fn refused(place: usize, fault: u8) {
+    let faults = b"too long\ntorn\n    check\n   number\n  verdict\n zeros\n   twice\n";
+    let name = part(faults, place_of(fault), 9);
     text(b"refused ");
     number(place);
+    text(b" ");
+    text(part(name, 0, line_end(name, 0)));
+    text(b"\n");
+}
+
+fn place_of(fault: u8) -> usize {
     match fault {
-        1 => text(b" too long\n"),
-        2 => text(b" torn\n"),
-        3 => text(b" check\n"),
-        4 => text(b" number\n"),
-        5 => text(b" verdict\n"),
-        6 => text(b" zeros\n"),
-        _ => text(b" twice\n"),
+        1 => 0,
+        2 => 9,
+        3 => 18,
+        4 => 27,
+        5 => 36,
+        6 => 45,
+        _ => 54,
     }
 }
 

@@ -3,6 +3,7 @@ use slices::part;
 use t0_begin::Reply;
 use t0_begin::Wait;
 use t0_state::Refusal;
+use text_lines::word_end;
 
 pub fn reply(said: Reply, out: &[u8], answer: &[u8]) {
     match said {
@@ -48,16 +49,23 @@ fn waits(wait: Wait) {
     }
 }
 
+// The names stand in one text, eight bytes each: a text for each arm is dear to prove.
 fn refusal(why: Refusal) {
+    let names = b"COMMAND INS     BYTE    PLACE   MANY-60 MANY-61 MANY-6C CLOSED  ";
+    let name = part(names, place_of(why), 8);
     text_print::text(b"REFUSED ");
+    text_print::text(part(name, 0, word_end(name, 0)));
+}
+
+fn place_of(why: Refusal) -> usize {
     match why {
-        Refusal::Command => text_print::text(b"COMMAND"),
-        Refusal::Ins => text_print::text(b"INS"),
-        Refusal::Byte => text_print::text(b"BYTE"),
-        Refusal::Place => text_print::text(b"PLACE"),
-        Refusal::Many60 => text_print::text(b"MANY-60"),
-        Refusal::Many61 => text_print::text(b"MANY-61"),
-        Refusal::Many6C => text_print::text(b"MANY-6C"),
-        Refusal::Closed => text_print::text(b"CLOSED"),
+        Refusal::Command => 0,
+        Refusal::Ins => 8,
+        Refusal::Byte => 16,
+        Refusal::Place => 24,
+        Refusal::Many60 => 32,
+        Refusal::Many61 => 40,
+        Refusal::Many6C => 48,
+        Refusal::Closed => 56,
     }
 }
