@@ -11,6 +11,6 @@ pub main-spec : {M : Type 1} → statement M
 main-spec =
     tie.close
     (tie.spec
-    (λ c. sym (length-replicate {A = ℕ} 530000 0))
+    (λ c. sym (length-replicate {A = ℕ} _ 0))
     (λ c κs. search needs)
     (λ c. search needs))

@@ -12,6 +12,6 @@ main-spec =
     tie.close
     (tie.spec
     (λ c. search needs)
-    (λ c. sym (length-replicate {A = ℕ} 524288 0))
+    (λ c. sym (length-replicate {A = ℕ} _ 0))
     (λ c κs. search needs)
     (λ c. search needs))

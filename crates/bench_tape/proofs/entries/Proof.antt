@@ -10,4 +10,4 @@ use Rattle.bench_tape.proofs.entries.Tie as tie
 pub entries-spec : {M : Type 1} → statement M
 entries-spec =
     tie.close
-    (tie.spec (λ c. sym (length-replicate {A = ℕ} 526336 0)) (λ c κs. search needs) (λ c. search needs))
+    (tie.spec (λ c. sym (length-replicate {A = ℕ} _ 0)) (λ c κs. search needs) (λ c. search needs))
