@@ -1,8 +1,9 @@
 #!/usr/bin/env python3
 """Captures for crates/read_atr: writes its stdin, and the stdout that it must give.
 
-The readings come from a program that was written from source 000, section I-4, and shares nothing with the proved code; they are
-stored with the captures in crates/read_atr/atr.jsonl. Run this in the repository's root.
+The readings come from two programs that were written from source 000, section I-4, and share nothing with the proved code. Those of the
+first are stored with their captures in crates/read_atr/atr.jsonl. Those of the second, reference/, are of captures of over 33 bytes, as it
+prints them: crates/read_atr/long.txt, a capture and its line. Run this in the repository's root.
 """
 import json
 
@@ -58,10 +59,17 @@ def reply(vector):
     return accepted(bytes.fromhex(vector["capture"]), expect) if expect["ok"] else refused(expect)
 
 
+def long_captures():
+    """Captures of over 33 bytes with the lines of reference/, which writes a place behind a colon."""
+    with open(FOLDER + "long.txt") as lines:
+        parts = [line.rstrip("\n").split(" | ") for line in lines]
+    return [(capture, line.replace(":", "@")) for capture, line in parts]
+
+
 def main():
     with open(FOLDER + "atr.jsonl") as lines:
         vectors = [json.loads(line) for line in lines]
-    pairs = FAULTS + [(question(v), reply(v)) for v in vectors]
+    pairs = FAULTS + [(question(v), reply(v)) for v in vectors] + long_captures()
     for name, texts in zip(("stdin", "stdout"), zip(*pairs)):
         with open(FOLDER + name, "w") as out:
             out.writelines(text + "\n" for text in texts)

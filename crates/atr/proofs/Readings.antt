@@ -9,6 +9,7 @@ use Rattle.slices.proofs.Choice.{pick-yes, pick-no}
 use Rattle.atr_characters.specs.Data.{dataOf}
 use Rattle.atr_characters.specs.Located.{locatedOf}
 use Rattle.atr_characters.specs.declared.Located.{Located}
+use Rattle.atr_rules.specs.Names.{numbers}
 use Rattle.atr_rules.specs.Lines.{linesOf, setOf}
 use Rattle.atr_sets.specs.Sets.{lowest, placeOf}
 use Rattle.atr_sets.proofs.Firsts.{none-set, some-set}
@@ -25,11 +26,11 @@ module _ (ts : Bool) (l : Located) (warm : Bool) where
   accepted e = sym (pick-no _ _ _ (none-set (linesOf ts l warm) e))
 
   refused : (rules first place : ℕ) → rules ≡ setOf (linesOf ts l warm) → (rules ≡ 0 → ⊥)
-      → first ≡ lowest 20 1 rules → place ≡ placeOf l first
+      → first ≡ lowest numbers 1 rules → place ≡ placeOf l first
       → Refused (record { rules = rules; first = first; place = place }) ≡ readingOf (linesOf ts l warm) l
   unfolding readingOf
   refused rules first place r some f p =
-      let number = f ∙ (ap (lowest 20 1) r ∙ first-found ts l warm) in
+      let number = f ∙ (ap (lowest numbers 1) r ∙ first-found ts l warm) in
       let at = p ∙ (ap (placeOf l) number ∙ place-found ts l warm) in
       rw (at, number, r) (sym (pick-yes _ _ _ (some-set (linesOf ts l warm) (λ e. some (r ∙ e)))))
 
@@ -53,7 +54,7 @@ module _ (capture : List ℕ) (warm inverse ts : Bool) (l : Located)
         → _≡_ {A = Answer} (record { inverse = inverse; reading = Accepted told }) (readReset capture warm)
     accepted-answer told e none = answer (Accepted told) (ap Accepted e ∙ accepted ts l warm (sym r ∙ none))
 
-    pub refused-answer : (first place : ℕ) → (rules ≡ 0 → ⊥) → first ≡ lowest 20 1 rules → place ≡ placeOf l first
+    pub refused-answer : (first place : ℕ) → (rules ≡ 0 → ⊥) → first ≡ lowest numbers 1 rules → place ≡ placeOf l first
         → _≡_ {A = Answer}
         (record { inverse = inverse; reading = Refused (record { rules = rules; first = first; place = place }) })
         (readReset capture warm)

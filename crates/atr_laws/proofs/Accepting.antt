@@ -1,4 +1,4 @@
--- A capture is accepted exactly where no rule is broken. One of more than 33 bytes never is: either it is cut or it is too long.
+-- A capture is accepted exactly where no rule is broken. One of more than 33 bytes never is.
 -- Of one that is accepted the historical bytes lie in the capture.
 -- Assumes nothing.
 use mathlib.Core.Path.{_≡_, refl, sym, ap, _∙_}
@@ -16,7 +16,7 @@ use Rattle.atr_characters.specs.Data.{dataOf}
 use Rattle.atr_characters.specs.Located.{historicalEnd, locatedOf}
 use Rattle.atr_characters.specs.declared.Located.{Located}
 use Rattle.atr_characters.proofs.Data.{data-length}
-use Rattle.atr_rules.specs.Lines.{firstLines, secondLines, thirdLines, lastLines, linesOf}
+use Rattle.atr_rules.specs.Lines.{isLong, firstLines, secondLines, thirdLines, lastLines, linesOf}
 use Rattle.atr.specs.Reading.{isInverse, tsBroken, toldOf, readingOf, rulesOf, readReset}
 use Rattle.atr.specs.declared.Broken.{Broken}
 use Rattle.atr.specs.declared.Told.{Told}
@@ -41,23 +41,34 @@ any-at (t ∷ ts) (suc k) e = either t (λ y. pick-yes _ _ _ y) (λ n. pick-no _
 
 -- the rules on the end, by their places in the list
 module _ (l : Located) (warm : Bool) where
-  cut-there : getD (brokenOf (linesOf false l warm)) 15 false ≡ ltb (l .size) (l .end)
+  cut-there : getD (brokenOf (linesOf false l warm)) 16 false ≡ ltb (l .size) (l .end)
   unfolding brokenOf linesOf firstLines secondLines thirdLines lastLines pick
   cut-there = refl
 
-  long-there : getD (brokenOf (linesOf false l warm)) 19 false ≡ (not (ltb (l .size) (l .end)) && ltb 33 (l .size))
-  unfolding brokenOf linesOf firstLines secondLines thirdLines lastLines pick
-  long-there = refl
+  before-there : getD (brokenOf (linesOf false l warm)) 15 false ≡ (ltb 33 (l .size) && ltb 33 (l .end))
+  unfolding brokenOf linesOf firstLines secondLines thirdLines lastLines isLong pick
+  before-there = refl
 
+  between-there : getD (brokenOf (linesOf false l warm)) 19 false ≡ (ltb 33 (l .size) && not (ltb 33 (l .end)) && ltb 33 (l .after))
+  unfolding brokenOf linesOf firstLines secondLines thirdLines lastLines isLong pick
+  between-there = refl
+
+  behind-there : getD (brokenOf (linesOf false l warm)) 21 false ≡ (ltb 33 (l .size) && not (ltb 33 (l .end)) && not (ltb 33 (l .after)))
+  unfolding brokenOf linesOf firstLines secondLines thirdLines lastLines isLong pick
+  behind-there = refl
+
+  -- LONG's three numbers part among them all captures that are too long
   pub long-broken : (ts : Bool) → 33 < l .size → anyOf (brokenOf (linesOf ts l warm)) ≡ true
   unfolding brokenOf linesOf anyOf pick
   long-broken true h = refl
   long-broken false h =
-      either (ltb (l .size) (l .end))
-      (λ cut. any-at (brokenOf (linesOf false l warm)) 15 (cut-there ∙ cut))
-      (λ whole.
-      any-at (brokenOf (linesOf false l warm)) 19
-      (long-there ∙ (ap (λ (b : Bool). not b && ltb 33 (l .size)) whole ∙ lt-ltb 33 (l .size) h)))
+      let long = lt-ltb 33 (l .size) h in
+      either (ltb 33 (l .end))
+      (λ before. any-at (brokenOf (linesOf false l warm)) 15 (before-there ∙ rw (long, before)))
+      (λ there.
+      either (ltb 33 (l .after))
+      (λ between. any-at (brokenOf (linesOf false l warm)) 19 (between-there ∙ rw (long, there, between)))
+      (λ behind. any-at (brokenOf (linesOf false l warm)) 21 (behind-there ∙ rw (long, there, behind))))
 
 pub long-refused : (capture : List ℕ) (warm : Bool) → 33 < length capture → isAccepted (readReset capture warm .reading) ≡ false
 unfolding someBroken rulesOf locatedOf
@@ -80,7 +91,7 @@ module _ (l : Located) (warm : Bool) where
   whole : (ts : Bool) → anyOf (brokenOf (linesOf ts l warm)) ≡ false → l .end ≤ l .size
   unfolding brokenOf linesOf anyOf pick
   whole true e = absurd (false≢true (sym e))
-  whole false e = ltb-false (l .size) (l .end) (sym (cut-there l warm) ∙ none-at (brokenOf (linesOf false l warm)) 15 e)
+  whole false e = ltb-false (l .size) (l .end) (sym (cut-there l warm) ∙ none-at (brokenOf (linesOf false l warm)) 16 e)
 
 module _ (capture : List ℕ) (warm : Bool) (told : Told) (e : readReset capture warm .reading ≡ Accepted told) where
   found : (someBroken capture warm ≡ false) × (told ≡ toldOf (locatedOf (dataOf (isInverse capture) capture)))

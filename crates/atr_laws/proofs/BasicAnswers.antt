@@ -20,7 +20,7 @@ use Rattle.atr_characters.specs.Levels.{absent}
 use Rattle.atr_characters.specs.Located.{locatedOf}
 use Rattle.atr_characters.specs.declared.Located.{Located}
 use Rattle.atr_rules.specs.Tests.{isAbsent, isThere, guardAndOne}
-use Rattle.atr_rules.specs.Lines.{Line, firstLines, secondLines, thirdLines, lastLines, linesOf}
+use Rattle.atr_rules.specs.Lines.{Line, isLong, firstLines, secondLines, thirdLines, lastLines, linesOf}
 use Rattle.atr.specs.Reading.{isInverse, rulesOf, readReset}
 use Rattle.atr_laws.specs.Readings.{isAccepted, brokenOf, someBroken}
 use Rattle.atr_laws.specs.Basic.{basicT0, basicBody, basicT1, InTable}
@@ -31,6 +31,13 @@ use Rattle.atr_laws.proofs.BasicLevels.{located₀, located-is₀, loca
 and-false : (a b : Bool) → b ≡ false → (a && b) ≡ false
 and-false true b e = e
 and-false false b e = refl
+
+-- LONG at any of its numbers, where the capture is short enough
+not-long : (size : ℕ) (b : Bool) → size ≤ 33 → (ltb 33 size && b) ≡ false
+not-long size b h = ap (λ (t : Bool). t && b) (le-ltb 33 size h)
+
+not-long-there : (size : ℕ) (b c : Bool) → size ≤ 33 → (ltb 33 size && b && c) ≡ false
+not-long-there size b c h = ap (λ (t : Bool). t && c) (not-long size b h)
 
 -- a direct capture whose characters were located, and break no rule
 accepted-direct : (r : List ℕ) (warm : Bool) (l : Located) → locatedOf (0x3B ∷ r) ≡ l → anyOf (brokenOf (linesOf false l warm)) ≡ false
@@ -50,15 +57,17 @@ both-false false b = refl
 -- T=0 only: any TC1, any historical bytes, after a cold or a warm reset
 module _ (tc1 : ℕ) (h : List ℕ) (few : length h ≤ 15) where
   rules₀ : (warm : Bool) → anyOf (brokenOf (linesOf false (located₀ tc1 h few) warm)) ≡ false
-  unfolding anyOf brokenOf linesOf firstLines secondLines thirdLines lastLines pick
+  unfolding anyOf brokenOf linesOf isLong firstLines secondLines thirdLines lastLines pick
   rules₀ warm =
       let size = suc (suc (suc (suc (length h)))) in
       let end = 4 + (0x60 + length h) % 16 in
       pick-no _ _ _ (both-false (not warm) (leb 3 size))
       ∙ (pick-no _ _ _ (and-false (not warm && true) false refl)
+      ∙ (pick-no _ _ _ (not-long size _ (omega arith))
       ∙ (pick-no _ _ _ (le-ltb size end (omega arith))
+      ∙ (pick-no _ _ _ (not-long-there size _ _ (omega arith))
       ∙ (pick-no _ _ _ (le-ltb (end + 0) size (omega arith))
-      ∙ pick-no _ _ _ (and-false (not (ltb size end)) (ltb 33 size) (le-ltb 33 size (omega arith))))))
+      ∙ pick-no _ _ _ (not-long-there size _ _ (omega arith)))))))
 
   pub basic-T0 : (warm : Bool) → isAccepted (readReset (basicT0 tc1 h) warm .reading) ≡ true
   unfolding basicT0
@@ -111,7 +120,7 @@ module _ (tc1 ta3 tb3 : ℕ) (h : List ℕ) (basic : InTable tc1 ta3 tb3 h) wher
   tck-there = let e = size-is in ne-eqb size end (λ same. omega arith)
 
   rules₁ : (warm : Bool) → anyOf (brokenOf (linesOf false (located₁ tc1 ta3 tb3 h (basic .few) check) warm)) ≡ false
-  unfolding anyOf brokenOf linesOf firstLines secondLines thirdLines lastLines pick body basicBody
+  unfolding anyOf brokenOf linesOf isLong firstLines secondLines thirdLines lastLines pick body basicBody
   rules₁ warm =
       let e = size-is in
       let few = basic .few in
@@ -122,11 +131,13 @@ module _ (tc1 ta3 tb3 : ℕ) (h : List ℕ) (basic : InTable tc1 ta3 tb3 h) wher
       ∙ (pick-no _ _ _ (and-false (isThere tb3) _ (le-ltb 4 (tb3 / 16) (basic .bwi)))
       ∙ (pick-no _ _ _ (and-false (isThere tb3) _ (le-ltb 5 (tb3 % 16) (basic .cwi)))
       ∙ (pick-no _ _ _ (and-false (isThere tb3) _ (le-ltb (2 ^ (tb3 % 16)) (guardAndOne tc1) (basic .room)))
+      ∙ (pick-no _ _ _ (not-long size _ (omega arith))
       ∙ (pick-no _ _ _ (le-ltb size end (omega arith))
       ∙ (pick-no _ _ _ tck-there
       ∙ (pick-no _ _ _ (and-false (ltb end size) _ (ap (λ (j : ℕ). not (eqb j 0)) zero-sum))
+      ∙ (pick-no _ _ _ (not-long-there size _ _ (omega arith))
       ∙ (pick-no _ _ _ (le-ltb (end + 1) size (omega arith))
-      ∙ pick-no _ _ _ (and-false (not (ltb size end)) (ltb 33 size) (le-ltb 33 size (omega arith)))))))))))))
+      ∙ pick-no _ _ _ (not-long-there size _ _ (omega arith))))))))))))))
 
   pub basic-T1 : (warm : Bool) → isAccepted (readReset (basicT1 tc1 ta3 tb3 h) warm .reading) ≡ true
   unfolding basicT1 basicBody body check

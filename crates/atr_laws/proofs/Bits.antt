@@ -11,6 +11,7 @@ use lib.ListN.{getD}
 use borrow.Author.Tests.{le-ltb}
 use Rattle.slices.proofs.Choice.{pick-no}
 use Rattle.atr_characters.specs.Data.{oneIf}
+use Rattle.atr_rules.specs.Names.{numbers}
 use Rattle.atr_rules.specs.Lines.{Line, setOf}
 use Rattle.atr_sets.specs.Sets.{hasRule}
 use Rattle.atr_laws.specs.Readings.{brokenOf}
@@ -38,10 +39,10 @@ bit-at (x ∷ xs) (suc k) =
     let moved = ap (λ (p : ℕ). n / p) (pow-succ' 2 k) ∙ (sym (div-div-eq-div-mul n 2 (2 ^ k)) ∙ ap (λ (q : ℕ). q / 2 ^ k) half) in
     ap (λ (q : ℕ). eqb (q % 2) 1) moved ∙ bit-at xs k
 
-pub broken-has : (xs : List Line) (k : ℕ) → k < 20 → hasRule (setOf xs) (k + 1) ≡ getD (brokenOf xs) k false
+pub broken-has : (xs : List Line) (k : ℕ) → k < numbers → hasRule (setOf xs) (k + 1) ≡ getD (brokenOf xs) k false
 unfolding hasRule
 broken-has xs k h =
     let same : k + 1 - 1 ≡ k = omega arith in
     pick-no _ _ _ (le-ltb (k + 1) 1 (omega arith))
-    ∙ (pick-no _ _ _ (le-ltb 20 (k + 1) (omega arith))
+    ∙ (pick-no _ _ _ (le-ltb numbers (k + 1) (omega arith))
     ∙ (ap (λ (j : ℕ). eqb (setOf xs / 2 ^ j % 2) 1) same ∙ bit-at xs k))

@@ -19,7 +19,7 @@ levelAfter zero s = firstOf s
 levelAfter (suc n) s = afterOf s (levelAfter n s)
 
 -- a character that is there was announced, and its place is in the capture
-there-inside : (s : List ℕ) (bit p : ℕ) → (foundAt s bit p ≡ absent → ⊥) → (bit ≡ 1) × (p < length s)
+pub there-inside : (s : List ℕ) (bit p : ℕ) → (foundAt s bit p ≡ absent → ⊥) → (bit ≡ 1) × (p < length s)
 unfolding foundAt
 there-inside s bit p =
     picked (λ (x : ℕ). (x ≡ absent → ⊥) → (bit ≡ 1) × (p < length s)) (eqb bit 1) _ _

@@ -1,10 +1,11 @@
--- A capture for each rule that breaks that rule and no other, after a cold reset: the rule, the capture and the place.
+-- A capture for each rule that breaks that rule and no other, after a cold reset: its number, the capture and the place. LONG stands
+-- here with two of its three numbers; the third is behind EXTRA, and never alone.
 -- Assumes nothing.
 use mathlib.Core.List.{List, [], _∷_, _++_}
 use Prim.Native.Nat.{ℕ}
 use lib.ListN.{replicate}
 use Rattle.atr_rules.specs.Names.{TS, TA1, TB1-ABSENT, TB1, TD1, TA2, TB2, TC2, TD2, TA3, TB3-ABSENT}
-use Rattle.atr_rules.specs.Names.{TB3-BWI, TB3-CWI, TB3-N, TC3, CUT, TCK-ABSENT, TCK, EXTRA, LONG}
+use Rattle.atr_rules.specs.Names.{TB3-BWI, TB3-CWI, TB3-N, TC3, LONG-BEFORE, CUT, TCK-ABSENT, TCK, LONG-BETWEEN, EXTRA}
 
 pub record Breaking : Type 0 where
   pub rule : ℕ
@@ -14,11 +15,32 @@ pub record Breaking : Type 0 where
 abbrev breaking : ℕ → ℕ → List ℕ → Breaking
 breaking rule place capture = record { rule = rule; capture = capture; place = place }
 
--- five levels, fifteen historical bytes and TCK
-abbrev tooLong : List ℕ
-tooLong =
-    (0x3B ∷ 0xAF ∷ 0x00 ∷ 0x80 ∷ 0xFE ∷ 0x00 ∷ 0x00 ∷ 0x00 ∷ 0xF0 ∷ 0x00 ∷ 0x00 ∷ 0x00 ∷ 0xF0 ∷ 0x00 ∷ 0x00 ∷ 0x00 ∷ 0x20 ∷ 0x00 ∷ [])
-    ++ (replicate 15 0x41 ++ (0xB0 ∷ []))
+-- T0 to the fourth level's TD, and as many characters of a fifth level as it announces; then fifteen historical bytes and TCK
+abbrev withLevel : ℕ → List ℕ → ℕ → List ℕ
+withLevel map level tck =
+    (0x3B ∷ 0xAF ∷ 0x00 ∷ 0x80 ∷ 0xFE ∷ 0x00 ∷ 0x00 ∷ 0x00 ∷ 0xF0 ∷ 0x00 ∷ 0x00 ∷ 0x00 ∷ 0xF0 ∷ 0x00 ∷ 0x00 ∷ 0x00 ∷ map ∷ level)
+    ++ (replicate 15 0x41 ++ (tck ∷ []))
+
+-- 35 characters: TCK stands at 34, and LONG before it
+abbrev longBefore : List ℕ
+longBefore = withLevel 0x30 (0x00 ∷ 0x00 ∷ []) 0xA0
+
+-- 34 characters: TCK stands at 33, and LONG is given behind it
+abbrev longBetween : List ℕ
+longBetween = withLevel 0x20 (0x00 ∷ []) 0xB0
+
+-- a whole answer of three characters, and 31 more: EXTRA at 3, and LONG at 33
+abbrev pub longBehind : List ℕ
+longBehind = 0x3B ∷ 0x20 ∷ replicate 32 0x00
+
+-- 40 characters, the last of which are levels of four that go on: LONG at 33, CUT at 40
+abbrev pub longAndCut : List ℕ
+longAndCut =
+    (0x3B ∷ 0xA0 ∷ 0x00 ∷ 0x80 ∷ 0xFE ∷ [])
+    ++ (level ++ level ++ level ++ level ++ level ++ level ++ level ++ level ++ (0x00 ∷ 0x00 ∷ 0x00 ∷ []))
+  where
+    level : List ℕ
+    level = 0x00 ∷ 0x00 ∷ 0x00 ∷ 0xF0 ∷ []
 
 abbrev pub eachRule : List Breaking
 eachRule =
@@ -37,9 +59,10 @@ eachRule =
     ∷ breaking TB3-CWI 5 (0x3B ∷ 0xA0 ∷ 0x00 ∷ 0x81 ∷ 0x21 ∷ 0x46 ∷ 0x46 ∷ [])
     ∷ breaking TB3-N 6 (0x3B ∷ 0xE0 ∷ 0x00 ∷ 0x01 ∷ 0x81 ∷ 0x21 ∷ 0x40 ∷ 0x01 ∷ [])
     ∷ breaking TC3 6 (0x3B ∷ 0xA0 ∷ 0x00 ∷ 0x81 ∷ 0x61 ∷ 0x45 ∷ 0x01 ∷ 0x04 ∷ [])
+    ∷ breaking LONG-BEFORE 33 longBefore
     ∷ breaking CUT 2 (0x3B ∷ 0x20 ∷ [])
     ∷ breaking TCK-ABSENT 6 (0x3B ∷ 0xA0 ∷ 0x00 ∷ 0x81 ∷ 0x21 ∷ 0x45 ∷ [])
     ∷ breaking TCK 6 (0x3B ∷ 0xA0 ∷ 0x00 ∷ 0x81 ∷ 0x21 ∷ 0x45 ∷ 0x44 ∷ [])
+    ∷ breaking LONG-BETWEEN 33 longBetween
     ∷ breaking EXTRA 3 (0x3B ∷ 0x20 ∷ 0x00 ∷ 0x00 ∷ [])
-    ∷ breaking LONG 33 tooLong
     ∷ []

@@ -2,3 +2,4 @@
 pub mod Readings
 pub mod Basic
 pub mod Broken
+pub mod Order

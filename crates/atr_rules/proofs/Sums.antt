@@ -14,12 +14,13 @@ module _ {a b c d w x y z : ℕ} (ea : a ≡ w) (eb : b ≡ x) (ec : c ≡ y) (e
   pub four : a + 2 * b + 4 * c + 8 * d ≡ w + 2 * (x + 2 * (y + 2 * (z + 2 * 0)))
   four = omega arith
 
-  module _ {e v : ℕ} (ee : e ≡ v) where
-    pub five : a + 2 * b + 4 * c + 8 * d + 16 * e ≡ w + 2 * (x + 2 * (y + 2 * (z + 2 * (v + 2 * 0))))
-    five = omega arith
+  module _ {e f u v : ℕ} (ee : e ≡ v) (ef : f ≡ u) where
+    pub six : a + 2 * b + 4 * c + 8 * d + 16 * e + 32 * f ≡ w + 2 * (x + 2 * (y + 2 * (z + 2 * (v + 2 * (u + 2 * 0)))))
+    six = omega arith
 
-    pub six : {f u : ℕ} → f ≡ u → a + 2 * b + 4 * c + 8 * d + 16 * e + 32 * f ≡ w + 2 * (x + 2 * (y + 2 * (z + 2 * (v + 2 * (u + 2 * 0)))))
-    six ef = omega arith
+    pub seven : {g t : ℕ} → g ≡ t
+        → a + 2 * b + 4 * c + 8 * d + 16 * e + 32 * f + 64 * g ≡ w + 2 * (x + 2 * (y + 2 * (z + 2 * (v + 2 * (u + 2 * (t + 2 * 0))))))
+    seven eg = omega arith
 
 -- what is above moves up by a bit for each rule below
 double : (o s p t : ℕ) → o + 2 * (s + p * t) ≡ o + 2 * s + p * 2 * t

@@ -1,5 +1,5 @@
 -- The rules as a list, read from the top: number, whether it is broken, and the place of its character. Every rule that is broken
--- is given. TS by itself where it is broken (000, I-4.3.1).
+-- is given, in the order of the characters. TS by itself where it is broken (000, I-4.3.1).
 -- Assumes nothing.
 use mathlib.Core.Bool.{Bool, true, false, _&&_, not}
 use mathlib.Core.List.{List, [], _∷_, _++_}
@@ -9,7 +9,7 @@ use Rattle.slices.specs.Choice.{pick}
 use Rattle.atr_characters.specs.Data.{oneIf}
 use Rattle.atr_characters.specs.declared.Located.{Located}
 use Rattle.atr_rules.specs.Names.{TS, TA1, TB1-ABSENT, TB1, TD1, TA2, TB2, TC2, TD2, TA3, TB3-ABSENT}
-use Rattle.atr_rules.specs.Names.{TB3-BWI, TB3-CWI, TB3-N, TC3, CUT, TCK-ABSENT, TCK, EXTRA, LONG}
+use Rattle.atr_rules.specs.Names.{TB3-BWI, TB3-CWI, TB3-N, TC3, LONG-BEFORE, CUT, TCK-ABSENT, TCK, LONG-BETWEEN, EXTRA, LONG-BEHIND}
 use Rattle.atr_rules.specs.Tests.{ta1Broken, tb1Absent, tb1Broken, td1Broken, ta2Broken, tb2Broken, tc2Broken}
 use Rattle.atr_rules.specs.Tests.{td2Broken, ta3Broken, tb3Absent, bwiBroken, cwiBroken, guardBroken, tc3Broken}
 
@@ -50,15 +50,24 @@ thirdLines l =
     ∷ line TC3 (tc3Broken (l .second .td) (l .third .tc)) (l .third .c)
     ∷ []
 
--- a character that is announced, or T0 or TS, is missing where the capture ends; the rules after that are not judged. TCK is due
--- where a TDi names another protocol than T=0 (I-4.3.4). At most 32 characters follow TS (I-4.3)
+-- at most 32 characters follow TS (I-4.3): the first one too many stands at 33, behind whatever else stands there
+abbrev pub longPlace : ℕ
+longPlace = 33
+
+unfoldable pub isLong : Located → Bool
+isLong l = ltb longPlace (l .size)
+
+-- a character that is announced, or T0 or TS, is missing where the capture ends; what stands behind it is not judged. TCK is due
+-- where a TDi names another protocol than T=0 (I-4.3.4). LONG is given where its place is among the others, and once
 unfoldable pub lastLines : Located → List Line
 lastLines l =
-    line CUT (ltb (l .size) (l .end)) (l .size)
+    line LONG-BEFORE (isLong l && ltb longPlace (l .end)) longPlace
+    ∷ line CUT (ltb (l .size) (l .end)) (l .size)
     ∷ line TCK-ABSENT (l .due && eqb (l .size) (l .end)) (l .end)
     ∷ line TCK (l .due && ltb (l .end) (l .size) && not (eqb (l .joined) 0)) (l .end)
+    ∷ line LONG-BETWEEN (isLong l && not (ltb longPlace (l .end)) && ltb longPlace (l .after)) longPlace
     ∷ line EXTRA (ltb (l .after) (l .size)) (l .after)
-    ∷ line LONG (not (ltb (l .size) (l .end)) && ltb 33 (l .size)) 33
+    ∷ line LONG-BEHIND (isLong l && not (ltb longPlace (l .end)) && not (ltb longPlace (l .after))) longPlace
     ∷ []
 
 unfoldable pub linesOf : Bool → Located → Bool → List Line
@@ -67,7 +76,7 @@ linesOf ts l warm =
     (line TS true 0 ∷ [])
     (line TS false 0 ∷ firstLines l warm ++ secondLines l ++ thirdLines l ++ lastLines l)
 
--- a bit for each rule, the lowest for rule 1
+-- a bit for each number, the lowest for 1
 unfoldable pub setOf : List Line → ℕ
 setOf [] = 0
 setOf (x ∷ xs) = oneIf (x .broken) + 2 * setOf xs

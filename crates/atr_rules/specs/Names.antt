@@ -1,4 +1,4 @@
--- The rules by name, numbered in the order of the characters.
+-- The rules by name, numbered in the order of the characters: twenty rules, and two numbers more for LONG.
 -- Assumes nothing.
 use Prim.Native.Nat.{ℕ}
 
@@ -47,17 +47,29 @@ TB3-N = 14
 abbrev pub TC3 : ℕ
 TC3 = 15
 
+-- LONG has a place of its own, 33, wherever the answer ends: it is one rule and stands in the order at one of three numbers, before the
+-- end's characters, between TCK and what follows it, or behind them
+abbrev pub LONG-BEFORE : ℕ
+LONG-BEFORE = 16
+
 abbrev pub CUT : ℕ
-CUT = 16
+CUT = 17
 
 abbrev pub TCK-ABSENT : ℕ
-TCK-ABSENT = 17
+TCK-ABSENT = 18
 
 abbrev pub TCK : ℕ
-TCK = 18
+TCK = 19
+
+abbrev pub LONG-BETWEEN : ℕ
+LONG-BETWEEN = 20
 
 abbrev pub EXTRA : ℕ
-EXTRA = 19
+EXTRA = 21
 
-abbrev pub LONG : ℕ
-LONG = 20
+abbrev pub LONG-BEHIND : ℕ
+LONG-BEHIND = 22
+
+-- how many numbers there are
+abbrev pub numbers : ℕ
+numbers = 22

@@ -1,10 +1,13 @@
-// The rules of an answer to reset, as bits: the lowest for rule 1, in the order of the characters.
+// The rules of an answer to reset, as bits: the lowest for number 1, in the order of the characters.
 use atr_characters::ABSENT;
 use atr_characters::Located;
 use atr_characters::one;
 ghost use mathlib.Core.Path.{_≡_};
 ghost use Prim.Native.Nat.{_%_, _^_, _<_};
 ghost use Rattle.atr_rules.specs.Lines.{firstLines, secondLines, thirdLines, lastLines, linesOf, setOf};
+
+// Where the first character too many stands: at most 32 follow TS.
+pub const LONG_PLACE: usize = 33;
 
 fn power(exponent: usize) -> usize
     ensures { λ r. ⌜ r ≡ 2 ^ (exponent % 16) ⌝ }
@@ -53,14 +56,23 @@ fn third_rules(l: Located) -> usize
 
 // The end of the capture.
 fn last_rules(l: Located) -> usize
-    ensures { λ r. ⌜ (r ≡ setOf (lastLines l)) × (r < 32) ⌝ }
+    ensures { λ r. ⌜ (r ≡ setOf (lastLines l)) × (r < 128) ⌝ }
 {
+    let long = LONG_PLACE < l.size;
+    let before = long & (LONG_PLACE < l.end);
     let cut = l.size < l.end;
     let tck_absent = l.due & (l.size == l.end);
     let tck = l.due & (l.end < l.size) & (l.joined != 0);
+    let between = long & !(LONG_PLACE < l.end) & (LONG_PLACE < l.after);
     let extra = l.after < l.size;
-    let long = !cut & (33 < l.size);
-    one(cut) + 2 * one(tck_absent) + 4 * one(tck) + 8 * one(extra) + 16 * one(long)
+    let behind = long & !(LONG_PLACE < l.end) & !(LONG_PLACE < l.after);
+    one(before)
+        + 2 * one(cut)
+        + 4 * one(tck_absent)
+        + 8 * one(tck)
+        + 16 * one(between)
+        + 32 * one(extra)
+        + 64 * one(behind)
 }
 
 // Every rule that is broken. Where TS is, nothing else is judged.

@@ -13,13 +13,15 @@ use Rattle.slices.specs.Choice.{pick}
 use Rattle.slices.specs.Tables.{anyOf, beside}
 use Rattle.slices.proofs.Choice.{pick-yes, pick-no, picked, either}
 use Rattle.atr_characters.specs.Data.{oneIf}
+use Rattle.atr_rules.specs.Names.{numbers}
 use Rattle.atr_rules.specs.Lines.{Line, setOf, firstBroken}
 use Rattle.atr_sets.specs.Sets.{lowest}
 
 -- one bit on
-pub lowest-on : (k x : ℕ) → k ≤ 20 → lowest (21 - k) k x ≡ pick (eqb (x % 2) 1) k (lowest (21 - (k + 1)) (k + 1) (x / 2))
+pub lowest-on : (k x : ℕ) → k ≤ numbers
+    → lowest (numbers + 1 - k) k x ≡ pick (eqb (x % 2) 1) k (lowest (numbers + 1 - (k + 1)) (k + 1) (x / 2))
 unfolding lowest
-lowest-on k x h = let more : 21 - k ≡ suc (21 - (k + 1)) = omega arith in ap (λ (n : ℕ). lowest n k x) more
+lowest-on k x h = let more : numbers + 1 - k ≡ suc (numbers + 1 - (k + 1)) = omega arith in ap (λ (n : ℕ). lowest n k x) more
 
 -- rules that are numbered one after the other from k on
 abbrev pub numbersFrom : ℕ → ℕ → List ℕ

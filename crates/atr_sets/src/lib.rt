@@ -1,14 +1,16 @@
-// Sets of rules, a bit for each and the lowest for rule 1: the first, whether one is in it, and where its character stands.
+// Sets of rules, a bit for each number and the lowest for 1: the first, whether one is in it, and where its character stands.
 use atr_characters::Located;
+use atr_rules::LONG_PLACE;
 ghost use mathlib.Core.Path.{_≡_};
+ghost use Rattle.atr_rules.specs.Names.{numbers};
 ghost use Rattle.atr_sets.specs.Sets.{lowest, hasRule, placeOf};
 
-// How many rules there are.
-pub const RULES: usize = 20;
+// How many numbers there are: LONG, one of the twenty rules, has three.
+pub const RULES: usize = 22;
 
 // The first rule of a set; 0 where none is in it.
 pub fn first_rule(rules: usize) -> usize
-    ensures { λ r. ⌜ r ≡ lowest 20 1 rules ⌝ }
+    ensures { λ r. ⌜ r ≡ lowest numbers 1 rules ⌝ }
 {
     let mut left = rules;
     let mut k = 1;
@@ -55,11 +57,13 @@ pub fn place_of(l: Located, rule: usize) -> usize
         13 => l.third.b,
         14 => l.third.b,
         15 => l.third.c,
-        16 => l.size,
-        17 => l.end,
+        16 => LONG_PLACE,
+        17 => l.size,
         18 => l.end,
-        19 => l.after,
-        20 => 33,
+        19 => l.end,
+        20 => LONG_PLACE,
+        21 => l.after,
+        22 => LONG_PLACE,
         _ => 0,
     }
 }

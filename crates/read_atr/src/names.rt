@@ -1,4 +1,4 @@
-// The rules' names, by number.
+// The rules' names, by number: LONG has three.
 use slices::part;
 use text_lines::word_end;
 
@@ -6,14 +6,14 @@ use text_lines::word_end;
 const WIDTH: usize = 11;
 
 pub fn print_name(rule: usize) {
-    if rule < 10 {
+    if rule < 12 {
         let names =
-            b"-          TS         TA1        TB1-ABSENT TB1        TD1        TA2        TB2        TC2        TD2        ";
+            b"-          TS         TA1        TB1-ABSENT TB1        TD1        TA2        TB2        TC2        TD2        TA3        TB3-ABSENT ";
         print_word(names, rule);
     } else {
         let names =
-            b"TA3        TB3-ABSENT TB3-BWI    TB3-CWI    TB3-N      TC3        CUT        TCK-ABSENT TCK        EXTRA      LONG       ";
-        print_word(names, rule - 10);
+            b"TB3-BWI    TB3-CWI    TB3-N      TC3        LONG       CUT        TCK-ABSENT TCK        LONG       EXTRA      LONG       ";
+        print_word(names, rule - 12);
     }
 }
 

@@ -1,9 +1,14 @@
 //! Made answers to reset: good ones of every shape, each rule broken, cut,
 //! turned to the inverse convention, too long, and any bytes (02, R-1).
 
+mod breaks;
+mod long;
+
 use crate::hex;
 use crate::random::Random;
 use crate::reset::{turned, Reset, DIRECT, INVERSE};
+use breaks::BREAKS;
+use long::long;
 
 /// A group of interface characters: TAi, TBi, TCi. The bit map before it (T0
 /// or TD of the group before) also names a protocol; T0 does not.
@@ -126,96 +131,6 @@ fn good(r: &mut Random) -> Made {
     made
 }
 
-/// Something that is put wrong in the characters, with the rule that breaks.
-type Break = (&'static str, fn(&mut Made, &mut Random));
-
-/// A byte that is none of those given.
-fn other_than(good: &[u8], r: &mut Random) -> u8 {
-    loop {
-        let byte = if r.chance(50) { r.byte() } else { *r.pick(&[0x00, 0x01, 0x0F, 0x10, 0xFF]) };
-        if !good.contains(&byte) {
-            return byte;
-        }
-    }
-}
-
-const BREAKS: [Break; 19] = [
-    ("TA1", |m, r| {
-        m.groups[0].characters[A] = Some(other_than(&[0x11], r));
-        if let Some(group) = m.groups.get_mut(1) {
-            group.characters[A] = group.characters[A].map(|ta2| ta2 & !0x10);
-        }
-    }),
-    // TA2 with b5 takes the rule off TA1.
-    ("TA2", |m, r| {
-        m.groups[0].characters[A] = Some(r.byte());
-        m.group(2).characters[A] = Some(r.byte() | 0x10);
-    }),
-    ("TB1", |m, r| {
-        m.reset = Reset::Cold;
-        m.groups[0].characters[B] = Some(other_than(&[0x00], r));
-    }),
-    ("TB1-ABSENT", |m, _| {
-        m.reset = Reset::Cold;
-        m.groups[0].characters[B] = None;
-    }),
-    ("TD1", |m, r| m.group(2).protocol = r.between(2, 15) as u8),
-    ("TA2", |m, r| m.group(2).characters[A] = Some(r.byte() | 0x10)),
-    ("TB2", |m, r| m.group(2).characters[B] = Some(other_than(&[], r))),
-    ("TC2", |m, r| m.group(2).characters[C] = Some(*r.pick(&[0, 1, 9, 11, 0x1A, 0xFF]))),
-    ("TD2", |m, r| m.group(3).protocol = *r.pick(&[0, 2, 3, 7, 13, 15])),
-    ("TD2", |m, _| {
-        m.group(2).protocol = 1;
-        m.group(3).protocol = 14;
-    }),
-    ("TA3", |m, r| {
-        m.group(3).protocol = 1;
-        m.group(3).characters[A] = Some(*r.pick(&[0x00, 0x01, 0x0F, 0x0A, 0xFF]));
-    }),
-    ("TB3-ABSENT", |m, _| {
-        m.group(3).protocol = 1;
-        m.group(3).characters[B] = None;
-    }),
-    ("TB3-ABSENT", |m, r| {
-        m.group(2).protocol = 1;
-        m.group(3).protocol = *r.pick(&[0, 2, 14]);
-        m.group(3).characters[B] = None;
-    }),
-    ("TB3-ABSENT", |m, _| {
-        m.group(2).protocol = 1;
-        m.groups.truncate(2);
-    }),
-    ("TB3-BWI", |m, r| {
-        m.group(3).protocol = 1;
-        m.group(3).characters[B] = Some((r.between(5, 15) * 16 + r.below(6)) as u8);
-    }),
-    ("TB3-CWI", |m, r| {
-        m.group(3).protocol = 1;
-        m.group(3).characters[B] = Some((r.below(5) * 16 + r.between(6, 15)) as u8);
-    }),
-    ("TB3-N", |m, r| {
-        let cwi = r.below(8) as u8;
-        let least = 1u16 << cwi;
-        let n = *r.pick(&[least, least + 1, 254]);
-        m.groups[0].characters[C] = Some(n.clamp(least, 254) as u8);
-        m.group(3).protocol = 1;
-        m.group(3).characters[B] = Some(r.below(5) as u8 * 16 + cwi);
-    }),
-    ("TC3", |m, r| {
-        m.group(3).protocol = 1;
-        m.group(3).characters[C] = Some(*r.pick(&[0x01, 0x02, 0x80, 0xFF]));
-    }),
-    // More characters are announced than may be sent, and they are there.
-    ("LONG", |m, r| {
-        m.group(3);
-        while m.data().len() < 33 + 15 {
-            m.groups.push(Group { characters: [Some(0); 3], ..free_group(r) });
-        }
-        let count = r.below(16);
-        m.historical = r.bytes(count);
-    }),
-];
-
 /// Something that is put wrong in the bytes behind TS.
 fn bend(data: &mut Vec<u8>, r: &mut Random) {
     match r.below(8) {
@@ -265,7 +180,11 @@ fn random(r: &mut Random) -> (Reset, Vec<u8>) {
 fn any(index: usize, r: &mut Random) -> (Reset, Vec<u8>) {
     let mut made = good(r);
     match index % 8 {
-        0 | 1 => (),
+        0 => (),
+        1 => {
+            let (made, data) = long(index / 8, r);
+            return (made.reset, capture(&data, r));
+        }
         2..=4 => {
             for round in 0..*r.pick(&[1, 1, 1, 2, 4]) {
                 let at = if round == 0 { index / 8 % BREAKS.len() } else { r.below(BREAKS.len()) };
@@ -295,65 +214,4 @@ pub fn make_resets(count: usize, seed: u64) {
 }
 
 #[cfg(test)]
-mod tests {
-    use super::*;
-    use crate::reset::read;
-    use std::collections::BTreeSet;
-
-    #[test]
-    fn good_captures_are_accepted() {
-        for index in 0..3000 {
-            let made = good(&mut Random::nth(1, index));
-            let bytes = [&[DIRECT], &made.data()[..]].concat();
-            let inverse: Vec<u8> =
-                [INVERSE].into_iter().chain(made.data().iter().map(|&b| turned(b))).collect();
-            let (one, two) = (read(&bytes, made.reset), read(&inverse, made.reset));
-            let (one, two) = (one.unwrap(), two.unwrap());
-            assert!(!one.inverse && two.inverse);
-            assert_eq!((one.protocol, one.historical), (two.protocol, two.historical));
-        }
-    }
-
-    #[test]
-    fn every_break_breaks_its_rule() {
-        for (index, (rule, apply)) in BREAKS.iter().enumerate() {
-            for round in 0..300 {
-                let mut r = Random::nth(round, index as u64);
-                let mut made = good(&mut r);
-                apply(&mut made, &mut r);
-                let bytes = [&[DIRECT], &made.data()[..]].concat();
-                let refusals = read(&bytes, made.reset).unwrap_err();
-                assert!(refusals.iter().any(|f| f.rule == *rule), "{rule} {bytes:02X?}");
-            }
-        }
-    }
-
-    #[test]
-    fn a_cut_is_the_last_refusal() {
-        for index in 0..500 {
-            let made = good(&mut Random::nth(2, index));
-            let bytes = [&[DIRECT], &made.data()[..]].concat();
-            for size in 0..bytes.len() {
-                let refusals = read(&bytes[..size], made.reset).unwrap_err();
-                let last = refusals.last().unwrap();
-                assert_eq!(last.place, size);
-                assert!(["CUT", "TCK-ABSENT"].contains(&last.rule));
-            }
-        }
-    }
-
-    #[test]
-    fn every_rule_occurs() {
-        let mut seen = BTreeSet::new();
-        let mut accepted = 0;
-        for index in 0..4000 {
-            let (reset, bytes) = any(index, &mut Random::nth(3, index as u64));
-            match read(&bytes, reset) {
-                Ok(_) => accepted += 1,
-                Err(refusals) => seen.extend(refusals.iter().map(|f| f.rule)),
-            }
-        }
-        assert!(accepted > 800, "{accepted}");
-        assert_eq!(seen.len(), 20, "{seen:?}");
-    }
-}
+mod tests;

@@ -1,20 +1,21 @@
 -- `first_rule` meets its contract. The loop's invariant: the lowest of the bits that are left is the lowest of all.
 -- Assumes nothing.
 use mathlib.Core.Path.{_≡_, refl, sym, ap, _∙_}
-use Prim.Native.Nat.{ℕ, _-_, _≤_}
+use Prim.Native.Nat.{ℕ, _+_, _-_, _≤_}
 use native.Mathlib.Omega.{arith}
 use borrow.Author.Tests.{eq-eqb, ne-eqb}
 use Rattle.slices.proofs.Choice.{pick-yes, pick-no}
+use Rattle.atr_rules.specs.Names.{numbers}
 use Rattle.atr_sets.specs.Sets.{lowest}
 use Rattle.atr_sets.proofs.Firsts.{lowest-on}
 use Rattle.atr_sets.proofs.first_rule.Statement.{statement}
 use Rattle.atr_sets.proofs.first_rule.Tie as tie
 
 abbrev Inv-loop : tie.InvT-loop
-Inv-loop rules left₀ k₀ left k = (k ≤ 21) × (lowest (21 - k) k left ≡ lowest 20 1 rules)
+Inv-loop rules left₀ k₀ left k = (k ≤ numbers + 1) × (lowest (numbers + 1 - k) k left ≡ lowest numbers 1 rules)
 
 abbrev μ-loop : tie.MeasureT-loop
-μ-loop rules left₀ k₀ left k = 21 - k
+μ-loop rules left₀ k₀ left k = numbers + 1 - k
 
 returns : tie.Need-returns Inv-loop μ-loop
 returns c =
@@ -30,7 +31,7 @@ returns-2 : tie.Need-returns-2 Inv-loop μ-loop
 unfolding lowest
 returns-2 c =
     let l = c .before .loop in
-    let none : 21 - l .k ≡ 0 = omega arith in
+    let none : numbers + 1 - l .k ≡ 0 = omega arith in
     sym (ap (λ (n : ℕ). lowest n (l .k) (l .left)) none) ∙ l .inv .1
 
 pub first-rule-spec : {M : Type 1} → statement M

@@ -11,9 +11,9 @@ use Rattle.atr_sets.specs.Sets.{placeOf}
 use Rattle.atr_sets.proofs.place_of.Statement.{statement}
 use Rattle.atr_sets.proofs.place_of.Tie as tie
 
-returns-21 : tie.Need-returns-21
+returns-23 : tie.Need-returns-23
 unfolding placeOf linesOf firstLines secondLines thirdLines lastLines pick
-returns-21 c =
+returns-23 c =
     let a = c .before .args in
     sym (beside-none 0 (a .rule) (map (λ (x : Line). (x .number, x .place)) (linesOf false (a .l) false)) (c .match .rest))
 
@@ -42,4 +42,6 @@ place-of-spec =
     (λ c. sym (ap (placeOf (c .before .args .l)) (c .match .keys18)))
     (λ c. sym (ap (placeOf (c .before .args .l)) (c .match .keys19)))
     (λ c. sym (ap (placeOf (c .before .args .l)) (c .match .keys20)))
-    returns-21)
+    (λ c. sym (ap (placeOf (c .before .args .l)) (c .match .keys21)))
+    (λ c. sym (ap (placeOf (c .before .args .l)) (c .match .keys22)))
+    returns-23)

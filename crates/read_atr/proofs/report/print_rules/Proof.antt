@@ -7,10 +7,10 @@ use Rattle.read_atr.proofs.report.print_rules.Statement.{statement}
 use Rattle.read_atr.proofs.report.print_rules.Tie as tie
 
 abbrev Inv-loop : tie.InvT-loop
-Inv-loop l rules rule₀ rule = rule ≤ 21
+Inv-loop l rules rule₀ rule = rule ≤ 23
 
 abbrev μ-loop : tie.MeasureT-loop
-μ-loop l rules rule₀ rule = 21 - rule
+μ-loop l rules rule₀ rule = 23 - rule
 
 pub print-rules-spec : {M : Type 1} → statement M
 print-rules-spec =
