@@ -18,6 +18,7 @@ use Rattle.dol_fill.specs.Filled.{summed}
 use Rattle.rulebook.specs.Phase.{Phase, opens, asks, hears, decides}
 use Rattle.rulebook.specs.Machine.{Machine, at, owes, next, run}
 use Rattle.rulebook.proofs.Running.{takes-command, takes-decision}
+use Rattle.rulebook.proofs.Reading.{awaits-run}
 use Rattle.rulebook.proofs.Trichotomy.{snoc-same}
 use Rattle.rulebook_zeros.specs.Zeros.{mostEntries, unsuppliedIn, Zeros}
 use Rattle.rulebook_zeros.specs.Summing.{newIn, countOn, zerosFrom, zerosOf}
@@ -81,8 +82,9 @@ module _ (s : Session) (es : List Entry) (buf : List ℕ) (e : Entry) (counted :
         let p = passed s e buf h in
         let silent = silence-taken s es buf there e p k in
         let same = snoc-same (silent .before) es (entry silence []) (entry silence []) (sym (silent .ends)) in
-        let read = ap (λ (l : List Entry). run l (at opens)) (sym (same .0)) ∙ silent .reads in
-        let stops = zeros-stop es (entry silence []) [] (at opens) (owes (silent .asked)) read (silence-stops (silent .asked)) in
+        let owed = awaits-run (silent .before) (silent .awaits) in
+        let read = ap (λ (l : List Entry). run l (at opens)) (sym (same .0)) ∙ owed .1 in
+        let stops = zeros-stop es (entry silence []) [] (at opens) (owes (owed .0)) read (silence-stops (owed .0)) in
         let alone = silence-alone s es buf there e p k in
         subst Counts (sym (call-taken s e buf h ∙ taken-silence s e buf k))
         (counted ∙ (sym stops ∙ ap (λ (x : Entry). zerosOf (es ++ (x ∷ []))) (sym alone)))

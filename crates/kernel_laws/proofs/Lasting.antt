@@ -11,7 +11,6 @@ use borrow.Author.Tests.{eqb-true, eqb-false}
 use Rattle.slices.proofs.Choice.{either, and-left, and-right}
 use Rattle.tape_read.specs.Entries.{Entry, entry, silence}
 use Rattle.rulebook.specs.Session.{Closed as ClosedLog}
-use Rattle.rulebook.proofs.States.{silence-closes}
 use Rattle.session_phase.specs.Waiting.{awaited, isOver}
 use Rattle.session_phase.specs.declared.Waiting.the-variants.{Closed}
 use Rattle.session_events.specs.Events.{step}
@@ -31,7 +30,8 @@ pub data Stands (s : Session) (es : List Entry) : Type 0 where
 
 -- a silence closes the log too
 pub silenced-log : (s : Session) (es : List Entry) → Silenced s es → ClosedLog es
-silenced-log s es c = subst ClosedLog (sym (c .ends)) (silence-closes (c .before) (c .asked) (c .reads))
+unfolding ClosedLog
+silenced-log s es c = (c .before, (c .awaits, c .ends))
 
 module _ (s : Session) (es : List Entry) (buf : List ℕ) (e : Entry) where
   -- where a call leaves the session and its log

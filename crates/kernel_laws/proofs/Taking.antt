@@ -20,7 +20,10 @@ use Rattle.rulebook.specs.Phase.{Asked, Phase, opens, asks, hears, dueKind, tvr
 use Rattle.rulebook.specs.Turn.{turn, allowed, after}
 use Rattle.rulebook.proofs.Payloads.{payload}
 use Rattle.rulebook.specs.Machine.{Machine, at, owes, run}
+use Rattle.rulebook.proofs.Sorting.{run-awaits}
+use Rattle.rulebook.proofs.Ends.{finishes}
 use Rattle.rulebook.proofs.States.{state-next}
+use Rattle.rulebook.proofs.Leading.{at-leads, owes-leads}
 use Rattle.session_phase.specs.Waiting.{kindOf, awaited, isOver}
 use Rattle.session_phase.specs.declared.Question.{Question}
 use Rattle.session_phase.specs.declared.Speaker.{Speaker}
@@ -158,7 +161,8 @@ module _ (s : Session) (es : List Entry) (buf : List ℕ) (there : Reached (s .s
         record {
           before = es;
           asked = w .0;
-          reads = w .1 .0;
+          awaits = run-awaits finishes es (w .0) (w .1 .0);
+          leads = owes-leads es (w .0) (w .1 .0);
           ends = refl;
           closed = refl;
           tvr = w .1 .1 .tvr;
@@ -189,7 +193,7 @@ module _ (es : List Entry) (e : Entry) (buf : List ℕ) (before : ℕ) (r : Call
   taken-follows =
       record {
         phase = t .to;
-        reads = state-next es (t .from) e (t .read) (at (t .to)) (t .steps .taken);
+        leads = at-leads (es ++ (e ∷ [])) (t .to) (state-next es (t .from) e (t .read) (at (t .to)) (t .steps .taken));
         gives = taken-gives;
         waits = taken-stands .waits;
         tvr = taken-stands .tvr;

@@ -29,7 +29,7 @@ reached-named : (s : Session) (es : List Entry) → Reached (s .state) es → Na
 reached-named s es there =
     record {
       phase = there .phase;
-      reads = there .read;
+      leads = there .leads;
       waits = there .stands .waits;
       tvr = there .stands .tvr;
       tsi = there .stands .tsi;

@@ -13,6 +13,10 @@ use Rattle.rulebook.specs.Roles.{begins, RightKernel}
 use Rattle.rulebook_zeros.specs.Zeros.{Zeros}
 use Rattle.session_laws.specs.Bits.{Keeps}
 use Rattle.session_phase.specs.Waiting.{isDecided, isClosed}
+use Rattle.words.specs.Words.{wordRefusal}
+use Rattle.words.specs.declared.Word.{Word}
+use Rattle.kernel_refusals.specs.WrongWord.{WrongWord}
+use Rattle.kernel_refusals.proofs.WordRefused.{word-refused}
 use Rattle.kernel.specs.declared.Session.{Session}
 use Rattle.session_phase.specs.declared.Reply.the-variants.{Refused}
 use Rattle.kernel_laws.specs.Log.{Call, made, plays, allBytes}
@@ -21,7 +25,7 @@ use Rattle.kernel_laws.specs.Table.{tableOf, numbersOf, FirstLine, NoLin
 use Rattle.kernel_laws.specs.Ending.{EndsDecided, Ended, Reproduces}
 use Rattle.kernel_laws.specs.Saying.{Lawfully, Says, Replies, Unchanged}
 use Rattle.kernel_laws.proofs.Lawful.{any-calls}
-use Rattle.kernel_laws.proofs.Refusing.{refused-unchanged}
+use Rattle.kernel_laws.proofs.Refusing.{number-of, refused-unchanged}
 use Rattle.kernel_laws.proofs.Ending.{decided-ended, closed-ended, silence-is-open, silence-is-no-session}
 use Rattle.kernel_laws.proofs.Counting.{plays-zeros}
 use Rattle.kernel_laws.proofs.Holding.{plays-keeps}
@@ -29,6 +33,13 @@ use Rattle.kernel_laws.proofs.Telling.{plays-says, plays-replies}
 use Rattle.kernel_laws.proofs.Deciding.{decision-last}
 use Rattle.kernel_laws.proofs.Complete.{session-logged, right}
 use Rattle.kernel_laws.proofs.Numbers.{number-line, line-number, none-taken, taken-none}
+
+-- a call is turned away with a word's number only where that word is due and wrong: 6 for HOST, 12 for the results
+word-wrong : (s : Session) (c : Call) (word : Word) → made s c .reply ≡ Refused (wordRefusal word)
+    → WrongWord word (s .state .waiting) (c .event)
+unfolding made
+word-wrong s c word h =
+    word-refused word (c .event) (s .state .waiting) (c .buffer) (number-of s (c .event) (c .buffer) (wordRefusal word) h .0)
 
 pub record Kernel : Type 0 where
   pub lawful : (cs : List Call) → allBytes cs ≡ true → Lawfully (plays cs .session) (plays cs .log)
@@ -48,6 +59,8 @@ pub record Kernel : Type 0 where
   pub unchanged : (s : Session) (c : Call) (n : ℕ) → made s c .reply ≡ Refused n → Unchanged s c
   pub number : (s : Session) (c : Call) (n : ℕ) → made s c .reply ≡ Refused n
       → (line : ℕ) × ((n ≡ getD (numbersOf s c) line 0) × FirstLine (tableOf s c) line)
+  pub word : (s : Session) (c : Call) (word : Word) → made s c .reply ≡ Refused (wordRefusal word)
+      → WrongWord word (s .state .waiting) (c .event)
   pub line : (s : Session) (c : Call) (line : ℕ) → FirstLine (tableOf s c) line → made s c .reply ≡ Refused (getD (numbersOf s c) line 0)
   pub free : (s : Session) (c : Call) → NoLine (tableOf s c) → (n : ℕ) → made s c .reply ≡ Refused n → ⊥
   pub taken : (s : Session) (c : Call) → ((n : ℕ) → made s c .reply ≡ Refused n → ⊥) → NoLine (tableOf s c)
@@ -69,6 +82,7 @@ kernel =
       no-session = silence-is-no-session;
       unchanged = refused-unchanged;
       number = number-line;
+      word = word-wrong;
       line = line-number;
       free = none-taken;
       taken = taken-none;

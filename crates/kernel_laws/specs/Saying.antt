@@ -9,14 +9,13 @@ use lib.ListN.{length, take, drop}
 use Rattle.tape_read.specs.Entries.{Entry, entry, silence}
 use Rattle.rulebook.specs.Situation.{Situation}
 use Rattle.rulebook.specs.Phase.{Asked, Phase, opens, asks, hears, decides, situationOf, commandOf, dueKind, decisionOf, tvrOf, tsiOf}
-use Rattle.rulebook.specs.Session.{Session as WholeSession, Open}
-use Rattle.rulebook.specs.Machine.{at, owes, run}
+use Rattle.rulebook.specs.Session.{Session as WholeSession, AwaitsCard, Open, LeadsTo}
 use Rattle.session_phase.specs.Waiting.{isDecided}
 use Rattle.session_phase.specs.declared.Waiting.the-variants.{Closed}
 use Rattle.session_phase.specs.declared.Reply.the-variants.{Command, Due, Decided as DecidedReply, Closed as ClosedReply, Refused}
 use Rattle.session_state.specs.Results.{decisionIn}
 use Rattle.session_moves.specs.Moves.{keptAs}
-use Rattle.session_laws.specs.Logging.{logged, landing}
+use Rattle.session_laws.specs.Logging.{logged}
 use Rattle.kernel.specs.declared.Session.{Session}
 use Rattle.kernel.specs.Calls.{Called}
 use Rattle.kernel_laws.specs.Log.{Call, made, loggedBy, Played}
@@ -42,18 +41,19 @@ Gives (decides outcome reason z) buf r =
 -- an accepted event, with the log before it, leads the rulebook to a phase, and all that the call gives is what that phase names
 pub record Follows (log : List Entry) (e : Entry) (buf : List ℕ) (r : Called) : Type 0 where
   pub phase : Phase
-  pub reads : run (log ++ (e ∷ [])) (at opens) ≡ some (at phase)
+  pub leads : LeadsTo (log ++ (e ∷ [])) phase
   pub gives : Gives phase buf r
   pub waits : r .session .state .waiting ≡ keptAs phase
   pub tvr : r .session .state .tvr ≡ tvrOf phase
   pub tsi : r .session .state .tsi ≡ tsiOf phase
   pub grows : loggedBy r e ≡ e ∷ logged phase
 
--- a log that a closing silence ends: something was asked before it, and TVR and TSI are as they were then
+-- a log that a closing silence ends: something was asked before it and not answered, and TVR and TSI are as they were then
 pub record Silenced (s : Session) (log : List Entry) : Type 0 where
   pub before : List Entry
   pub asked : Asked
-  pub reads : run before (at opens) ≡ some (owes asked)
+  pub awaits : AwaitsCard before
+  pub leads : LeadsTo before (asks asked)
   pub ends : log ≡ before ++ (entry silence [] ∷ [])
   pub closed : s .state .waiting ≡ Closed
   pub tvr : s .state .tvr ≡ situationOf asked .tvr
@@ -63,7 +63,7 @@ pub record Silenced (s : Session) (log : List Entry) : Type 0 where
 -- does, and TVR, TSI and the decision are the phase's
 pub record Named (s : Session) (log : List Entry) : Type 0 where
   pub phase : Phase
-  pub reads : run log (at opens) ≡ some (landing phase)
+  pub leads : LeadsTo log phase
   pub waits : s .state .waiting ≡ keptAs phase
   pub tvr : s .state .tvr ≡ tvrOf phase
   pub tsi : s .state .tsi ≡ tsiOf phase

@@ -1,2 +1,3 @@
 pub mod OwnTests
 pub mod Order
+pub mod WordRefused

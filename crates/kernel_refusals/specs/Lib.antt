@@ -1,2 +1,3 @@
 -- When a call is turned away.
 pub mod Refusals
+pub mod WrongWord

@@ -14,12 +14,13 @@ use lib.Seq.{length-take-le}
 use Rattle.slices.proofs.Choice.{either}
 use Rattle.tape_read.specs.Entries.{Entry, entry, silence, storable, allStorable, blockSize, blocksMost, tapeMost}
 use Rattle.tape_read.specs.Tapes.{written}
-use Rattle.tape_read.proofs.Roundtrip.{cut-back}
+use Rattle.tape_read.proofs.Roundtrip.{tape-back, cut-back}
 use Rattle.rulebook.specs.Session.{Session, Beginning, AwaitsCard, Closed, Open, Lawful}
 use Rattle.rulebook.proofs.Bound.{session-bound}
 use Rattle.rulebook.proofs.Breaks.{part-begins}
 use Rattle.verdict.specs.Saying.{says}
 use Rattle.verdict_judged.specs.Judged.{Judges, passes, undecided, Judged, readable}
+use Rattle.verdict_judged.specs.Zeroed.{Zeroed, readable as counted}
 use Rattle.verdict.specs.declared.Answer.{Answer}
 use Rattle.verdict.specs.declared.Verdict.the-variants.{Pass, Fail, Inconclusive}
 use Rattle.verdict_judged.proofs.Stored.{session-fits, written-judged}
@@ -29,6 +30,7 @@ use Rattle.kernel_laws.specs.Log.{Call, plays, allBytes}
 use Rattle.session_phase.specs.Waiting.{isDecided}
 use Rattle.kernel_laws.specs.Saying.{Lawfully}
 use Rattle.kernel_laws.proofs.Lawful.{any-calls}
+use Rattle.kernel_laws.proofs.Counting.{plays-zeros}
 use Rattle.kernel.specs.declared.Session.{Session as KernelSession}
 use Rattle.kernel_record.specs.Recording.{Kept}
 use Rattle.kernel_verdicts.specs.Taping.{recordedAll, tapeOf}
@@ -119,6 +121,16 @@ pub record EndToEnd (cs : List Call) (number : ℕ) (t : List ℕ) : Type 0 wher
       → Judged (tapeOf (recordedAll number t cs .kept)) (says Inconclusive (length (plays cs .log)) 0)
   pub cut : (k : ℕ) → k < length (plays cs .log)
       → Judged (take (k * blockSize) (tapeOf (recordedAll number t cs .kept))) (says Inconclusive k 0)
+  -- and its fourth number, decided or not, is the session's own
+  pub zeros : Zeroed (tapeOf (recordedAll number t cs .kept)) (recordedAll number t cs .session .zeros)
+
+-- the fourth number of the log's blocks is that of the session
+log-zeroed : (cs : List Call) → allBytes cs ≡ true → (number : ℕ) → number < 2 ^ 32
+    → Zeroed (written 0 number (plays cs .log)) (plays cs .session .zeros)
+log-zeroed cs bytes number known =
+    let log = plays cs .log in
+    let l = lawful cs bytes in
+    counted log (tape-back number log (lawful-storable log l) (lawful-fits log l) known) (plays-zeros cs bytes)
 
 same-verdict : {t u : List ℕ} {a : Answer} → t ≡ u → Judged u a → Judged t a
 same-verdict {a = a} same j = subst (λ (v : List ℕ). Judged v a) (sym same) j
@@ -140,4 +152,7 @@ end-to-end cs bytes number known t room =
       decided = λ d. same-verdict tape (decided-passes cs bytes number known (sym phase ∙ d));
       waiting = λ d. same-verdict tape (undecided-inconclusive cs bytes number known (sym phase ∙ d));
       cut = λ k h. same-verdict (ap (take (k * blockSize)) tape) (cut-inconclusive cs bytes number known k h);
+      zeros =
+          subst (Zeroed (tapeOf (recordedAll number t cs .kept))) (sym (ap (λ (s : KernelSession). s .zeros) session))
+          (subst (λ (v : List ℕ). Zeroed v (plays cs .session .zeros)) (sym tape) (log-zeroed cs bytes number known));
     }

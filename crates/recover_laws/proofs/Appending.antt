@@ -84,7 +84,7 @@ module _ (t r : List ℕ) where
 
 module _ (t : List ℕ) (whole : length t % blockSize ≡ 0) (old b : List ℕ) (last : length old ≡ blockSize) (full : length b ≡ blockSize)
     (n : ℕ) (most : n ≤ blockSize) where
-  torn-last : stored (torn n (record { step = steps t; bytes = b }) ∷ []) (t ++ old) ≡ t ++ (take n b ++ drop n old)
+  pub torn-last : stored (torn n (record { step = steps t; bytes = b }) ∷ []) (t ++ old) ≡ t ++ (take n b ++ drop n old)
   unfolding stored put
   torn-last =
       let at = steps t * blockSize in

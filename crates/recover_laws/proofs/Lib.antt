@@ -6,4 +6,5 @@ pub mod Appending
 pub mod Walking
 pub mod Stores
 pub mod Naming
+pub mod NoPass
 pub mod Theorem

@@ -21,7 +21,8 @@ use Rattle.recover_laws.proofs.Steps.{steps}
 use Rattle.recover_laws.proofs.Listing.{Readable}
 
 -- each block of bytes that read as entries passes
-codes-pass : (s : ℕ) (t : List ℕ) (left n : ℕ) (es : List Entry) → n + left < steps t → readFrom n s (drop (n * blockSize) t) ≡ entries es
+pub codes-pass : (s : ℕ) (t : List ℕ) (left n : ℕ) (es : List Entry) → n + left < steps t
+    → readFrom n s (drop (n * blockSize) t) ≡ entries es
     → codeOf (n + left) s (blockAt (n + left) t) ≡ 0
 unfolding blockAt
 codes-pass s t zero n es there r =

@@ -19,4 +19,5 @@ pub mod Offline
 pub mod Longest
 pub mod LastEntry
 pub mod Payloads
+pub mod Leading
 pub mod Theorem

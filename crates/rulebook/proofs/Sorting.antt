@@ -36,7 +36,7 @@ module _ (finish : (p : Phase) → Finished p) where
       split (e ∷ es) play = (es, owed w e es (step-back (at (asks w)) e es play))
 
   -- what leads from a state to the end
-  to-end : (σ : Machine) → (rest : List Entry) × Follows σ rest
+  pub to-end : (σ : Machine) → (rest : List Entry) × Follows σ rest
   to-end (at p) = finish p
   to-end (owes w) = after-command w (finish (asks w))
   to-end done = ([], refl)

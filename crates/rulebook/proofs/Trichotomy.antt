@@ -19,16 +19,16 @@ use Rattle.rulebook.proofs.Reading.{beginning-run, awaits-run, not-both
 use Rattle.rulebook.proofs.Sorting.{run-beginning, run-awaits}
 
 -- two lists with one entry after each
-pub snoc-same : (a b : List Entry) (x y : Entry) → a ++ (x ∷ []) ≡ b ++ (y ∷ []) → (a ≡ b) × (x ≡ y)
+pub snoc-same : {A : Type 0} (a b : List A) (x y : A) → a ++ (x ∷ []) ≡ b ++ (y ∷ []) → (a ≡ b) × (x ≡ y)
 snoc-same [] [] x y h = (refl, cc)
-snoc-same [] (c ∷ b) x y h = too-short b h
+snoc-same {A} [] (c ∷ b) x y h = too-short b h
   where
-    too-short : (l : List Entry) → x ∷ [] ≡ c ∷ (l ++ (y ∷ [])) → ([] ≡ c ∷ b) × (x ≡ y)
+    too-short : (l : List A) → x ∷ [] ≡ c ∷ (l ++ (y ∷ [])) → ([] ≡ c ∷ b) × (x ≡ y)
     too-short [] e = absurd (let z : _≡_ {A = ℕ} 0 1 = cc in omega arith)
     too-short (d ∷ l) e = absurd (let z : _≡_ {A = ℕ} 0 1 = cc in omega arith)
-snoc-same (c ∷ a) [] x y h = too-long a h
+snoc-same {A} (c ∷ a) [] x y h = too-long a h
   where
-    too-long : (l : List Entry) → c ∷ (l ++ (x ∷ [])) ≡ y ∷ [] → (c ∷ a ≡ []) × (x ≡ y)
+    too-long : (l : List A) → c ∷ (l ++ (x ∷ [])) ≡ y ∷ [] → (c ∷ a ≡ []) × (x ≡ y)
     too-long [] e = absurd (let z : _≡_ {A = ℕ} 0 1 = cc in omega arith)
     too-long (d ∷ l) e = absurd (let z : _≡_ {A = ℕ} 0 1 = cc in omega arith)
 snoc-same (c ∷ a) (d ∷ b) x y h =

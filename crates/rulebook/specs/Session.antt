@@ -72,3 +72,7 @@ phasesOf (decided {outcome} {reason} {s} d) = decides outcome reason s ∷ []
 -- the phases that are passed while entries are read: those of a session that begins with them, up to the phase that they lead to
 unfoldable pub Reads : List Entry → List Phase → Type 0
 Reads es ps = (rest : List Entry) × ((play : Plays opens (es ++ rest)) × (ps ≡ take (length es + 1) (phasesOf play)))
+
+-- entries lead to a phase: of those that are passed while they are read it is the last
+unfoldable pub LeadsTo : List Entry → Phase → Type 0
+LeadsTo es p = (before : List Phase) × Reads es (before ++ (p ∷ []))

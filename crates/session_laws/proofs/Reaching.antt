@@ -2,14 +2,16 @@
 -- about lead the machine to where the state stands. So the state alone says what the rulebook says of the tape so far.
 -- Assumes nothing.
 use mathlib.Core.Path.{_≡_, refl, sym, ap, _∙_, subst}
-use mathlib.Core.List.{List, [], _∷_, _++_}
+use mathlib.Core.List.{List, [], _∷_, _++_, append-nil, append-assoc}
 use mathlib.Core.Option.{some}
 use Prim.Native.Nat.{ℕ}
-use Rattle.tape_read.specs.Entries.{Entry}
-use Rattle.rulebook.specs.Phase.{Asked, Heard, Phase, opens, asks, hears, decides, tvrOf, tsiOf}
-use Rattle.rulebook.specs.Session.{Session}
+use Rattle.tape_read.specs.Entries.{Entry, entry, command}
+use Rattle.rulebook.specs.Phase.{Asked, Heard, Phase, opens, asks, hears, decides, commandOf, tvrOf, tsiOf}
+use Rattle.rulebook.specs.Session.{Session, LeadsTo}
 use Rattle.rulebook.specs.Machine.{Machine, at, owes, run}
-use Rattle.rulebook.proofs.Running.{run-session}
+use Rattle.rulebook.proofs.Running.{takes-command, run-session}
+use Rattle.rulebook.proofs.States.{state-next}
+use Rattle.rulebook.proofs.Leading.{at-leads, owes-leads, decided-leads}
 use Rattle.session_phase.specs.declared.Question.{Question}
 use Rattle.session_phase.specs.declared.Speaker.{Speaker}
 use Rattle.session_phase.specs.declared.Waiting.the-variants.{ForCard, ForWord, Decided, Closed}
@@ -25,13 +27,29 @@ use Rattle.session_laws.proofs.Telling.{asked-at, heard-at, decided-at,
 
 pub reached-fresh : Reached fresh []
 unfolding run landing
-reached-fresh = record { phase = opens; read = refl; stands = fresh-stands }
+reached-fresh = record { phase = opens; read = refl; leads = at-leads [] opens refl; stands = fresh-stands }
+
+-- with the command or the decision that is due there, entries lead to the phase still
+logged-leads : (es : List Entry) (p : Phase) → run es (at opens) ≡ some (at p) → LeadsTo (es ++ logged p) p
+unfolding logged
+logged-leads es (asks w) h =
+    owes-leads (es ++ (entry command (commandOf w) ∷ [])) w (state-next es (at (asks w)) _ h (owes w) (takes-command w))
+logged-leads es (hears x) h = subst (λ (l : List Entry). LeadsTo l (hears x)) (sym (append-nil es)) (at-leads es (hears x) h)
+logged-leads es (decides outcome reason z) h = decided-leads es outcome reason z h
 
 -- one event on
 pub reached-on : (es : List Entry) (σ : Machine) (e : Entry) (p : Phase) (buf : List ℕ) (m : Moved) → run es (at opens) ≡ some σ
     → Follows σ e p buf m
     → Reached (m .state) (es ++ (e ∷ logged p))
-reached-on es σ e p buf m h f = record { phase = p; read = run-on es σ e p h (f .taken); stands = f .stands }
+reached-on es σ e p buf m h f =
+    record {
+      phase = p;
+      read = run-on es σ e p h (f .taken);
+      leads =
+          subst (λ (l : List Entry). LeadsTo l p) (append-assoc es (e ∷ []) (logged p))
+          (logged-leads (es ++ (e ∷ [])) p (state-next es σ e h (at p) (f .taken)));
+      stands = f .stands;
+    }
 
 -- what the state says of the entries
 module _ (s : State) (es : List Entry) (reached : Reached s es) where

@@ -7,6 +7,7 @@ use Prim.Native.Nat.{ℕ}
 use lib.ListN.{length}
 use Rattle.tape_read.specs.Entries.{Entry, entry, command, decision}
 use Rattle.rulebook.specs.Phase.{Phase, opens, asks, hears, decides, commandOf, decisionOf}
+use Rattle.rulebook.specs.Session.{LeadsTo}
 use Rattle.rulebook.specs.Machine.{Machine, at, owes, done, next, run}
 use Rattle.rulebook_zeros.specs.Zeros.{unsuppliedIn}
 use Rattle.session_state.specs.declared.State.{State}
@@ -37,4 +38,5 @@ pub record Follows (σ : Machine) (event : Entry) (p : Phase) (buf : List ℕ) (
 pub record Reached (s : State) (es : List Entry) : Type 0 where
   pub phase : Phase
   pub read : run es (at opens) ≡ some (landing phase)
+  pub leads : LeadsTo es phase
   pub stands : StandsAt s phase

@@ -1,3 +1,4 @@
 pub mod Refusals
 pub mod ReadBack
 mod Pinned
+pub mod Accepted
