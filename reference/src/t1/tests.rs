@@ -1,5 +1,7 @@
 //! Tests of one end of T=1, by the sentences of 000 and of 02, R-10.
 
+mod cards;
+
 use super::*;
 use crate::hex;
 
@@ -203,58 +205,6 @@ fn another_size_holds_for_blocks_not_yet_sent() {
     assert!(bench.block("00900090").starts_with("006010"));
     assert!(bench.block("00800080").starts_with("002010"));
     assert!(bench.block("00900090").starts_with("004006"));
-}
-
-#[test]
-fn a_card_sends_twice() {
-    let mut bench = listening(32);
-    assert_eq!(bench.block(BAD_CHECK), "00810081");
-    assert_eq!(bench.block(BAD_CHECK), "00810081");
-    assert_eq!(bench.block(BAD_CHECK), "LIMIT");
-    let mut bench = listening(32);
-    assert_eq!(bench.block("0000010706"), "(07)");
-    assert_eq!(bench.block("00820082"), "NOT-DUE");
-    assert_eq!(bench.send("9000"), "000002900092");
-    assert_eq!(bench.block("00820082"), "000002900092");
-    assert_eq!(bench.block("00820082"), "LIMIT");
-}
-
-#[test]
-fn a_card_asks() {
-    let busy = || {
-        let mut bench = listening(32);
-        bench.block("0000010706");
-        bench
-    };
-    let mut bench = busy();
-    assert_eq!(bench.step(Event::Ask(Topic::Wtx, 5)), "00C30105C7");
-    assert_eq!(bench.block("00E30104E6"), "00C30105C7");
-    assert_eq!(bench.block("00E30105E7"), "");
-    assert_eq!(bench.end.phase, Phase::Busy);
-    let mut bench = busy();
-    bench.step(Event::Ask(Topic::Wtx, 5));
-    assert_eq!(bench.block("00C101FE3E"), "00C30105C7");
-    assert_eq!(bench.block(BAD_CHECK), "LIMIT");
-    let mut bench = busy();
-    assert_eq!(bench.step(Event::Ask(Topic::Ifs, 64)), "00C1014080");
-    assert_eq!(bench.block("00820082"), "00C1014080");
-    assert_eq!(bench.block("00820082"), "00C1014080");
-    assert_eq!(bench.block("00E10140A0"), "");
-    assert_eq!(bench.end.ifs_in, 64);
-    bench.step(Event::Ask(Topic::Ifs, 64));
-    bench.block("00820082");
-    bench.block("00820082");
-    assert_eq!(bench.block("00820082"), "LIMIT");
-}
-
-#[test]
-fn requests_that_a_card_does_not_take() {
-    for text in ["00C30101C3", "00C200C2", "00C000C0"] {
-        assert_eq!(listening(32).block(text), "00820082", "{text}");
-    }
-    // More than its information field size.
-    assert_eq!(listening(1).block("0000020102 01".replace(' ', "").as_str()), "00820082");
-    assert_eq!(Bench::new(Role::Card, 254, 32).block(BAD_CHECK), "00810081");
 }
 
 /// 02, R-10: what one end cuts into blocks the other receives, for every IFS.
