@@ -23,7 +23,7 @@ pub const NOT_ALLOWED: Reason = 10;
 
 /// 02, R-8; 58 in 01.
 pub const MOST_RECORDS: usize = 500;
-const LONGEST_ANSWER: usize = 258;
+pub const LONGEST_ANSWER: usize = 258;
 
 /// All of the answer that stands before the status.
 pub fn data_field(answer: &[u8]) -> &[u8] {

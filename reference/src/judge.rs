@@ -1,7 +1,7 @@
 //! The judge: reads a whole tape and gives one verdict (00, demand 3; 01,
 //! "The tape").
 
-use crate::kernel::{Event, Reply, Session};
+use crate::kernel::{Decision, Event, Reply, Session};
 use crate::tape::{self, Entry, Unreadable};
 use std::fmt;
 
@@ -45,8 +45,8 @@ impl fmt::Display for Judgement {
 }
 
 /// What may stand next on the tape.
-#[derive(Default)]
-enum Next {
+#[derive(Clone, Debug, Default, PartialEq, Eq)]
+pub enum Due {
     #[default]
     Start,
     /// Exactly this command.
@@ -54,10 +54,10 @@ enum Next {
     /// Any answer, or a silence that closes.
     Answer,
     Host,
-    /// A result for each rule of the verification list (02, R-7).
-    Results,
+    /// So many results, one for each rule of the verification list (02, R-7).
+    Results(usize),
     /// Exactly this decision.
-    Decision([u8; 9]),
+    Decision(Decision),
     /// Nothing: the session is finished.
     Finished,
     /// Nothing: a silence closed it unfinished.
@@ -69,16 +69,21 @@ enum Next {
 #[derive(Default)]
 pub struct Follower {
     session: Session,
-    next: Next,
+    due: Due,
 }
 
 impl Follower {
+    /// What may stand next.
+    pub fn due(&self) -> &Due {
+        &self.due
+    }
+
     /// Whether the entry is one that may stand next. One that may not leaves
     /// all as it was.
     pub fn follow(&mut self, entry: Entry) -> bool {
         match self.after(entry) {
-            Some(next) => {
-                self.next = next;
+            Some(due) => {
+                self.due = due;
                 true
             }
             None => false,
@@ -87,8 +92,8 @@ impl Follower {
 
     /// The verdict where a tape ends that broke no rule.
     pub fn verdict_at_end(&self, entries: usize) -> Verdict {
-        match self.next {
-            Next::Finished => Verdict::Pass(entries),
+        match self.due {
+            Due::Finished => Verdict::Pass(entries),
             _ => Verdict::Inconclusive(entries),
         }
     }
@@ -98,27 +103,25 @@ impl Follower {
     }
 
     /// What stands next after the entry, or nothing if it breaks the rules.
-    fn after(&mut self, entry: Entry) -> Option<Next> {
-        match (&self.next, entry.kind) {
-            (Next::Start, tape::START) => self.feed(Event::Start(entry.payload)),
-            (Next::Command(due), tape::COMMAND) => (entry.payload == due).then_some(Next::Answer),
-            (Next::Answer, tape::ANSWER) => self.feed(Event::Answer(entry.payload)),
-            (Next::Answer, tape::SILENCE) => entry.payload.is_empty().then_some(Next::Closed),
-            (Next::Host, tape::HOST) => self.feed(Event::Host(entry.payload)),
-            (Next::Results, tape::RESULTS) => self.feed(Event::Results(entry.payload)),
-            (Next::Decision(due), tape::DECISION) => {
-                (entry.payload == due).then_some(Next::Finished)
-            }
+    fn after(&mut self, entry: Entry) -> Option<Due> {
+        match (&self.due, entry.kind) {
+            (Due::Start, tape::START) => self.feed(Event::Start(entry.payload)),
+            (Due::Command(due), tape::COMMAND) => (entry.payload == due).then_some(Due::Answer),
+            (Due::Answer, tape::ANSWER) => self.feed(Event::Answer(entry.payload)),
+            (Due::Answer, tape::SILENCE) => entry.payload.is_empty().then_some(Due::Closed),
+            (Due::Host, tape::HOST) => self.feed(Event::Host(entry.payload)),
+            (Due::Results(_), tape::RESULTS) => self.feed(Event::Results(entry.payload)),
+            (Due::Decision(due), tape::DECISION) => (entry.payload == due).then_some(Due::Finished),
             _ => None,
         }
     }
 
-    fn feed(&mut self, event: Event) -> Option<Next> {
+    fn feed(&mut self, event: Event) -> Option<Due> {
         match self.session.retell(event) {
-            Reply::Command(command) => Some(Next::Command(command)),
-            Reply::HostDue => Some(Next::Host),
-            Reply::ResultsDue(_) => Some(Next::Results),
-            Reply::Decision(decision) => Some(Next::Decision(decision)),
+            Reply::Command(command) => Some(Due::Command(command)),
+            Reply::HostDue => Some(Due::Host),
+            Reply::ResultsDue(count) => Some(Due::Results(count)),
+            Reply::Decision(decision) => Some(Due::Decision(decision)),
             Reply::Closed | Reply::Refused(_) => None,
         }
     }

@@ -54,7 +54,10 @@ const USAGE: &str = "usage:
   reference make-book COUNT SEED
   reference check-book FILE
   reference make-t1 COUNT SEED
-  reference check-t1 FILE";
+  reference check-t1 FILE
+  reference dress DIR COUNT SEED
+  reference dress-tape FILE OUT SEED
+  reference dress-script FILE SEED";
 
 /// Takes `--name VALUE` out of the arguments.
 fn option(arguments: &mut Vec<String>, name: &str) -> Result<Option<String>, String> {
@@ -138,13 +141,28 @@ fn run(mut arguments: Vec<String>) -> Outcome {
             Ok(())
         }
         ("check-t1", [file]) => vectors::check_blocks(file),
+        ("dress-tape", [from, to, seed]) => make::dress_tape(from, to, number(seed)?),
+        ("dress-script", [file, seed]) => make::dress_script(file, number(seed)?),
         _ => Err(USAGE.to_string()),
     }
 }
 
+/// The one subcommand that can end without a message and yet not well.
+fn dress(arguments: &[String]) -> Result<ExitCode, String> {
+    let [folder, count, seed] = arguments else { return Err(USAGE.to_string()) };
+    let all_alike = make::make_dressed(Path::new(folder), number(count)?, number(seed)?)
+        .map_err(|error| format!("{folder}: {error}"))?;
+    Ok(if all_alike { ExitCode::SUCCESS } else { ExitCode::from(1) })
+}
+
 fn main() -> ExitCode {
-    match run(std::env::args().skip(1).collect()) {
-        Ok(()) => ExitCode::SUCCESS,
+    let arguments: Vec<String> = std::env::args().skip(1).collect();
+    let ended = match arguments.split_first() {
+        Some((command, rest)) if command == "dress" => dress(rest),
+        _ => run(arguments).map(|()| ExitCode::SUCCESS),
+    };
+    match ended {
+        Ok(code) => code,
         Err(message) => {
             eprintln!("{message}");
             ExitCode::from(2)

@@ -6,6 +6,7 @@ mod books;
 mod calls;
 mod card;
 mod damage;
+mod dress;
 mod endings;
 mod exchanges;
 mod faults;
@@ -24,6 +25,7 @@ mod verified;
 pub use blocks::make_blocks;
 pub use books::make_books;
 pub use calls::make_calls;
+pub use dress::{dress_script, dress_tape, make_dressed};
 pub use exchanges::make_exchanges;
 pub use remains::make_remains;
 pub use resets::make_resets;
@@ -47,7 +49,7 @@ fn tape_of(items: &[Item], session: u32) -> Vec<u8> {
 }
 
 /// The bytes of one made tape.
-fn tape(scenario: &Scenario, r: &mut Random) -> Vec<u8> {
+fn made_tape(scenario: &Scenario, r: &mut Random) -> Vec<u8> {
     let mut items = play(&scenario.plan, r);
     for ending in &scenario.endings {
         if !items.is_empty() {
@@ -84,7 +86,7 @@ pub fn make(folder: &Path, count: usize, seed: u64, list: Option<&Path>) -> io::
     for index in 0..count {
         let mut r = Random::nth(seed, index as u64);
         let scenario = scenario_for(index, &all, &mut r);
-        let bytes = tape(&scenario, &mut r);
+        let bytes = made_tape(&scenario, &mut r);
         let name = format!("{:06}.tape", index + 1);
         std::fs::write(folder.join(&name), &bytes)?;
         writeln!(out, "{name} {}", judge(&bytes))?;
@@ -156,7 +158,7 @@ mod tests {
         for index in 0..(all.len() + 2000) {
             let mut r = Random::nth(11, index as u64);
             let scenario = scenario_for(index, &all, &mut r);
-            let bytes = tape(&scenario, &mut r);
+            let bytes = made_tape(&scenario, &mut r);
             assert_eq!(judge(&bytes), judge_fed(&bytes), "{}", scenario.label);
         }
     }

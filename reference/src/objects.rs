@@ -48,7 +48,7 @@ fn read_length(bytes: &[u8]) -> Option<(usize, usize)> {
 
 /// The object at the front and the bytes behind it. A constructed value is
 /// not looked into here.
-fn read_object(bytes: &[u8]) -> Option<(Object<'_>, &[u8])> {
+pub fn read_object(bytes: &[u8]) -> Option<(Object<'_>, &[u8])> {
     let (tag, tag_size) = read_tag(bytes)?;
     let (length, length_size) = read_length(&bytes[tag_size..])?;
     let from = tag_size + length_size;

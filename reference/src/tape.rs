@@ -66,10 +66,17 @@ fn block(number: u32, session: u32, entry: Entry) -> [u8; BLOCK] {
     out[0..4].copy_from_slice(&number.to_be_bytes());
     out[4..8].copy_from_slice(&session.to_be_bytes());
     out[8] = entry.kind;
-    out[10..12].copy_from_slice(&(entry.payload.len() as u16).to_be_bytes());
-    out[PAYLOAD_AT..PAYLOAD_AT + entry.payload.len()].copy_from_slice(entry.payload);
-    seal(&mut out);
+    set_payload(&mut out, entry.payload);
     out
+}
+
+/// Puts a payload that fits into a block, in place of the one it had, and
+/// mends the check.
+pub fn set_payload(block: &mut [u8], payload: &[u8]) {
+    block[10..12].copy_from_slice(&(payload.len() as u16).to_be_bytes());
+    block[PAYLOAD_AT..CHECK_AT].fill(0);
+    block[PAYLOAD_AT..PAYLOAD_AT + payload.len()].copy_from_slice(payload);
+    seal(block);
 }
 
 /// Sets the check of a block to what its other bytes demand.

@@ -180,7 +180,7 @@ pub fn any_list(total: Option<usize>, r: &mut Random) -> Vec<u8> {
 }
 
 /// 5A in every shape 01 accepts.
-fn any_account(r: &mut Random) -> Vec<u8> {
+pub fn any_account(r: &mut Random) -> Vec<u8> {
     let size = *r.pick(&[1, 2, 5, 8, 8, 8, 9, 10, 10]);
     let digits = match r.below(3) {
         0 => 2 * size,

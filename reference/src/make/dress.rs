@@ -1,0 +1,134 @@
+//! Dressed tapes (02, R-13): what is seen of the card's answers stays, all that
+//! is ignored in them changes, and so must no line of the judge. Beside each
+//! such tape one in which something is seen to change.
+
+mod answer;
+mod change;
+mod clothes;
+mod pieces;
+mod programs;
+
+pub use programs::{dress_script, dress_tape, make_dressed};
+
+use crate::judge::{Due, Follower};
+use crate::random::Random;
+use crate::tape::{self, read_block, set_payload, Entry, BLOCK};
+use crate::terminal::Terminal;
+use answer::Asked;
+use change::changed;
+use clothes::{dressed, Zeal};
+
+/// Follows the entries of a session and tells the answers that R-13 is about.
+#[derive(Default)]
+struct Walk {
+    follower: Follower,
+    terminal: Option<Terminal>,
+    command: Vec<u8>,
+}
+
+/// What an entry was.
+enum Walked {
+    /// An answer that was due and led to no reason.
+    Answer(Asked),
+    /// Anything else that may stand there.
+    Other,
+    /// One that breaks the rules: nothing behind it is followed.
+    Broken,
+}
+
+impl Walk {
+    fn step(&mut self, entry: Entry) -> Walked {
+        if !self.follower.follow(entry) {
+            return Walked::Broken;
+        }
+        match entry.kind {
+            tape::START => self.terminal = Terminal::read_either(entry.payload),
+            tape::COMMAND => self.command = entry.payload.to_vec(),
+            tape::ANSWER if !self.is_terminated() => {
+                let asked = Asked::of(&self.command, self.has_verification());
+                return asked.map_or(Walked::Other, Walked::Answer);
+            }
+            _ => (),
+        }
+        Walked::Other
+    }
+
+    fn is_terminated(&self) -> bool {
+        matches!(self.follower.due(), Due::Decision([_, reason, ..]) if *reason != 0)
+    }
+
+    fn has_verification(&self) -> bool {
+        self.terminal.as_ref().is_some_and(|terminal| terminal.capabilities().is_some())
+    }
+
+    fn aid(&self) -> Vec<u8> {
+        self.terminal.as_ref().map(|terminal| terminal.aid().to_vec()).unwrap_or_default()
+    }
+}
+
+/// An answer on a tape: its block and its command.
+#[derive(Clone, Copy)]
+struct Spot {
+    block: usize,
+    asked: Asked,
+}
+
+/// A tape's answers that R-13 is about, as far as its blocks are good and break
+/// no rule, and the AID of its START.
+struct Answers {
+    spots: Vec<Spot>,
+    aid: Vec<u8>,
+}
+
+fn answers_of(tape: &[u8]) -> Answers {
+    let session = tape.get(4..8).unwrap_or_default();
+    let mut walk = Walk::default();
+    let mut spots = Vec::new();
+    for (block, bytes) in tape.chunks_exact(BLOCK).enumerate() {
+        let Ok(entry) = read_block(bytes, block, session) else { break };
+        match walk.step(entry) {
+            Walked::Answer(asked) => spots.push(Spot { block, asked }),
+            Walked::Other => (),
+            Walked::Broken => break,
+        }
+    }
+    Answers { spots, aid: walk.aid() }
+}
+
+/// Puts what `change` makes of a block's payload in its place.
+fn replace(tape: &mut [u8], spot: Spot, change: impl FnOnce(&[u8]) -> Vec<u8>) {
+    let block = &mut tape[spot.block * BLOCK..(spot.block + 1) * BLOCK];
+    let payload = tape::read_shape(block).map(|entry| change(entry.payload));
+    if let Ok(payload) = payload {
+        set_payload(block, &payload);
+    }
+}
+
+/// The tape with all those answers dressed.
+fn dressed_tape(tape: &[u8], r: &mut Random) -> Vec<u8> {
+    let mut out = tape.to_vec();
+    for spot in answers_of(tape).spots {
+        replace(&mut out, spot, |payload| dressed(spot.asked, payload, Zeal::Chance, r));
+    }
+    out
+}
+
+/// The tape with one named object of one of those answers changed, or nothing
+/// if there is none.
+fn changed_tape(tape: &[u8], r: &mut Random) -> Option<Vec<u8>> {
+    let Answers { mut spots, aid } = answers_of(tape);
+    let mut out = tape.to_vec();
+    while !spots.is_empty() {
+        let spot = spots.swap_remove(r.below(spots.len()));
+        replace(&mut out, spot, |payload| {
+            changed(spot.asked, payload, &aid, r).unwrap_or_else(|| payload.to_vec())
+        });
+        if out != tape {
+            return Some(out);
+        }
+    }
+    None
+}
+
+#[cfg(test)]
+mod tests;
