@@ -170,10 +170,12 @@ fn cash_and_cashback() {
     }
 }
 
+/// Which combinations of offline PIN, online PIN and signature support a method.
+type Support = (u8, fn(u8) -> bool);
+
 #[test]
 fn supported_or_not() {
-    // Which combinations of offline PIN, online PIN and signature support it.
-    let supports: [(u8, fn(u8) -> bool); 8] = [
+    let supports: [Support; 8] = [
         (0x00, |_| true),
         (0x01, |means| means & OFFLINE != 0),
         (0x02, |means| means & ONLINE != 0),

@@ -105,10 +105,10 @@ fn dressed_lines(text: &str, r: &mut Random) -> Result<String, String> {
         if let Due::Command(command) = walk.follower.due().clone() {
             walk.step(Entry { kind: tape::COMMAND, payload: &command });
         }
-        let walked = match entry_of(line)? {
-            Some((kind, payload)) => Some((walk.step(Entry { kind, payload: &payload }), payload)),
-            None => None,
-        };
+        let walked = entry_of(line)?.map(|(kind, payload)| {
+            let walked = walk.step(Entry { kind, payload: &payload });
+            (walked, payload)
+        });
         out += &match walked {
             Some((Walked::Answer(asked), payload)) => {
                 let after = dressed(asked, &payload, Zeal::Everything, r);
