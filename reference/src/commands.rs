@@ -1,5 +1,6 @@
 //! The subcommands that work on files and lines.
 
+use crate::due::Account;
 use crate::feed::UnderWay;
 use crate::hex;
 use crate::judge::Judgement;
@@ -49,6 +50,11 @@ fn judge_from(source: impl Read) -> io::Result<Judgement> {
     }
 }
 
+/// A file's name without its folder.
+fn name_of(file: &str) -> String {
+    Path::new(file).file_name().map(|n| n.to_string_lossy().into_owned()).unwrap_or_default()
+}
+
 pub fn judge_tapes(files: &[String]) -> Outcome {
     if files.is_empty() {
         let judgement = judge_from(io::stdin().lock()).map_err(failed("standard input"))?;
@@ -56,25 +62,40 @@ pub fn judge_tapes(files: &[String]) -> Outcome {
     }
     let mut out = io::BufWriter::new(io::stdout().lock());
     for file in files {
-        let path = Path::new(file);
-        let name = path.file_name().map(|n| n.to_string_lossy()).unwrap_or_default();
-        let judgement = File::open(path).and_then(judge_from).map_err(failed(file))?;
-        writeln!(out, "{name} {judgement}").map_err(failed("standard output"))?;
+        let judgement = File::open(file).and_then(judge_from).map_err(failed(file))?;
+        writeln!(out, "{} {judgement}", name_of(file)).map_err(failed("standard output"))?;
+    }
+    Ok(())
+}
+
+/// A whole file, or standard input where there is none.
+fn whole(file: Option<&str>) -> Result<Vec<u8>, String> {
+    let mut bytes = Vec::new();
+    match file {
+        Some(path) => bytes = std::fs::read(path).map_err(failed(path))?,
+        None => {
+            io::stdin().lock().read_to_end(&mut bytes).map_err(failed("standard input"))?;
+        }
+    }
+    Ok(bytes)
+}
+
+/// What is due at each place of a tape, and its line as the judge prints it.
+pub fn tell_dues(files: &[String]) -> Outcome {
+    if files.is_empty() {
+        let account = Account::of(&whole(None)?);
+        println!("{}{}", account.lines(), account.judgement);
+    }
+    for file in files {
+        let account = Account::of(&whole(Some(file))?);
+        println!("{}{} {}", account.lines(), name_of(file), account.judgement);
     }
     Ok(())
 }
 
 /// What is left of a damaged tape: a line for each good block, and the tail.
 pub fn recover_tape(file: Option<&str>) -> Outcome {
-    let bytes = match file {
-        Some(path) => std::fs::read(path).map_err(failed(path))?,
-        None => {
-            let mut bytes = Vec::new();
-            io::stdin().lock().read_to_end(&mut bytes).map_err(failed("standard input"))?;
-            bytes
-        }
-    };
-    let remains = recover(&bytes);
+    let remains = recover(&whole(file)?);
     for block in &remains.blocks {
         let Found { step, number, session, kind, length } = block;
         println!("BLOCK {step} {number} {session} {kind} {length}");

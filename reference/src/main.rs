@@ -6,6 +6,7 @@ mod book;
 mod calls;
 mod commands;
 mod decide;
+mod due;
 mod feed;
 mod hex;
 mod json;
@@ -33,6 +34,7 @@ use std::process::ExitCode;
 
 const USAGE: &str = "usage:
   reference judge [FILE ..]
+  reference due [FILE ..]
   reference play [--tape FILE] [--session N]
   reference sample NAME
   reference objects
@@ -86,6 +88,9 @@ fn run(mut arguments: Vec<String>) -> Outcome {
     let command = arguments.remove(0);
     if command == "judge" {
         return commands::judge_tapes(&arguments);
+    }
+    if command == "due" {
+        return commands::tell_dues(&arguments);
     }
     let tape = option(&mut arguments, "--tape")?;
     let session = option(&mut arguments, "--session")?;

@@ -103,6 +103,7 @@ pub fn make(folder: &Path, count: usize, seed: u64, list: Option<&Path>) -> io::
 #[cfg(test)]
 mod tests {
     use super::*;
+    use crate::due::Account;
     use crate::feed::tests::judge_fed;
 
     /// The reason byte a played session ends with.
@@ -160,6 +161,7 @@ mod tests {
             let scenario = scenario_for(index, &all, &mut r);
             let bytes = made_tape(&scenario, &mut r);
             assert_eq!(judge(&bytes), judge_fed(&bytes), "{}", scenario.label);
+            assert_eq!(judge(&bytes), Account::of(&bytes).judgement, "{}", scenario.label);
         }
     }
 }
