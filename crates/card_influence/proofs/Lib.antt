@@ -1,0 +1,4 @@
+pub mod Keeping
+pub mod Calls
+pub mod Tapes
+pub mod Theorem

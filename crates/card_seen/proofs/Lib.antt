@@ -1,0 +1,14 @@
+pub mod Looking
+pub mod Frames
+pub mod Selection
+pub mod Options
+pub mod Records
+pub mod Cryptograms
+pub mod Turning
+pub mod Sessions
+pub mod Literal
+pub mod Beginnings
+pub mod Freedoms
+pub mod Least
+pub mod Order
+pub mod Theorem

@@ -1,0 +1,116 @@
+-- Whole sessions: the phases that are passed, TVR and TSI with them, every command, the decision and what each entry adds to the fourth
+-- number are settled by what a session is given. So two sessions that are given the same, whatever bytes the card's answers have, are
+-- the same but for these. 02, R-13.
+-- Assumes nothing.
+use mathlib.Core.Path.{_≡_, refl, sym, ap, ap₂, _∙_}
+use mathlib.Core.List.{List, [], _∷_, map}
+use Prim.Native.Nat.{ℕ}
+use lib.Dec.{eqb}
+use lib.ListN.{length}
+use Rattle.slices.specs.Choice.{pick}
+use Rattle.slices.proofs.Choice.{pick-no}
+use Rattle.tape_read.specs.Entries.{Entry, entry, command, answer, decision}
+use Rattle.rulebook.specs.Phase.{Asked, Heard, Phase, asks, hears, decides, commandOf, dueKind, decisionOf, tvrOf, tsiOf}
+use Rattle.rulebook.specs.Turn.{turn, after}
+use Rattle.rulebook.specs.Session.{Plays, exchanged, heard, decided, phasesOf}
+use Rattle.rulebook.proofs.Said.{other-kinds}
+use Rattle.rulebook_zeros.specs.Zeros.{unsuppliedIn, addedBy}
+use Rattle.card_seen.specs.Seen.{Seen, seen}
+use Rattle.card_seen.specs.Given.{placeOf, Given, said, showed, givenTo, butAnswer, butAnswers}
+use Rattle.card_seen.proofs.Turning.{turnBy, turn-seen}
+
+-- ---- the functions
+
+unfoldable pub phasesBy : List Given → Phase → List Phase
+phasesBy [] (asks w) = []
+phasesBy [] (hears h) = []
+phasesBy [] (decides outcome reason s) = decides outcome reason s ∷ []
+phasesBy (said p ∷ gs) (asks w) = []
+phasesBy (said p ∷ gs) (hears h) = hears h ∷ phasesBy gs (after h p)
+phasesBy (said p ∷ gs) (decides outcome reason s) = []
+phasesBy (showed v ∷ gs) (asks w) = asks w ∷ asks w ∷ phasesBy gs (turnBy w v)
+phasesBy (showed v ∷ gs) (hears h) = []
+phasesBy (showed v ∷ gs) (decides outcome reason s) = []
+
+unfoldable pub entriesBy : List Given → Phase → List Entry
+entriesBy [] (asks w) = []
+entriesBy [] (hears h) = []
+entriesBy [] (decides outcome reason s) = entry decision (decisionOf outcome reason s) ∷ []
+entriesBy (said p ∷ gs) (asks w) = []
+entriesBy (said p ∷ gs) (hears h) = entry (dueKind h) p ∷ entriesBy gs (after h p)
+entriesBy (said p ∷ gs) (decides outcome reason s) = []
+entriesBy (showed v ∷ gs) (asks w) = entry command (commandOf w) ∷ entry answer [] ∷ entriesBy gs (turnBy w v)
+entriesBy (showed v ∷ gs) (hears h) = []
+entriesBy (showed v ∷ gs) (decides outcome reason s) = []
+
+unfoldable pub addsBy : List Given → Phase → List ℕ
+addsBy [] (asks w) = []
+addsBy [] (hears h) = []
+addsBy [] (decides outcome reason s) = 0 ∷ []
+addsBy (said p ∷ gs) (asks w) = []
+addsBy (said p ∷ gs) (hears h) = unsuppliedIn (after h p) ∷ addsBy gs (after h p)
+addsBy (said p ∷ gs) (decides outcome reason s) = []
+addsBy (showed v ∷ gs) (asks w) = 0 ∷ unsuppliedIn (turnBy w v) ∷ addsBy gs (turnBy w v)
+addsBy (showed v ∷ gs) (hears h) = []
+addsBy (showed v ∷ gs) (decides outcome reason s) = []
+
+-- ---- that they give what a session has
+
+word-kept : (h : Heard) (p : List ℕ) → butAnswer (entry (dueKind h) p) ≡ entry (dueKind h) p
+unfolding butAnswer
+word-kept h p = pick-no _ _ _ (other-kinds h .no-answer)
+
+pub kept : (c a : List ℕ) (d : List ℕ)
+    → (butAnswer (entry command c) ≡ entry command c) × ((butAnswer (entry answer a) ≡ entry answer [])
+    × (butAnswer (entry decision d) ≡ entry decision d))
+unfolding butAnswer pick
+kept c a d = (refl, (refl, refl))
+
+pub phases-by : {p : Phase} {es : List Entry} (play : Plays p es) → phasesOf play ≡ phasesBy (givenTo play) p
+unfolding phasesOf givenTo phasesBy
+phases-by (exchanged {w} {c} {a} same ok play) =
+    ap (λ (ps : List Phase). asks w ∷ asks w ∷ ps) (phases-by play ∙ ap (phasesBy (givenTo play)) (turn-seen w a))
+phases-by (heard {h} {k} {p} same fits ok play) = ap (λ (ps : List Phase). hears h ∷ ps) (phases-by play)
+phases-by (decided same) = refl
+
+pub entries-by : {p : Phase} {es : List Entry} (play : Plays p es) → butAnswers es ≡ entriesBy (givenTo play) p
+unfolding givenTo entriesBy
+entries-by (exchanged {w} {c} {a} same ok play) =
+    let first = kept c a [] .0 ∙ ap (entry command) same in
+    let second = kept c a [] .1 .0 in
+    let rest = entries-by play ∙ ap (entriesBy (givenTo play)) (turn-seen w a) in
+    λ i. first i ∷ second i ∷ rest i
+entries-by (heard {h} {k} {p} same fits ok play) =
+    ap₂ (λ (e : Entry) (es : List Entry). e ∷ es) (ap (λ (n : ℕ). butAnswer (entry n p)) same ∙ word-kept h p) (entries-by play)
+entries-by (decided {outcome} {reason} {s} {d} same) =
+    ap (λ (e : Entry). e ∷ []) (kept [] [] d .1 .1 ∙ ap (entry decision) same)
+
+pub adds-by : {p : Phase} {es : List Entry} (play : Plays p es) → addedBy play ≡ addsBy (givenTo play) p
+unfolding givenTo addedBy addsBy
+adds-by (exchanged {w} {c} {a} same ok play) =
+    ap (λ (ns : List ℕ). 0 ∷ ns)
+    (ap₂ (λ (n : ℕ) (ns : List ℕ). n ∷ ns) (ap unsuppliedIn (turn-seen w a)) (adds-by play ∙ ap (addsBy (givenTo play)) (turn-seen w a)))
+adds-by (heard {h} {k} {p} same fits ok play) = ap (λ (ns : List ℕ). unsuppliedIn (after h p) ∷ ns) (adds-by play)
+adds-by (decided same) = refl
+
+-- ---- two sessions
+
+-- the same phases, and so TVR and TSI at each entry; the same entries but for what stands in the card's answers: START, words, commands and
+-- decision, each at the same place; and the same added by each entry to the fourth number
+pub record Same {p : Phase} {es fs : List Entry} (one : Plays p es) (other : Plays p fs) : Type 0 where
+  pub phases : phasesOf one ≡ phasesOf other
+  pub tvr : map tvrOf (phasesOf one) ≡ map tvrOf (phasesOf other)
+  pub tsi : map tsiOf (phasesOf one) ≡ map tsiOf (phasesOf other)
+  pub entries : butAnswers es ≡ butAnswers fs
+  pub zeros : addedBy one ≡ addedBy other
+
+pub given-same : {p : Phase} {es fs : List Entry} (one : Plays p es) (other : Plays p fs) → givenTo one ≡ givenTo other → Same one other
+given-same {p = p} one other e =
+    let phases = phases-by one ∙ (ap (λ (gs : List Given). phasesBy gs p) e ∙ sym (phases-by other)) in
+    record {
+      phases = phases;
+      tvr = ap (map tvrOf) phases;
+      tsi = ap (map tsiOf) phases;
+      entries = entries-by one ∙ (ap (λ (gs : List Given). entriesBy gs p) e ∙ sym (entries-by other));
+      zeros = adds-by one ∙ (ap (λ (gs : List Given). addsBy gs p) e ∙ sym (adds-by other));
+    }

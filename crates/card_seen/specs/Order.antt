@@ -1,0 +1,30 @@
+-- Answers that show the same in another order: under each name stands the same, none, one, or more than one. 02, R-13, asks for the same
+-- order; that a session goes on alike without it is proved (proofs/Order).
+-- Assumes nothing.
+use mathlib.Core.Path.{_≡_}
+use mathlib.Core.List.{List, [], _∷_}
+use Prim.Native.Nat.{ℕ}
+use lib.Dec.{eqb}
+use Rattle.slices.specs.Choice.{pick}
+use Rattle.answer_common.specs.Answer.{sizeBad, outerBad}
+use Rattle.card_seen.specs.Seen.{Place, expectedAt, Shown, namedAt, statusOf}
+
+pub data Standing : Type 0 where
+  nowhere : Standing
+  alone : Shown → Standing
+  repeated : Standing
+
+unfoldable pub beforeOthers : Shown → Standing → Standing
+beforeOthers t nowhere = alone t
+beforeOthers t (alone u) = repeated
+beforeOthers t repeated = repeated
+
+unfoldable pub standing : ℕ → List Shown → Standing
+standing name [] = nowhere
+standing name (t ∷ ts) = pick (eqb (t .tag) name) (beforeOthers t (standing name ts)) (standing name ts)
+
+pub record Rearranged (p : Place) (a b : List ℕ) : Type 0 where
+  pub size : sizeBad a ≡ sizeBad b
+  pub status : statusOf a ≡ statusOf b
+  pub form : outerBad (expectedAt p) a ≡ outerBad (expectedAt p) b
+  pub objects : (name : ℕ) → standing name (namedAt p a) ≡ standing name (namedAt p b)

@@ -1,0 +1,91 @@
+-- GENERATE AC: 9F27, 9F36, 9F26 and 9F10 count. 9F27 by its two bits; the three others by being there with a right length: their values are
+-- asked for nowhere.
+-- Assumes nothing.
+use mathlib.Core.Path.{_≡_, refl}
+use mathlib.Core.Bool.{true}
+use mathlib.Core.List.{List, [], _∷_, _++_}
+use mathlib.Core.Option.{some}
+use Prim.Native.Nat.{ℕ}
+use Rattle.tape_read.specs.Entries.{Entry, entry, answer}
+use Rattle.rulebook.specs.Phase.{opens}
+use Rattle.rulebook.specs.Session.{Session}
+use Rattle.rulebook.specs.Machine.{at, run}
+use Rattle.rulebook.specs.Roles.{given}
+use Rattle.rulebook.proofs.Opening.{reached}
+use Rattle.rulebook.proofs.Made.{reads as readsAll}
+use Rattle.card_seen.specs.Seen.{generation, seen}
+use Rattle.card_seen.specs.Given.{placeOf}
+use Rattle.card_seen.proofs.Freedoms.{viewed}
+use Rattle.card_worked.specs.Matters.{others, besides, seenBeside, placeIn, Matters}
+use Rattle.card_worked.proofs.Cards.{generates, giving, counter, cryptogram, issuer, decides, tvr, differ}
+
+owed : placeIn (run generates (at opens)) ≡ some generation
+unfolding reached placeIn placeOf
+owed = refl
+
+-- a TC: approved
+abbrev approving : List ℕ
+approving = giving 0x18 0x40 (counter ++ (cryptogram ++ issuer))
+
+abbrev approved : Entry
+approved = decides 1 0 (tvr 0 0) 0x60
+
+plain-session : Session (generates ++ (entry answer approving ∷ approved ∷ []))
+unfolding reached
+plain-session = readsAll _ refl
+
+-- another answer, which differs in an object alone, and with it the decision
+pair : (name : ℕ) (other : List ℕ) (otherwise : Entry)
+    → seenBeside name (seen generation approving) ≡ seenBeside name (seen generation other)
+    → given approved ≡ true → given otherwise ≡ true → (approved ≡ otherwise → ⊥)
+    → Session (generates ++ (entry answer other ∷ otherwise ∷ [])) → Matters name
+pair name other otherwise alone first-given second-given apart another = record {
+  before = generates;
+  place = generation;
+  due = owed;
+  one = approving;
+  other = other;
+  alone = alone;
+  middle = [];
+  asked = approved;
+  otherwise = otherwise;
+  first-given = first-given;
+  second-given = second-given;
+  apart = apart;
+  rest = [];
+  more = [];
+  session = plain-session;
+  another = another;
+}
+
+-- an AAC: declined
+pub information-counts : Matters 0x9F27
+unfolding reached viewed given others besides seenBeside
+information-counts =
+    pair 0x9F27 (giving 0x18 0x00 (counter ++ (cryptogram ++ issuer))) (decides 2 0 (tvr 0 0) 0x60) refl refl refl (differ 0 _ _ refl)
+    (readsAll _ refl)
+
+-- a byte too few, or 33 bytes: reason 5, before the TSI's bit is set
+abbrev ended : Entry
+ended = decides 3 5 (tvr 0 0) 0x40
+
+pub counter-counts : Matters 0x9F36
+unfolding reached viewed given others besides seenBeside
+counter-counts =
+    pair 0x9F36 (giving 0x17 0x40 (0x9F ∷ 0x36 ∷ 0x01 ∷ 0x00 ∷ (cryptogram ++ issuer))) ended refl refl refl (differ 0 _ _ refl)
+    (readsAll _ refl)
+
+pub cryptogram-counts : Matters 0x9F26
+unfolding reached viewed given others besides seenBeside
+cryptogram-counts =
+    pair 0x9F26 (giving 0x17 0x40 (counter ++ (0x9F ∷ 0x26 ∷ 0x07 ∷ 1 ∷ 2 ∷ 3 ∷ 4 ∷ 5 ∷ 6 ∷ 7 ∷ issuer))) ended refl refl refl
+    (differ 0 _ _ refl) (readsAll _ refl)
+
+abbrev long : List ℕ
+long =
+    0x9F ∷ 0x10 ∷ 0x21
+    ∷ 0 ∷ 0 ∷ 0 ∷ 0 ∷ 0 ∷ 0 ∷ 0 ∷ 0 ∷ 0 ∷ 0 ∷ 0 ∷ 0 ∷ 0 ∷ 0 ∷ 0 ∷ 0 ∷ 0 ∷ 0 ∷ 0 ∷ 0 ∷ 0 ∷ 0 ∷ 0 ∷ 0 ∷ 0 ∷ 0 ∷ 0 ∷ 0 ∷ 0 ∷ 0 ∷ 0 ∷ 0 ∷ 0 ∷ []
+
+pub issuer-counts : Matters 0x9F10
+unfolding reached viewed given others besides seenBeside
+issuer-counts = pair 0x9F10 (giving 0x38 0x40 (counter ++ (cryptogram ++ long))) ended refl refl refl (differ 0 _ _ refl) (readsAll _ refl)

@@ -1,0 +1,5 @@
+pub mod Cards
+pub mod Early
+pub mod Records
+pub mod Cryptograms
+pub mod Dressed

@@ -1,0 +1,2 @@
+-- That a named object counts.
+pub mod Matters

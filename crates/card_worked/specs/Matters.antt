@@ -1,0 +1,62 @@
+-- That a named object counts: two sessions that differ in one answer, in that object alone, and then in a command or in the decision.
+-- 02, R-13. There is such a pair for every named object (proofs/).
+-- Assumes nothing.
+use mathlib.Core.Path.{_≡_}
+use mathlib.Core.Bool.{true}
+use mathlib.Core.List.{List, [], _∷_, _++_}
+use mathlib.Core.Option.{Option, none, some}
+use Prim.Native.Nat.{ℕ}
+use lib.Dec.{eqb}
+use Rattle.slices.specs.Choice.{pick}
+use Rattle.tlv_list.specs.Objects.{Object}
+use Rattle.tape_read.specs.Entries.{Entry, entry, answer}
+use Rattle.rulebook.specs.Phase.{opens}
+use Rattle.rulebook.specs.Session.{Session}
+use Rattle.rulebook.specs.Machine.{Machine, at, owes, done, run}
+use Rattle.rulebook.specs.Roles.{given}
+use Rattle.card_seen.specs.Seen.{Place, Shown, Seen, seen}
+use Rattle.card_seen.specs.Given.{placeOf}
+
+-- objects without those that have a name
+unfoldable pub others : ℕ → List Object → List Object
+others name [] = []
+others name (m ∷ ms) = pick (eqb (m .tag) name) (others name ms) (m ∷ others name ms)
+
+unfoldable pub besides : ℕ → List Shown → List Shown
+besides name [] = []
+besides name (t ∷ ts) =
+    pick (eqb (t .tag) name) (besides name ts)
+    (record { tag = t .tag; value = t .value; members = others name (t .members) } ∷ besides name ts)
+
+-- what is seen of an answer beside the objects with a name, at their place or in another object
+unfoldable pub seenBeside : ℕ → Seen → Seen
+seenBeside name v =
+    record { size-wrong = v .size-wrong; status = v .status; form-wrong = v .form-wrong; objects = besides name (v .objects) }
+
+-- the place of the answer that is due after some entries
+unfoldable pub placeIn : Option Machine → Option Place
+placeIn none = none
+placeIn (some (at p)) = none
+placeIn (some (owes w)) = some (placeOf w)
+placeIn (some done) = none
+
+pub record Matters (name : ℕ) : Type 0 where
+  -- up to the answer, and where that stands
+  pub before : List Entry
+  pub place : Place
+  pub due : placeIn (run before (at opens)) ≡ some place
+  -- the two answers, which differ in the object alone
+  pub one : List ℕ
+  pub other : List ℕ
+  pub alone : seenBeside name (seen place one) ≡ seenBeside name (seen place other)
+  -- the same entries for a while; then a command or a decision each, which is not the other's
+  pub middle : List Entry
+  pub asked : Entry
+  pub otherwise : Entry
+  pub first-given : given asked ≡ true
+  pub second-given : given otherwise ≡ true
+  pub apart : asked ≡ otherwise → ⊥
+  pub rest : List Entry
+  pub more : List Entry
+  pub session : Session (before ++ (entry answer one ∷ (middle ++ (asked ∷ rest))))
+  pub another : Session (before ++ (entry answer other ∷ (middle ++ (otherwise ∷ more))))
