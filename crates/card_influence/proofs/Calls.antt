@@ -1,6 +1,5 @@
--- Of two calls that differ in the card's answer alone, and of whose answers the same is seen, everything is the same: the reply, the
--- command buffer, and the session that comes back, byte for byte, on whatever session they are made. So it is with any number of
--- calls: nothing that a kernel gives, then or later, depends on anything else that a card sends. 02, R-13.
+-- The kernel's step is the rulebook's `turn` beside what the state keeps of an answer, and both are settled by what is seen; the refusals look
+-- at an answer's length alone. So two calls of whose answers the same is seen give the same in everything, and any number of such calls.
 -- Assumes nothing.
 use mathlib.Core.Path.{_≡_, refl, sym, ap, ap₂, _∙_}
 use mathlib.Core.Bool.{Bool, true, false, not, _&&_}
@@ -27,15 +26,14 @@ use Rattle.kernel_refusals.specs.Refusals.{isDue, startBad, answerBad, wordLine
 use Rattle.kernel.specs.declared.Session.{Session}
 use Rattle.kernel.specs.Calls.{Called, accepted, taken, unless, call}
 use Rattle.kernel_laws.specs.Log.{Call, made}
-use Rattle.card_seen.specs.Seen.{Seen, seen}
-use Rattle.card_seen.specs.Given.{placeOf}
+use Rattle.card_seen.specs.Seen.{seen}
 use Rattle.card_seen.proofs.Turning.{settled}
-use Rattle.card_influence.specs.Calls.{OtherAnswer, CallsAlike, allGiven}
+use Rattle.card_influence.specs.Calls.{placeIn, OtherAnswer, CallsAlike, allGiven}
 use Rattle.card_influence.proofs.Keeping.{keeping-settled}
 
 module _ (s : Session) (question : Question) (due : s .state .waiting ≡ ForCard question) (a b buf : List ℕ)
     (short : length a ≤ payloadMost) (short′ : length b ≤ payloadMost)
-    (alike : seen (placeOf (askedBy question (s .state))) a ≡ seen (placeOf (askedBy question (s .state))) b) where
+    (alike : seen (placeIn s question) a ≡ seen (placeIn s question) b) where
   abbrev w : Asked
   w = askedBy question (s .state)
 
@@ -48,7 +46,8 @@ module _ (s : Session) (question : Question) (due : s .state .waiting ≡ ForCar
 
   same-length : answerBad (entry answer a) ≡ answerBad (entry answer b)
   unfolding answerBad
-  same-length = ap (λ (t : Bool). eqb answer answer && t) (le-ltb payloadMost (length a) short ∙ sym (le-ltb payloadMost (length b) short′))
+  same-length =
+      ap (λ (t : Bool). eqb answer answer && t) (le-ltb payloadMost (length a) short ∙ sym (le-ltb payloadMost (length b) short′))
 
   no-word : wordLines (s .state .waiting) a ≡ wordLines (s .state .waiting) b
   unfolding wordLines
@@ -57,7 +56,8 @@ module _ (s : Session) (question : Question) (due : s .state .waiting ≡ ForCar
   same-refusal : callRefusal (s .state .waiting) (entry answer a) buf ≡ callRefusal (s .state .waiting) (entry answer b) buf
   unfolding callRefusal refusalLines isDue startBad pick
   same-refusal =
-      one-more 1 _ _ refl (one-more 2 _ _ refl (one-more 3 _ _ refl (one-more 4 _ _ refl (one-more 5 _ _ same-length (ap firstOf no-word)))))
+      one-more 1 _ _ refl
+      (one-more 2 _ _ refl (one-more 3 _ _ refl (one-more 4 _ _ refl (one-more 5 _ _ same-length (ap firstOf no-word)))))
 
   pub same-call : call s (entry answer a) buf ≡ call s (entry answer b) buf
   unfolding call taken pick
@@ -71,7 +71,7 @@ same-made s c d (inr o) =
     ∙ (same-call s (o .question) (o .due) (o .one) (o .other) (c .buffer) (o .first-short) (o .second-short) (o .alike)
     ∙ sym (ap (made s) (o .second-call)))
 
--- any calls, on any session: all that they give, reply, command buffer and session
+-- call by call, on whatever session
 pub all-same : (s : Session) (cs ds : List Call) → CallsAlike s cs ds → allGiven s cs ≡ allGiven s ds
 unfolding CallsAlike allGiven
 all-same s [] [] h = refl

@@ -1,4 +1,5 @@
--- What a session's state keeps of an answer is settled by what is seen of it, byte for byte.
+-- What a session's state keeps of an answer is settled by what is seen of it, byte for byte: of GPO's the AIP and the AFL, of a record's the
+-- named objects, and of the others nothing. The store passes every object over that is not named.
 -- Assumes nothing.
 use mathlib.Core.Path.{_≡_, refl, sym, ap, ap₂, _∙_}
 use mathlib.Core.Bool.{Bool, true, false}
@@ -28,16 +29,13 @@ use Rattle.rulebook.specs.Phase.{Asked, selecting, optioning, reading as readin
 use Rattle.session_state.specs.Keeping.{withTold, withOptions}
 use Rattle.session_state.specs.declared.State.{State}
 use Rattle.session_answers.specs.Keeping.{keeping}
-use Rattle.card_seen.specs.Seen.{Counts, whole, Shown, shownAs, tagsOf, shown, namesAt, objectsAt, namedAt, reading, options, Seen, seen}
+use Rattle.card_seen.specs.Seen.{Counts, whole, wholly, Shown, shownAs, shown, namesAt, objectsAt, namedAt, reading, Seen, seen}
 use Rattle.card_seen.specs.Given.{placeOf}
 use Rattle.card_seen.proofs.Looking.{back, every-whole, their-names}
 use Rattle.card_seen.proofs.Options.{profileBy, locatorBy, optionsBy, profile-seen, locator-seen, options-seen}
 use Rattle.card_seen.proofs.Records.{recordBy, record-seen}
 
-abbrev table : List ℕ → List (ℕ × Counts)
-table names = map (λ (n : ℕ). (n, whole)) names
-
-as-it-is : (names : List ℕ) (m : Object) → shownAs (beside whole (m .tag) (table names)) m ≡ shownAs whole m
+as-it-is : (names : List ℕ) (m : Object) → shownAs (beside whole (m .tag) (wholly names)) m ≡ shownAs whole m
 as-it-is names m = ap (λ (c : Counts). shownAs c m) (every-whole names (m .tag))
 
 not-kept : (names : List ℕ) (m : Object) (d : List ℕ) → listed (m .tag) names ≡ false → keptTold names (m .tag) (m .value) d ≡ d
@@ -45,11 +43,12 @@ unfolding keptTold
 not-kept names m d n = pick-no _ _ _ n
 
 -- only the named objects are kept
-kept-named : (names : List ℕ) (ms : List Object) (d : List ℕ) → keptObjects names ms d ≡ keptObjects names (back (shown (table names) ms)) d
+kept-named : (names : List ℕ) (ms : List Object) (d : List ℕ)
+    → keptObjects names ms d ≡ keptObjects names (back (shown (wholly names) ms)) d
 unfolding keptObjects shown back shownAs
 kept-named names [] d = refl
 kept-named names (m ∷ ms) d =
-    let ts = shown (table names) ms in
+    let ts = shown (wholly names) ms in
     either (listed (m .tag) names)
     (λ y.
     kept-named names ms (keptTold names (m .tag) (m .value) d)
@@ -65,13 +64,14 @@ module _ (names a : List ℕ) (store : Store) where
   unfolding constructed firstByte pick
   walked = places-members (inside recordTag a) _ (members-of (inside recordTag a) (inside-list recordTag a refl))
 
-  record-kept : withRecord names a store ≡ record { bytes = keptObjects names (back (seen (reading names) a .objects)) (full (store .bytes)) }
+  record-kept : withRecord names a store
+      ≡ record { bytes = keptObjects names (back (seen (reading names) a .objects)) (full (store .bytes)) }
   unfolding withRecord keptPlaces seen namedAt namesAt objectsAt
   record-kept = ap (λ (d : List ℕ). record { bytes = d })
       (ap (λ (ms : List Object). keptObjects names ms (full (store .bytes))) walked
       ∙ kept-named names (membersIn (inside recordTag a)) (full (store .bytes)))
 
--- the state before the session goes on
+-- what the state keeps, before the session goes on
 pub keeping-settled : (w : Asked) (a b : List ℕ) → seen (placeOf w) a ≡ seen (placeOf w) b → (s : State) → keeping w a s ≡ keeping w b s
 unfolding keeping placeOf withOptions withTold
 keeping-settled (selecting z) a b e s = refl
@@ -97,7 +97,8 @@ keeping-settled (readingRecord z number file rest) a b e s =
     let reason = record-seen names a before ∙ (ap (recordBy names before) e ∙ sym (record-seen names b before)) in
     let store : withRecord names a (s .told) ≡ withRecord names b (s .told) =
     record-kept names a (s .told)
-    ∙ (ap (λ (v : Seen). record { bytes = keptObjects names (back (v .objects)) (full (s .told .bytes)) }) e ∙ sym (record-kept names b (s .told))) in
+    ∙ (ap (λ (v : Seen). record { bytes = keptObjects names (back (v .objects)) (full (s .told .bytes)) }) e
+    ∙ sym (record-kept names b (s .told))) in
     λ i. pick (eqb (reason i) 0) (withTold (store i) s) s
 keeping-settled (first z request) a b e s = refl
 keeping-settled (second z request code) a b e s = refl

@@ -1,14 +1,15 @@
--- A tape in which answers of the card are exchanged for others of which the same is seen has the same verdict, place, code and fourth
--- number, whatever the verdict is. 02, R-13.
+-- An answer that is exchanged leads the reading of a tape to the same state, so that all that follows is read alike: the verdict, which the
+-- end of the reading says, and the fourth number, which is added up on the way.
 -- Assumes nothing.
 use mathlib.Core.Path.{_≡_, refl, sym, ap, _∙_, subst}
 use mathlib.Core.Bool.{true}
 use mathlib.Core.List.{List, [], _∷_}
-use mathlib.Core.Option.{Option, some}
+use mathlib.Core.Logic.{_↔_}
+use mathlib.Core.Option.{some}
 use Prim.Native.Nat.{ℕ, _+_}
 use Rattle.tape_read.specs.Entries.{Entry, entry, answer}
-use Rattle.tape_read.specs.Tapes.{Reading, entries, readTape}
-use Rattle.rulebook.specs.Phase.{Asked, Phase, opens}
+use Rattle.tape_read.specs.Tapes.{readTape}
+use Rattle.rulebook.specs.Phase.{Asked, Phase}
 use Rattle.rulebook.specs.Turn.{turn}
 use Rattle.rulebook.specs.Session.{isPayload}
 use Rattle.rulebook.specs.Machine.{Machine, at, owes, next}
@@ -23,7 +24,7 @@ use Rattle.verdict_judged.proofs.Zeroing.{zerosIn, zeroed-found, zeroed-right, 
 use Rattle.card_seen.specs.Seen.{seen}
 use Rattle.card_seen.specs.Given.{placeOf}
 use Rattle.card_seen.proofs.Turning.{settled}
-use Rattle.card_influence.specs.Exchanged.{Exchanged, rest, kept, other}
+use Rattle.card_influence.specs.Exchanged.{Exchanged, rest, kept, other, TapesAlike}
 
 -- both answers are taken, and lead to the same state
 same-state : (w : Asked) (a b : List ℕ) → isPayload a ≡ true → isPayload b ≡ true → seen (placeOf w) a ≡ seen (placeOf w) b
@@ -56,20 +57,26 @@ same-zeros (other {w} {es} {fs} a b ok ok′ same more) =
     ∙ (ap (λ (n : ℕ). newIn (at (turn w a)) + n) (same-zeros more)
     ∙ sym (ap (countOn (zerosFrom fs)) (same-state w a b ok ok′ same)))
 
--- two tapes that read as such entries
-module _ (t u : List ℕ) (es fs : List Entry) (one : readTape t ≡ entries es) (two : readTape u ≡ entries fs)
-    (exchanged : Exchanged (at opens) es fs) where
+module _ (t u : List ℕ) (tapes : TapesAlike t u) where
   same-verdict : verdictOf t ≡ verdictOf u
   unfolding verdictOf finally
   same-verdict =
-      ap (finally begun) one ∙ (ap concluded (same-progress 0 exchanged) ∙ sym (ap (finally begun) two))
-
-  pub judged-alike : (a : Answer) → Judged t a → Judged u a
-  judged-alike a j = verdict-right u a (right-verdict t a j ∙ same-verdict)
+      ap (finally begun) (tapes .first-read)
+      ∙ (ap concluded (same-progress 0 (tapes .exchanged)) ∙ sym (ap (finally begun) (tapes .second-read)))
 
   same-number : zerosIn (readTape t) ≡ zerosIn (readTape u)
   unfolding zerosIn
-  same-number = ap zerosIn one ∙ (same-zeros exchanged ∙ sym (ap zerosIn two))
+  same-number = ap zerosIn (tapes .first-read) ∙ (same-zeros (tapes .exchanged) ∙ sym (ap zerosIn (tapes .second-read)))
 
-  pub zeroed-alike : (n : ℕ) → Zeroed t n → Zeroed u n
-  zeroed-alike n z = zeroed-right u n (zeroed-once t n (zerosIn (readTape t)) z (zeroed-found t) ∙ same-number)
+-- tapes of which the same is said are judged alike, whatever that is
+judged-on : (t u : List ℕ) → verdictOf t ≡ verdictOf u → (a : Answer) → Judged t a → Judged u a
+judged-on t u same a j = verdict-right u a (right-verdict t a j ∙ same)
+
+zeroed-on : (t u : List ℕ) → zerosIn (readTape t) ≡ zerosIn (readTape u) → (n : ℕ) → Zeroed t n → Zeroed u n
+zeroed-on t u same n z = zeroed-right u n (zeroed-once t n (zerosIn (readTape t)) z (zeroed-found t) ∙ same)
+
+pub judged-alike : (t u : List ℕ) → TapesAlike t u → (a : Answer) → Judged t a ↔ Judged u a
+judged-alike t u tapes a = (judged-on t u (same-verdict t u tapes) a, judged-on u t (sym (same-verdict t u tapes)) a)
+
+pub zeroed-alike : (t u : List ℕ) → TapesAlike t u → (n : ℕ) → Zeroed t n ↔ Zeroed u n
+zeroed-alike t u tapes n = (zeroed-on t u (same-number t u tapes) n, zeroed-on u t (sym (same-number t u tapes)) n)

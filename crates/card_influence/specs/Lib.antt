@@ -1,3 +1,4 @@
--- Calls of the kernel, and entries of a tape, in which answers of the card are exchanged for others of which the same is seen.
-pub mod Exchanged
+-- What a card can influence in the kernel's calls and in a verdict (02, R-13).
 pub mod Calls
+pub mod Exchanged
+pub mod Theorem

@@ -1,5 +1,5 @@
--- Two beginnings, finished or not, with the same words and answers of which the same is seen: the rulebook's machine stands in the same
--- state after them, and they are the same but for the card's answers. 02, R-13.
+-- Two beginnings that are given the same lead to the same state: each entry that is taken leads both on alike, an answer by what is seen of
+-- it; and a command or decision that is taken is the one that is due.
 -- Assumes nothing.
 use mathlib.Core.Path.{_≡_, refl, sym, ap, ap₂, _∙_}
 use mathlib.Core.Bool.{true}
@@ -17,7 +17,7 @@ use Rattle.rulebook.specs.Machine.{Machine, at, owes, done, due, sayable, next,
 use Rattle.rulebook.proofs.Running.{taken, chosen, due-entry, due-test}
 use Rattle.card_seen.specs.Seen.{seen}
 use Rattle.card_seen.specs.Given.{placeOf, butAnswer, butAnswers}
-use Rattle.card_seen.specs.Given.{Alongside, none, asked, answered, said-both, decided-both}
+use Rattle.card_seen.specs.SideBySide.{Alongside, none, asked, answered, said-both, decided-both}
 use Rattle.card_seen.proofs.Turning.{settled}
 use Rattle.card_seen.proofs.Sessions.{kept}
 
@@ -59,7 +59,8 @@ from es σ τ ρ e h = ap (run es) e ∙ h
 abbrev Together : List Entry → List Entry → Machine → Machine → Type 0
 Together es fs τ ρ = (τ ≡ ρ) × (butAnswers es ≡ butAnswers fs)
 
-one-more : (es fs : List Entry) {τ ρ : Machine} (e f : Entry) → butAnswer e ≡ butAnswer f → Together es fs τ ρ → Together (e ∷ es) (f ∷ fs) τ ρ
+one-more : (es fs : List Entry) {τ ρ : Machine} (e f : Entry) → butAnswer e ≡ butAnswer f → Together es fs τ ρ
+    → Together (e ∷ es) (f ∷ fs) τ ρ
 one-more es fs e f same t = (t .0, ap₂ (λ (x : Entry) (xs : List Entry). x ∷ xs) same (t .1))
 
 pub beginnings : {σ : Machine} {es fs : List Entry} → Alongside σ es fs → (τ ρ : Machine) → run es σ ≡ some τ → run fs σ ≡ some ρ
@@ -86,7 +87,8 @@ beginnings (said-both {h = x} {es} {fs} e more) τ ρ h k =
     let c = word-taken x e (t .0) (t .1 .0) in
     let d = word-taken x e (u .0) (u .1 .0) in
     one-more es fs e e refl
-    (beginnings more τ ρ (from es (at (after x (e .payload))) (t .0) τ c (t .1 .1)) (from fs (at (after x (e .payload))) (u .0) ρ d (u .1 .1)))
+    (beginnings more τ ρ (from es (at (after x (e .payload))) (t .0) τ c (t .1 .1))
+    (from fs (at (after x (e .payload))) (u .0) ρ d (u .1 .1)))
 beginnings (decided-both {outcome} {reason} {s} {es} {fs} e f more) τ ρ h k =
     let t = taken (run es) (next (at (decides outcome reason s)) e) τ h in
     let u = taken (run fs) (next (at (decides outcome reason s)) f) ρ k in

@@ -30,7 +30,7 @@ use Rattle.decide_cryptogram.specs.declared.Given.{Given}
 use Rattle.answer_cryptogram.specs.Cryptogram.{mandatoryNames, cryptogramNames, informationOf, cryptogramOf}
 use Rattle.answer_cryptogram.specs.Cryptogram.{cryptogramWrong, cryptogramLines, cryptogramReason}
 use Rattle.answer_laws.proofs.BothForms.{itself}
-use Rattle.card_seen.specs.Seen.{whole, namesAt, expectedAt, objectsAt, namedAt, generation, unlessNone, apartCryptogram, inForms}
+use Rattle.card_seen.specs.Seen.{whole, namesAt, expectedAt, objectsAt, namedAt, generation, ifLeft, apartCryptogram, inForms}
 use Rattle.card_seen.specs.Seen.{shownAs, shown, Shown, Seen, seen}
 use Rattle.card_seen.proofs.Looking.{back, under, look-named}
 use Rattle.card_seen.proofs.Frames.{frameBy, lines-seen, lines-unseen}
@@ -94,13 +94,13 @@ module _ (v : List ℕ) where
 
   -- where no bytes are left, and where some are
   none-left : eqb (length issuer) 0 ≡ true → apartCryptogram v ≡ three
-  unfolding apartCryptogram unlessNone
+  unfolding apartCryptogram ifLeft
   none-left y =
       ap (λ (ms : List Object). record { tag = 0x9F27; value = information } ∷ record { tag = 0x9F36; value = counter }
       ∷ record { tag = 0x9F26; value = cryptogram } ∷ ms) (pick-yes _ _ _ y)
 
   some-left : eqb (length issuer) 0 ≡ false → apartCryptogram v ≡ four
-  unfolding apartCryptogram unlessNone
+  unfolding apartCryptogram ifLeft
   some-left n =
       ap (λ (ms : List Object). record { tag = 0x9F27; value = information } ∷ record { tag = 0x9F36; value = counter }
       ∷ record { tag = 0x9F26; value = cryptogram } ∷ ms) (pick-no _ _ _ n)
@@ -205,7 +205,8 @@ module _ (v : List ℕ) where
   unfolding times
   joined-apart =
       either (eqb (length issuer) 0)
-      (λ y. subst (λ (ms : List Object). Apart (look ms)) (sym (none-left y)) (taken-apart (look three) absent three-look refl (none-more y)))
+      (λ y. subst (λ (ms : List Object). Apart (look ms)) (sym (none-left y))
+      (taken-apart (look three) absent three-look refl (none-more y)))
       (λ n. subst (λ (ms : List Object). Apart (look ms)) (sym (some-left n))
       (taken-apart (look four) (once issuer) four-look refl some-more))
 

@@ -25,7 +25,8 @@ module _ (p : Place) (a : List ℕ) where
   frame-seen = refl
 
   -- where the lines that follow agree
-  pub lines-seen : (x y : List (Bool × ℕ)) → firstOf x ≡ firstOf y → firstOf (frame (expectedAt p) a ++ x) ≡ firstOf (frameBy (seen p a) ++ y)
+  pub lines-seen : (x y : List (Bool × ℕ)) → firstOf x ≡ firstOf y
+      → firstOf (frame (expectedAt p) a ++ x) ≡ firstOf (frameBy (seen p a) ++ y)
   unfolding frame frameBy seen statusOf statusBad
   lines-seen x y e = one-more 1 _ _ refl (one-more 2 _ _ refl (one-more 3 x y refl e))
 

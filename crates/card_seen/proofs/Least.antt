@@ -1,4 +1,4 @@
--- Of two good answers to the same question only what the session goes on with matters.
+-- Of two good answers the reasons are both 0, so the rules go on with the same: what they take from an answer is what `usedOf` names.
 -- Assumes nothing.
 use mathlib.Core.Path.{_≡_, refl, sym, ap, _∙_}
 use mathlib.Core.List.{List, [], _∷_}
@@ -16,9 +16,9 @@ use Rattle.rulebook.specs.Situation.{Situation}
 use Rattle.rulebook.specs.Phase.{Asked, selecting, optioning, reading, first, second, Phase, asks, decided}
 use Rattle.rulebook.specs.Turn.{goesOn, selected, readOn, withProfile, optioned, withRecord, recorded, answered, byFirst, firstAnswered}
 use Rattle.rulebook.specs.Turn.{bySecond, secondAnswered, turn}
-use Rattle.card_seen.specs.Given.{reasonIn}
+use Rattle.card_seen.specs.SideBySide.{reasonIn}
 use Rattle.card_seen.specs.Used.{Used, list, options, told, gave, usedOf}
-use Rattle.card_seen.proofs.Literal.{no-reason}
+use Rattle.card_seen.proofs.SideBySide.{no-reason}
 
 -- the reasons are both 0, so the same
 good : (r q : ℕ) (s : Situation) (x y : Phase) → reasonIn (goesOn r s x) ≡ 0 → reasonIn (goesOn q s y) ≡ 0 → r ≡ q
@@ -42,7 +42,8 @@ factsOf (gave g) other = other
 same-gave : (g h : Given) → gave g ≡ gave h → g ≡ h
 same-gave g h e = cc
 
-pub least : (w : Asked) (a b : List ℕ) → usedOf w a ≡ usedOf w b → reasonIn (turn w a) ≡ 0 → reasonIn (turn w b) ≡ 0 → turn w a ≡ turn w b
+pub least : (w : Asked) (a b : List ℕ) → usedOf w a ≡ usedOf w b → reasonIn (turn w a) ≡ 0 → reasonIn (turn w b) ≡ 0
+    → turn w a ≡ turn w b
 unfolding turn usedOf selected optioned recorded firstAnswered secondAnswered withRecord factsOf
 least (selecting s) a b e one other =
     let reason = good _ _ s _ _ one other in

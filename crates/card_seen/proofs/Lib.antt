@@ -6,9 +6,10 @@ pub mod Records
 pub mod Cryptograms
 pub mod Turning
 pub mod Sessions
-pub mod Literal
+pub mod SideBySide
 pub mod Beginnings
-pub mod Freedoms
 pub mod Least
 pub mod Order
+pub mod Dressing
+pub mod Freedoms
 pub mod Theorem

@@ -52,8 +52,8 @@ module _ (table : List (ℕ × Counts)) (name : ℕ) (l : listed name (tagsOf ta
       either (listed (m .tag) (tagsOf table))
       (λ y.
       ap (λ (ts : List Shown). lookup name (back ts)) (pick-yes _ _ _ y)
-      ∙ (ap (λ (t : ℕ). pick (eqb t name) (met (seenAs m .value) (lookup name (back (shown table ms)))) (lookup name (back (shown table ms))))
-      (tag-kept (beside whole (m .tag) table) m)
+      ∙ (ap (λ (t : ℕ). pick (eqb t name) (met (seenAs m .value) (lookup name (back (shown table ms))))
+      (lookup name (back (shown table ms)))) (tag-kept (beside whole (m .tag) table) m)
       ∙ pick-cong (eqb (m .tag) name) _ _ _ _ (λ z. ap₂ met (value-kept w m z) rest) (λ n. rest)))
       (λ n.
       ap (λ (ts : List Shown). lookup name (back ts)) (pick-no _ _ _ n)
@@ -92,7 +92,8 @@ module _ (table : List (ℕ × Counts)) (name : ℕ) (l : listed name (tagsOf ta
       ∙ (rest ∙ ap times (sym (pick-no _ _ _ (other-name (m .tag) name (tagsOf table) l n)))))
 
 -- look-ups of a name that is listed find nothing but the named ones
-pub lookup-named : (names : List ℕ) (name : ℕ) → listed name names ≡ true → (ms : List Object) → lookup name (named names ms) ≡ lookup name ms
+pub lookup-named : (names : List ℕ) (name : ℕ) → listed name names ≡ true → (ms : List Object)
+    → lookup name (named names ms) ≡ lookup name ms
 unfolding named lookup
 lookup-named names name told′ [] = refl
 lookup-named names name told′ (m ∷ ms) =
@@ -121,7 +122,8 @@ only-one names v twice = sym (nothing-in names)
 
 module _ (table : List (ℕ × Counts)) (tag : ℕ) (names : List ℕ) (l : listed tag (tagsOf table) ≡ true)
     (w : beside whole tag table ≡ within names) where
-  members-kept : (m : Object) → eqb (m .tag) tag ≡ true → shownAs (beside whole (m .tag) table) m .members ≡ named names (membersIn (m .value))
+  members-kept : (m : Object) → eqb (m .tag) tag ≡ true
+      → shownAs (beside whole (m .tag) table) m .members ≡ named names (membersIn (m .value))
   unfolding shownAs
   members-kept m z = ap (λ (c : Counts). shownAs c m .members) (ap (λ (t : ℕ). beside whole t table) (eqb-true _ _ z) ∙ w)
 

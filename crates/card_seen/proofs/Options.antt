@@ -28,7 +28,7 @@ use Rattle.answer_common.proofs.Alike.{times-alike, wrong-alike}
 use Rattle.answer_common.proofs.Limits.{between-in, between-below}
 use Rattle.answer_gpo.specs.Options.{optionNames, profileOf, locatorOf, optionsWrong, optionsLines, optionsReason}
 use Rattle.answer_laws.proofs.BothForms.{itself}
-use Rattle.card_seen.specs.Seen.{whole, Place, namesAt, expectedAt, objectsAt, namedAt, options, apartOptions, inForms, shownAs, shown}
+use Rattle.card_seen.specs.Seen.{namesAt, expectedAt, objectsAt, namedAt, options, apartOptions, inForms, shownAs, shown}
 use Rattle.card_seen.specs.Seen.{Shown, Seen, seen}
 use Rattle.card_seen.proofs.Looking.{back, under, look-named}
 use Rattle.card_seen.proofs.Frames.{frameBy, lines-seen, lines-unseen}

@@ -1,4 +1,5 @@
--- The order of the named objects does not matter either: the rules ask what stands under a name, and nothing else.
+-- The rules ask what stands under a name, how often, and in A5 the same again; none asks where it stands among the others. So `turnBy` is the
+-- same for what is seen in another order.
 -- Assumes nothing.
 use mathlib.Core.Path.{_≡_, refl, sym, ap, ap₂, _∙_}
 use mathlib.Core.Bool.{Bool, true, false, not, _||_}
@@ -71,7 +72,8 @@ unfolding membersUnder standing membersOf
 members-standing name [] = refl
 members-standing name (t ∷ ts) =
     let rest = members-standing name ts in
-    ap₂ (λ (l : Lookup) (ms : List Object). pick (eqb (t .tag) name) (pick (eqb (times l) 0) (t .members) []) ms) (under-standing name ts) rest
+    ap₂ (λ (l : Lookup) (ms : List Object). pick (eqb (t .tag) name) (pick (eqb (times l) 0) (t .members) []) ms)
+    (under-standing name ts) rest
     ∙ (ap (λ (ms : List Object). pick (eqb (t .tag) name) ms (membersOf (standing name ts))) (only-members t (standing name ts))
     ∙ sym (pick-ap membersOf (eqb (t .tag) name) (beforeOthers t (standing name ts)) (standing name ts)))
 

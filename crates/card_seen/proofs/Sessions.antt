@@ -1,22 +1,19 @@
--- Whole sessions: the phases that are passed, TVR and TSI with them, every command, the decision and what each entry adds to the fourth
--- number are settled by what a session is given. So two sessions that are given the same, whatever bytes the card's answers have, are
--- the same but for these. 02, R-13.
+-- Whole sessions: phases, entries but for the card's answers, and what each entry adds to the fourth number are functions of what a session
+-- is given. Each follows a phase by what is given next, as the session itself does, but asks `turnBy` where that asks `turn`.
 -- Assumes nothing.
 use mathlib.Core.Path.{_≡_, refl, sym, ap, ap₂, _∙_}
 use mathlib.Core.List.{List, [], _∷_, map}
 use Prim.Native.Nat.{ℕ}
-use lib.Dec.{eqb}
-use lib.ListN.{length}
 use Rattle.slices.specs.Choice.{pick}
 use Rattle.slices.proofs.Choice.{pick-no}
 use Rattle.tape_read.specs.Entries.{Entry, entry, command, answer, decision}
-use Rattle.rulebook.specs.Phase.{Asked, Heard, Phase, asks, hears, decides, commandOf, dueKind, decisionOf, tvrOf, tsiOf}
+use Rattle.rulebook.specs.Phase.{Asked, Heard, Phase, asks, hears, decides, commandOf, dueKind, decisionOf}
+use Rattle.rulebook.specs.Phase.{tvrOf, tsiOf}
 use Rattle.rulebook.specs.Turn.{turn, after}
 use Rattle.rulebook.specs.Session.{Plays, exchanged, heard, decided, phasesOf}
 use Rattle.rulebook.proofs.Said.{other-kinds}
 use Rattle.rulebook_zeros.specs.Zeros.{unsuppliedIn, addedBy}
-use Rattle.card_seen.specs.Seen.{Seen, seen}
-use Rattle.card_seen.specs.Given.{placeOf, Given, said, showed, givenTo, butAnswer, butAnswers}
+use Rattle.card_seen.specs.Given.{placeOf, Given, said, showed, givenTo, butAnswer, butAnswers, Same}
 use Rattle.card_seen.proofs.Turning.{turnBy, turn-seen}
 
 -- ---- the functions
@@ -95,16 +92,8 @@ adds-by (decided same) = refl
 
 -- ---- two sessions
 
--- the same phases, and so TVR and TSI at each entry; the same entries but for what stands in the card's answers: START, words, commands and
--- decision, each at the same place; and the same added by each entry to the fourth number
-pub record Same {p : Phase} {es fs : List Entry} (one : Plays p es) (other : Plays p fs) : Type 0 where
-  pub phases : phasesOf one ≡ phasesOf other
-  pub tvr : map tvrOf (phasesOf one) ≡ map tvrOf (phasesOf other)
-  pub tsi : map tsiOf (phasesOf one) ≡ map tsiOf (phasesOf other)
-  pub entries : butAnswers es ≡ butAnswers fs
-  pub zeros : addedBy one ≡ addedBy other
-
-pub given-same : {p : Phase} {es fs : List Entry} (one : Plays p es) (other : Plays p fs) → givenTo one ≡ givenTo other → Same one other
+pub given-same : {p : Phase} {es fs : List Entry} (one : Plays p es) (other : Plays p fs) → givenTo one ≡ givenTo other
+    → Same one other
 given-same {p = p} one other e =
     let phases = phases-by one ∙ (ap (λ (gs : List Given). phasesBy gs p) e ∙ sym (phases-by other)) in
     record {

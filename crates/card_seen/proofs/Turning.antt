@@ -1,5 +1,5 @@
--- How a session goes on after an answer is settled by what is seen of it: there is one function of that, and of nothing else of the answer,
--- which gives the next phase, whatever bytes a card sends. So two answers of which the same is seen lead to the same phase. 02, R-13.
+-- `turnBy` is the transition over what is seen: each part of `turn`, reason and what is gone on with, is read from what is seen by the file of
+-- its place (Selection, Options, Records, Cryptograms). So where the same is seen the session goes on alike.
 -- Assumes nothing.
 use mathlib.Core.Path.{_≡_, refl, sym, ap, ap₂, _∙_}
 use mathlib.Core.List.{List, [], _∷_}

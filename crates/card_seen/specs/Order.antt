@@ -1,5 +1,5 @@
--- Answers that show the same in another order: under each name stands the same, none, one, or more than one. 02, R-13, asks for the same
--- order; that a session goes on alike without it is proved (proofs/Order).
+-- Answers that show the same in another order: under each name stands the same, whether none, one, or more than one. 02, R-13, asks for the
+-- same order; that a session goes on alike without it is proved (`any-order` of Theorem).
 -- Assumes nothing.
 use mathlib.Core.Path.{_≡_}
 use mathlib.Core.List.{List, [], _∷_}
@@ -19,6 +19,7 @@ beforeOthers t nowhere = alone t
 beforeOthers t (alone u) = repeated
 beforeOthers t repeated = repeated
 
+-- what stands under a name
 unfoldable pub standing : ℕ → List Shown → Standing
 standing name [] = nowhere
 standing name (t ∷ ts) = pick (eqb (t .tag) name) (beforeOthers t (standing name ts)) (standing name ts)

@@ -1,18 +1,16 @@
--- What is seen of a card's answer: whether its size is right, its two status bytes, whether its data is the one object that is expected,
--- and in that the objects that are named at the place, in their order, each with its value. Of an answer with joined values these are the
--- objects, in the order in which they are joined. Everything else is not seen: objects that are not named, '00' bytes, length forms.
--- 01, "What the card must answer"; 02, R-13. That a session depends on nothing else of an answer is proved (proofs/Turning).
+-- What is seen of a card's answer, by what was asked (02, R-13): whether its size is wrong, its two status bytes, whether its data is not
+-- the one object that is expected, and the objects that are named there, in their order, each with its value. Not seen are objects that
+-- are not named, '00' bytes, length forms, and how long an answer of a right size is. That a session depends on nothing else of an answer
+-- is proved (`through` of Theorem). 01, "What the card must answer".
 -- Assumes nothing.
-use mathlib.Core.Path.{_≡_}
-use mathlib.Core.Bool.{Bool, true}
-use mathlib.Core.List.{List, [], _∷_, _++_, map}
+use mathlib.Core.Bool.{Bool}
+use mathlib.Core.List.{List, [], _∷_, map}
 use Prim.Native.Nat.{ℕ, _-_}
 use lib.Dec.{eqb}
 use lib.ListN.{length, getD, take, drop}
 use Rattle.slices.specs.Choice.{pick}
 use Rattle.slices.specs.Tables.{beside}
-use Rattle.tlv_list.specs.Objects.{Object, isList}
-use Rattle.tlv_list.specs.Place.{dataField}
+use Rattle.tlv_list.specs.Objects.{Object}
 use Rattle.answer_common.specs.Answer.{sizeBad, outerBad, isOne, inside}
 use Rattle.answer_common.specs.Content.{recordTag}
 use Rattle.answer_common.specs.Named.{membersIn, listed, named}
@@ -23,26 +21,27 @@ use Rattle.answer_cryptogram.specs.Cryptogram.{cryptogramNames}
 
 -- ---- what is named where
 
--- what counts of a named object: its whole value, or only the objects that are named directly in it
+-- what counts of a named object: its value byte for byte, or only the objects that are named directly in it
 pub data Counts : Type 0 where
   whole : Counts
   within : List ℕ → Counts
 
--- what was asked: an answer is looked at by what it answers
+-- where an answer stands: after what was asked
 pub data Place : Type 0 where
   -- SELECT
   selection : Place
   -- GPO
   options : Place
-  -- READ RECORD, with the names that count for the terminal
+  -- READ RECORD, with the names that count for the terminal: 8E and 9F42 only where START has capabilities
   reading : List ℕ → Place
-  -- GENERATE AC
+  -- GENERATE AC, the first and the second
   generation : Place
 
-abbrev wholly : List ℕ → List (ℕ × Counts)
+abbrev pub wholly : List ℕ → List (ℕ × Counts)
 wholly names = map (λ name. (name, whole)) names
 
--- the named objects of each place, each with what counts of it
+-- the names of each place, each with what counts of it. They are the rules' own lists: a tag that records name later is seen without a
+-- line here
 unfoldable pub namesAt : Place → List (ℕ × Counts)
 namesAt selection = (0x84, whole) ∷ (0xA5, within innerNames) ∷ []
 namesAt options = wholly optionNames
@@ -58,26 +57,26 @@ expectedAt generation = bothForms
 
 -- ---- the objects of an answer
 
-abbrev object : ℕ → List ℕ → Object
+abbrev pub object : ℕ → List ℕ → Object
 object tag v = record { tag = tag; value = v }
 
--- joined values as the objects that they stand for: 82 and 94
+-- joined values (80) are seen as the objects that they stand for, in the order in which they are joined. GPO: 82 is two bytes, 94 the rest
 unfoldable pub apartOptions : List ℕ → List Object
 apartOptions v = object 0x82 (take 2 v) ∷ object 0x94 (drop 2 v) ∷ []
 
--- an object, where it has a value
-unfoldable pub unlessNone : ℕ → List ℕ → List Object
-unlessNone tag v = pick (eqb (length v) 0) [] (object tag v ∷ [])
+-- an object, unless no byte is left for its value
+unfoldable pub ifLeft : ℕ → List ℕ → List Object
+ifLeft tag v = pick (eqb (length v) 0) [] (object tag v ∷ [])
 
--- 9F27, 9F36, 9F26 and, where bytes are left, 9F10
+-- GENERATE AC: 9F27 is one byte, 9F36 two, 9F26 eight, 9F10 the rest
 unfoldable pub apartCryptogram : List ℕ → List Object
 apartCryptogram v =
     object 0x9F27 (take 1 v)
     ∷ object 0x9F36 (take 2 (drop 1 v))
     ∷ object 0x9F26 (take 8 (drop 3 v))
-    ∷ unlessNone 0x9F10 (drop 11 v)
+    ∷ ifLeft 0x9F10 (drop 11 v)
 
--- in either form
+-- of an answer in either form: joined, or a template
 unfoldable pub inForms : (List ℕ → List Object) → List ℕ → List Object
 inForms apart a = pick (isOne joined a) (apart (inside joined a)) (membersIn (inside template a))
 
@@ -90,7 +89,7 @@ objectsAt generation a = inForms apartCryptogram a
 
 -- ---- what is seen of them
 
--- a named object: its value, where the whole of it counts; else the objects that are named in it, in their order
+-- a named object: its value where that counts byte for byte, else the objects that are named in it, in their order
 pub record Shown : Type 0 where
   pub tag : ℕ
   pub value : List ℕ
@@ -103,7 +102,7 @@ shownAs (within names) m = record { tag = m .tag; value = []; members = named na
 abbrev pub tagsOf : List (ℕ × Counts) → List ℕ
 tagsOf table = map (λ row. row .0) table
 
--- those of some objects that are named, in their order
+-- those of some objects that are named, in their order; one that stands there twice is seen twice
 unfoldable pub shown : List (ℕ × Counts) → List Object → List Shown
 shown table [] = []
 shown table (m ∷ ms) =
@@ -112,7 +111,7 @@ shown table (m ∷ ms) =
 unfoldable pub namedAt : Place → List ℕ → List Shown
 namedAt p a = shown (namesAt p) (objectsAt p a)
 
--- the last two bytes
+-- the last two bytes; a byte that is not there reads as 0
 unfoldable pub statusOf : List ℕ → List ℕ
 statusOf a = getD a (length a - 2) 0 ∷ getD a (length a - 1) 0 ∷ []
 
@@ -131,12 +130,3 @@ seen p a = record {
   form-wrong = outerBad (expectedAt p) a;
   objects = namedAt p a;
 }
-
--- ---- 02, R-13, word for word
-
--- two answers at a place: the same status bytes, both well-formed lists, the same named objects with equal values in the same order
-pub record Alike (p : Place) (a b : List ℕ) : Type 0 where
-  pub status : statusOf a ≡ statusOf b
-  pub first-list : isList (dataField a) ≡ true
-  pub second-list : isList (dataField b) ≡ true
-  pub objects : namedAt p a ≡ namedAt p b

@@ -1,8 +1,8 @@
--- What of a good answer a session goes on with: of SELECT's the list 9F38; of GPO's the AIP and which records the AFL names; of a record's
--- the values of the objects that count; of GENERATE AC's the two bits of 9F27. 02, R-13. That nothing else of a good answer matters is
--- proved (proofs/Least): not 84, not the AFL's fourth bytes, not counter, cryptogram and issuer data.
+-- What a session goes on with of a good answer: of SELECT's the list 9F38; of GPO's the AIP and which records the AFL names; of a record's
+-- the values of the objects that count; of GENERATE AC's which cryptogram it is, by two bits of 9F27. 02, R-13. That nothing else of a
+-- good answer matters is proved (`good` of Theorem): not 84, not the AFL's fourth bytes, not counter, cryptogram and issuer data.
 -- Assumes nothing.
-use mathlib.Core.List.{List, []}
+use mathlib.Core.List.{List}
 use Prim.Native.Nat.{ℕ}
 use Rattle.answer_common.specs.Content.{namesFor}
 use Rattle.answer_afl.specs.Entries.{toRead}
@@ -16,6 +16,7 @@ use Rattle.rulebook.specs.Phase.{Asked, selecting, optioning, reading, first, s
 
 pub data Used : Type 0 where
   list : List ℕ → Used
+  -- the AIP, and each record by its number and file
   options : List ℕ → List (ℕ × ℕ) → Used
   told : Facts → Used
   gave : Given → Used

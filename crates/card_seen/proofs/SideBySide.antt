@@ -1,5 +1,5 @@
--- 02, R-13, as it is written: two sessions with the same words whose answers are alike place by place, none of which ends a session with a
--- reason, have the same commands, TVR, TSI and decision.
+-- 02's own sentence follows from what is seen: an answer that leads to no reason has a right size and is the one expected object, so of two
+-- such answers that are alike the same is seen, and the sessions are given the same.
 -- Assumes nothing.
 use mathlib.Core.Path.{_≡_, refl, sym, ap, ap₂, _∙_, subst}
 use mathlib.Core.Bool.{Bool, true, false}
@@ -19,14 +19,15 @@ use Rattle.answer_gpo.specs.Options.{optionsReason}
 use Rattle.answer_record.specs.Records.{recordReason}
 use Rattle.answer_cryptogram.specs.Cryptogram.{cryptogramReason}
 use Rattle.rulebook.specs.Situation.{Situation}
-use Rattle.rulebook.specs.Phase.{Asked, selecting, optioning, reading as readingRecord, first, second, Heard, Phase, opens, asks, hears, decides}
-use Rattle.rulebook.specs.Phase.{ended}
+use Rattle.rulebook.specs.Phase.{Asked, selecting, optioning, reading as readingRecord, first, second}
+use Rattle.rulebook.specs.Phase.{Heard, Phase, opens, asks, hears, ended}
 use Rattle.rulebook.specs.Turn.{goesOn, selected, optioned, recorded, firstAnswered, secondAnswered, turn, after}
 use Rattle.rulebook.specs.Session.{Plays, exchanged, heard, decided, Session}
-use Rattle.card_seen.specs.Seen.{Place, expectedAt, selection, options, reading, generation, namedAt, statusOf, Seen, seen, Alike}
-use Rattle.card_seen.specs.Given.{placeOf, Given, said, showed, givenTo, reasonIn, Beside}
+use Rattle.card_seen.specs.Seen.{Place, expectedAt, selection, options, reading, generation, Seen, seen}
+use Rattle.card_seen.specs.Given.{placeOf, Given, said, showed, givenTo, Same}
+use Rattle.card_seen.specs.SideBySide.{Alike, reasonIn, SideBySide}
 use Rattle.card_seen.proofs.Turning.{settled}
-use Rattle.card_seen.proofs.Sessions.{Same, given-same}
+use Rattle.card_seen.proofs.Sessions.{given-same}
 
 -- ---- an answer that does not end a session has a right size, and is the one expected object
 
@@ -47,7 +48,8 @@ no-reason reason s next e =
     either (eqb reason 0) (λ y. eqb-true reason 0 y) (λ n. ap reasonIn (sym (pick-no _ _ _ n)) ∙ e)
 
 clear : (w : Asked) (a : List ℕ) → reasonIn (turn w a) ≡ 0 → Clear (placeOf w) a
-unfolding turn selected optioned recorded firstAnswered secondAnswered placeOf selectReason optionsReason recordReason cryptogramReason expectedAt
+unfolding turn selected optioned recorded firstAnswered secondAnswered placeOf expectedAt selectReason optionsReason recordReason
+    cryptogramReason
 clear (selecting s) a e = frame-clear selection a _ (no-reason _ s _ e)
 clear (optioning s list) a e = frame-clear options a _ (no-reason _ s _ e)
 clear (readingRecord s number file rest) a e = frame-clear (reading (namesFor (s .terminal))) a _ (no-reason _ s _ e)
@@ -81,27 +83,27 @@ same-word h i e = cc
 impossible : {A : Type 0} (p q : Phase) → p ≡ q → (p ≡ q → _≡_ {A = ℕ} 0 1) → A
 impossible p q e f = absurd (let z = f e in omega arith)
 
-pub besides : {p q : Phase} {es fs : List Entry} (one : Plays p es) (other : Plays q fs) → p ≡ q → Beside one other
+same-given : {p q : Phase} {es fs : List Entry} (one : Plays p es) (other : Plays q fs) → p ≡ q → SideBySide one other
     → givenTo one ≡ givenTo other
-unfolding Beside givenTo
-besides (exchanged {w} {c} {a} f ok play) (exchanged {w = v} {c = d} {a = b} g ok′ more) e side =
+unfolding SideBySide givenTo
+same-given (exchanged {w} {c} {a} f ok play) (exchanged {w = v} {c = d} {a = b} g ok′ more) e side =
     let same = same-question w v e in
     let late : reasonIn (turn w b) ≡ 0 = ap (λ (x : Asked). reasonIn (turn x b)) same ∙ side .2 in
     let view = alike-seen (placeOf w) a b (side .0) (clear w a (side .1)) (clear w b late) in
     ap₂ (λ (x : Seen) (gs : List Given). showed x ∷ gs) (view ∙ ap (λ (x : Asked). seen (placeOf x) b) same)
-    (besides play more (settled w a b view ∙ ap (λ (x : Asked). turn x b) same) (side .3))
-besides (exchanged f ok play) (heard g fits ok′ more) e side = absurd side
-besides (exchanged f ok play) (decided g) e side = absurd side
-besides (heard f fits ok play) (exchanged g ok′ more) e side = absurd side
-besides (heard {h} {k} {p} f fits ok play) (heard {h = i} {k = j} {p = q} g fits′ ok′ more) e side =
+    (same-given play more (settled w a b view ∙ ap (λ (x : Asked). turn x b) same) (side .3))
+same-given (exchanged f ok play) (heard g fits ok′ more) e side = absurd side
+same-given (exchanged f ok play) (decided g) e side = absurd side
+same-given (heard f fits ok play) (exchanged g ok′ more) e side = absurd side
+same-given (heard {h} {k} {p} f fits ok play) (heard {h = i} {k = j} {p = q} g fits′ ok′ more) e side =
     let same = same-word h i e in
     ap₂ (λ (x : List ℕ) (gs : List Given). said x ∷ gs) (side .0)
-    (besides play more (λ j. after (same j) (side .0 j)) (side .1))
-besides (heard f fits ok play) (decided g) e side = absurd side
-besides (decided f) (exchanged g ok′ more) e side = absurd side
-besides (decided f) (heard g fits ok′ more) e side = absurd side
-besides (decided f) (decided g) e side = refl
+    (same-given play more (λ j. after (same j) (side .0 j)) (side .1))
+same-given (heard f fits ok play) (decided g) e side = absurd side
+same-given (decided f) (exchanged g ok′ more) e side = absurd side
+same-given (decided f) (heard g fits ok′ more) e side = absurd side
+same-given (decided f) (decided g) e side = refl
 
--- two sessions that lie side by side are the same but for the card's answers
-pub influence : (es fs : List Entry) (one : Plays opens es) (other : Plays opens fs) → Beside one other → Same one other
-influence es fs one other side = given-same one other (besides one other refl side)
+-- 02, R-13
+pub as-written : (es fs : List Entry) (one : Plays opens es) (other : Plays opens fs) → SideBySide one other → Same one other
+as-written es fs one other side = given-same one other (same-given one other refl side)
