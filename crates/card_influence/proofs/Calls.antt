@@ -1,26 +1,25 @@
--- The kernel's step is the rulebook's `turn` beside what the state keeps of an answer, and both are settled by what is seen; the refusals look
--- at an answer's length alone. So two calls of whose answers the same is seen give the same in everything, and any number of such calls.
+-- The kernel's step is the rulebook's `turn` beside what the state keeps of an answer, and both are settled by what is seen; the
+-- refusals look at an answer's length alone. So two calls of whose answers the same is seen give the same in everything, and any number
+-- of such calls.
 -- Assumes nothing.
 use mathlib.Core.Path.{_≡_, refl, sym, ap, ap₂, _∙_}
-use mathlib.Core.Bool.{Bool, true, false, not, _&&_}
-use mathlib.Core.List.{List, [], _∷_, _++_}
+use mathlib.Core.Bool.{Bool, _&&_}
+use mathlib.Core.List.{List, [], _∷_}
 use mathlib.Core.Logic.{_⊎_, inl, inr}
 use Prim.Native.Nat.{ℕ, _≤_}
-use lib.Dec.{eqb, ltb}
+use lib.Dec.{eqb}
 use lib.ListN.{length}
 use borrow.Author.Tests.{le-ltb}
 use Rattle.slices.specs.Choice.{pick, firstOf}
 use Rattle.slices.proofs.Lines.{one-more}
-use Rattle.tape_read.specs.Entries.{Entry, entry, answer, payloadMost}
+use Rattle.tape_read.specs.Entries.{entry, answer, payloadMost}
 use Rattle.rulebook.specs.Phase.{Asked, Phase}
-use Rattle.rulebook.specs.Turn.{turn}
 use Rattle.session_phase.specs.declared.Question.{Question}
 use Rattle.session_phase.specs.declared.Waiting.{Waiting}
 use Rattle.session_phase.specs.declared.Waiting.the-variants.{ForCard}
 use Rattle.session_state.specs.Reading.{askedBy}
 use Rattle.session_state.specs.declared.State.{State}
-use Rattle.session_moves.specs.Moves.{Moved, moved}
-use Rattle.session_answers.specs.Keeping.{keeping}
+use Rattle.session_moves.specs.Moves.{moved}
 use Rattle.session_events.specs.Events.{answerStep, stepAt, step}
 use Rattle.kernel_refusals.specs.Refusals.{isDue, startBad, answerBad, wordLines, refusalLines, callRefusal}
 use Rattle.kernel.specs.declared.Session.{Session}

@@ -1,10 +1,9 @@
--- What a session's state keeps of an answer is settled by what is seen of it, byte for byte: of GPO's the AIP and the AFL, of a record's the
--- named objects, and of the others nothing. The store passes every object over that is not named.
+-- What a session's state keeps of an answer is settled by what is seen of it, byte for byte: of GPO's the AIP and the AFL, of a record's
+-- the named objects, and of the others nothing. The store passes every object over that is not named.
 -- Assumes nothing.
-use mathlib.Core.Path.{_≡_, refl, sym, ap, ap₂, _∙_}
-use mathlib.Core.Bool.{Bool, true, false}
+use mathlib.Core.Path.{_≡_, refl, sym, ap, _∙_}
+use mathlib.Core.Bool.{Bool, false}
 use mathlib.Core.List.{List, [], _∷_, map}
-use mathlib.Core.Option.{Option, some, Option·getD}
 use Prim.Native.Nat.{ℕ}
 use lib.Dec.{eqb}
 use Rattle.slices.specs.Choice.{pick}
@@ -12,18 +11,16 @@ use Rattle.slices.specs.Tables.{beside}
 use Rattle.slices.specs.Tests.{isSome}
 use Rattle.slices.proofs.Choice.{pick-yes, pick-no, either}
 use Rattle.tlv_head.specs.Head.{constructed, firstByte}
-use Rattle.tlv_list.specs.Objects.{Object, objects, isList}
-use Rattle.tlv_list.specs.Place.{Place, objectAt, placesFrom}
+use Rattle.tlv_list.specs.Objects.{Object, objects}
+use Rattle.tlv_list.specs.Place.{objectAt, placesFrom}
 use Rattle.tlv_list.proofs.Walking.{places-members}
 use Rattle.answer_common.specs.Answer.{inside}
 use Rattle.answer_common.specs.Content.{recordTag, namesFor}
 use Rattle.answer_common.specs.Named.{membersIn, listed}
 use Rattle.answer_common.proofs.Members.{members-of, inside-list}
-use Rattle.answer_gpo.specs.Options.{optionsReason, profileOf, locatorOf}
-use Rattle.answer_record.specs.Records.{recordReason}
 use Rattle.answer_afl.specs.Cursor.{start}
 use Rattle.session_records.specs.Runs.{fixed, keptRun}
-use Rattle.session_records.specs.Slots.{keptIn, keptTold, keptObjects, keptPlaces, full, withRecord}
+use Rattle.session_records.specs.Slots.{keptTold, keptObjects, keptPlaces, full, withRecord}
 use Rattle.session_records.specs.declared.Store.{Store}
 use Rattle.rulebook.specs.Phase.{Asked, selecting, optioning, reading as readingRecord, first, second}
 use Rattle.session_state.specs.Keeping.{withTold, withOptions}

@@ -1,9 +1,9 @@
 -- An answer that is exchanged leads the reading of a tape to the same state, so that all that follows is read alike: the verdict, which the
 -- end of the reading says, and the fourth number, which is added up on the way.
 -- Assumes nothing.
-use mathlib.Core.Path.{_≡_, refl, sym, ap, _∙_, subst}
+use mathlib.Core.Path.{_≡_, refl, sym, ap, _∙_}
 use mathlib.Core.Bool.{true}
-use mathlib.Core.List.{List, [], _∷_}
+use mathlib.Core.List.{List}
 use mathlib.Core.Logic.{_↔_}
 use mathlib.Core.Option.{some}
 use Prim.Native.Nat.{ℕ, _+_}
@@ -14,11 +14,11 @@ use Rattle.rulebook.specs.Turn.{turn}
 use Rattle.rulebook.specs.Session.{isPayload}
 use Rattle.rulebook.specs.Machine.{Machine, at, owes, next}
 use Rattle.rulebook.proofs.Running.{takes-answer}
-use Rattle.rulebook_zeros.specs.Summing.{newIn, countOn, zerosFrom, zerosOf}
+use Rattle.rulebook_zeros.specs.Summing.{newIn, countOn, zerosFrom}
 use Rattle.verdict.specs.declared.Answer.{Answer}
 use Rattle.verdict_judged.specs.Judged.{Judged}
 use Rattle.verdict_judged.specs.Zeroed.{Zeroed}
-use Rattle.verdict_judged.specs.Progress.{Progress, reached, begun, onward, reads, readsAll, progressOf, concluded, finally, verdictOf}
+use Rattle.verdict_judged.specs.Progress.{Progress, reached, begun, onward, reads, readsAll, concluded, finally, verdictOf}
 use Rattle.verdict_judged.proofs.Meaning.{verdict-right, right-verdict}
 use Rattle.verdict_judged.proofs.Zeroing.{zerosIn, zeroed-found, zeroed-right, zeroed-once}
 use Rattle.card_seen.specs.Seen.{seen}

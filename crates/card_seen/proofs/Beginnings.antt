@@ -2,21 +2,19 @@
 -- it; and a command or decision that is taken is the one that is due.
 -- Assumes nothing.
 use mathlib.Core.Path.{_≡_, refl, sym, ap, ap₂, _∙_}
-use mathlib.Core.Bool.{true}
 use mathlib.Core.List.{List, [], _∷_}
-use mathlib.Core.Option.{Option, some}
+use mathlib.Core.Option.{some}
 use Prim.Native.Nat.{ℕ}
 use Rattle.slices.specs.Tests.{alike}
 use Rattle.slices.proofs.Comparing.{alike-same}
 use Rattle.tape_read.specs.Entries.{Entry, entry, command, answer, decision}
 use Rattle.rulebook.specs.Situation.{Situation}
-use Rattle.rulebook.specs.Phase.{Asked, Heard, Phase, asks, hears, decides, commandOf, dueKind, decisionOf}
+use Rattle.rulebook.specs.Phase.{Asked, Heard, asks, hears, decides, commandOf, dueKind, decisionOf}
 use Rattle.rulebook.specs.Turn.{turn, after}
 use Rattle.rulebook.specs.Session.{isPayload}
-use Rattle.rulebook.specs.Machine.{Machine, at, owes, done, due, sayable, next, andOn, run}
+use Rattle.rulebook.specs.Machine.{Machine, at, owes, done, due, sayable, next, run}
 use Rattle.rulebook.proofs.Running.{taken, chosen, due-entry, due-test}
-use Rattle.card_seen.specs.Seen.{seen}
-use Rattle.card_seen.specs.Given.{placeOf, butAnswer, butAnswers}
+use Rattle.card_seen.specs.Given.{butAnswer, butAnswers}
 use Rattle.card_seen.specs.SideBySide.{Alongside, none, asked, answered, said-both, decided-both}
 use Rattle.card_seen.proofs.Turning.{settled}
 use Rattle.card_seen.proofs.Sessions.{kept}

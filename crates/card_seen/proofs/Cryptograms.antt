@@ -1,13 +1,13 @@
 -- The answer to GENERATE AC, in both forms: its reason and its cryptogram, from what is seen of it.
 -- Assumes nothing.
 use mathlib.Core.Path.{_≡_, refl, sym, ap, ap₂, _∙_, subst}
-use mathlib.Core.Bool.{Bool, true, false, not, _&&_, _||_, or-false}
-use mathlib.Core.List.{List, [], _∷_, _++_, map}
+use mathlib.Core.Bool.{Bool, true, false, not, _||_, or-false}
+use mathlib.Core.List.{List, [], _∷_, _++_}
 use Prim.Native.Nat.{ℕ, _≤_, _<_, _-_, _+_}
 use native.Mathlib.Omega.{arith}
 use lib.Dec.{eqb, ltb}
 use lib.ListN.{length, getD, take, drop, length-take, length-drop}
-use borrow.Author.Tests.{ltb-true, ltb-false, eqb-true, eqb-false}
+use borrow.Author.Tests.{ltb-true, ltb-false, eqb-true}
 use Rattle.slices.specs.Choice.{pick, firstOf}
 use Rattle.slices.specs.Tables.{anyOf, beside}
 use Rattle.slices.specs.Tests.{between}
@@ -15,7 +15,7 @@ use Rattle.slices.proofs.Choice.{pick-yes, pick-no, either}
 use Rattle.slices.proofs.Tables.{or-no, and-yes, and-no}
 use Rattle.slices.proofs.Lines.{one-more}
 use Rattle.tlv_list.specs.Objects.{Object}
-use Rattle.tlv_list.specs.Lookup.{Lookup, absent, once, twice, met, lookup}
+use Rattle.tlv_list.specs.Lookup.{Lookup, absent, once, met, lookup}
 use Rattle.answer_common.specs.Answer.{isOne, inside, outerBad}
 use Rattle.answer_common.specs.Content.{meets, rules, ruleFor, rightValue}
 use Rattle.answer_common.specs.Named.{membersIn, listed, among, direct, times, told, valueOf, wrongValue}
@@ -30,7 +30,7 @@ use Rattle.decide_cryptogram.specs.declared.Given.{Given}
 use Rattle.answer_cryptogram.specs.Cryptogram.{mandatoryNames, cryptogramNames, informationOf, cryptogramOf}
 use Rattle.answer_cryptogram.specs.Cryptogram.{cryptogramWrong, cryptogramLines, cryptogramReason}
 use Rattle.answer_laws.proofs.BothForms.{itself}
-use Rattle.card_seen.specs.Seen.{whole, namesAt, expectedAt, objectsAt, namedAt, generation, ifLeft, apartCryptogram, inForms}
+use Rattle.card_seen.specs.Seen.{namesAt, expectedAt, objectsAt, namedAt, generation, ifLeft, apartCryptogram, inForms}
 use Rattle.card_seen.specs.Seen.{shownAs, shown, Shown, Seen, seen}
 use Rattle.card_seen.proofs.Looking.{back, under, look-named}
 use Rattle.card_seen.proofs.Frames.{frameBy, lines-seen, lines-unseen}

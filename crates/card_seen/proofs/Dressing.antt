@@ -1,8 +1,8 @@
 -- What stands among the members of an object is read member by member, so what is seen of them does not depend on '00' bytes between them,
 -- on objects that are not named, or on length forms; nor does what is seen of an answer depend on how its one object is written.
 -- Assumes nothing.
-use mathlib.Core.Path.{_≡_, refl, sym, ap, ap₂, _∙_}
-use mathlib.Core.Bool.{Bool, true, false, not, false≢true}
+use mathlib.Core.Path.{_≡_, refl, sym, ap, _∙_}
+use mathlib.Core.Bool.{true, false, not, false≢true}
 use mathlib.Core.List.{List, [], _∷_, _++_}
 use mathlib.Core.Option.{Option, some, Option·getD}
 use Prim.Native.Nat.{ℕ}

@@ -1,15 +1,15 @@
 -- The lines that every answer is asked first, from what is seen of it: size, status, and the one object.
 -- Assumes nothing.
-use mathlib.Core.Path.{_≡_, refl, sym, ap, ap₂, _∙_}
-use mathlib.Core.Bool.{Bool, true, false, not, _||_}
+use mathlib.Core.Path.{_≡_, refl, sym, _∙_}
+use mathlib.Core.Bool.{Bool, true, not, _||_}
 use mathlib.Core.List.{List, [], _∷_, _++_}
 use Prim.Native.Nat.{ℕ}
 use lib.Dec.{eqb}
 use lib.ListN.{getD}
-use Rattle.slices.specs.Choice.{pick, firstOf}
-use Rattle.slices.proofs.Choice.{pick-yes, pick-no}
+use Rattle.slices.specs.Choice.{firstOf}
+use Rattle.slices.proofs.Choice.{pick-yes}
 use Rattle.slices.proofs.Lines.{one-more}
-use Rattle.answer_common.specs.Answer.{sizeBad, statusBad, outerBad, frame}
+use Rattle.answer_common.specs.Answer.{statusBad, outerBad, frame}
 use Rattle.card_seen.specs.Seen.{Place, expectedAt, statusOf, Seen, seen}
 
 unfoldable pub frameBy : Seen → List (Bool × ℕ)

@@ -1,15 +1,10 @@
 -- Of two good answers the reasons are both 0, so the rules go on with the same: what they take from an answer is what `usedOf` names.
 -- Assumes nothing.
-use mathlib.Core.Path.{_≡_, refl, sym, ap, _∙_}
-use mathlib.Core.List.{List, [], _∷_}
+use mathlib.Core.Path.{_≡_, sym, ap, _∙_}
+use mathlib.Core.List.{List}
 use Prim.Native.Nat.{ℕ}
-use Rattle.slices.specs.Tests.{isSome}
 use Rattle.answer_common.specs.Content.{namesFor}
-use Rattle.answer_afl.specs.Entries.{toRead}
-use Rattle.answer_select.specs.Select.{selectReason, pdolOf}
-use Rattle.answer_gpo.specs.Options.{optionsReason, profileOf, locatorOf}
-use Rattle.answer_record.specs.Records.{recordReason, namedIn}
-use Rattle.answer_cryptogram.specs.Cryptogram.{cryptogramReason, cryptogramOf}
+use Rattle.answer_record.specs.Records.{namedIn}
 use Rattle.decide_cryptogram.specs.declared.Given.{Given}
 use Rattle.session_records.specs.Slots.{Facts, orElse}
 use Rattle.rulebook.specs.Situation.{Situation}

@@ -2,16 +2,16 @@
 -- and, where only the objects named in it count, what stands in the one that has the name.
 -- Assumes nothing.
 use mathlib.Core.Path.{_≡_, refl, sym, ap, ap₂, _∙_}
-use mathlib.Core.Bool.{Bool, true, false, false≢true}
-use mathlib.Core.List.{List, [], _∷_, _++_, map}
-use mathlib.Core.Option.{Option, none, some, Option·getD}
+use mathlib.Core.Bool.{true, false, false≢true}
+use mathlib.Core.List.{List, [], _∷_, map}
+use mathlib.Core.Option.{Option, Option·getD}
 use Prim.Native.Nat.{ℕ, zero, suc}
 use lib.Dec.{eqb}
-use borrow.Author.Tests.{eqb-true, eq-eqb}
+use borrow.Author.Tests.{eqb-true}
 use Rattle.slices.specs.Choice.{pick}
-use Rattle.slices.specs.Tables.{anyOf, beside}
+use Rattle.slices.specs.Tables.{beside}
 use Rattle.slices.proofs.Choice.{pick-yes, pick-no, pick-same, pick-ap, pick-cong, either}
-use Rattle.tlv_list.specs.Objects.{Object, objects}
+use Rattle.tlv_list.specs.Objects.{Object}
 use Rattle.tlv_list.specs.Lookup.{Lookup, absent, once, twice, met, lookup}
 use Rattle.tlv_list.proofs.Objects.{objects-empty}
 use Rattle.answer_common.specs.Named.{membersIn, listed, named, times, told, valueOf}

@@ -1,28 +1,27 @@
 -- The answer to GPO, in both forms: its reason, the AIP and the AFL, from what is seen of it.
 -- Assumes nothing.
 use mathlib.Core.Path.{_≡_, refl, sym, ap, ap₂, _∙_}
-use mathlib.Core.Bool.{Bool, true, false, not, _&&_, _||_, or-false}
-use mathlib.Core.List.{List, [], _∷_, _++_, map}
+use mathlib.Core.Bool.{Bool, true, false, not, _||_, or-false}
+use mathlib.Core.List.{List, [], _∷_, _++_}
 use Prim.Native.Nat.{ℕ, _≤_, _<_, _-_}
 use native.Mathlib.Omega.{arith}
-use lib.Dec.{eqb, leb, ltb}
+use lib.Dec.{eqb, ltb}
 use lib.ListN.{length, take, drop, length-take, length-drop}
 use borrow.Author.Tests.{ltb-true, ltb-false, lt-leb}
 use Rattle.slices.specs.Choice.{pick, firstOf}
 use Rattle.slices.specs.Tables.{anyOf, beside}
-use Rattle.slices.specs.Tests.{every, between}
 use Rattle.slices.proofs.Choice.{pick-yes, pick-no, either}
 use Rattle.slices.proofs.Tables.{or-no, and-yes, and-no}
 use Rattle.slices.proofs.Tests.{failed}
 use Rattle.slices.proofs.Lines.{one-more}
 use Rattle.tlv_list.specs.Objects.{Object}
-use Rattle.tlv_list.specs.Lookup.{Lookup, absent, once, twice, met, lookup}
+use Rattle.tlv_list.specs.Lookup.{Lookup, absent, once, met, lookup}
 use Rattle.answer_afl.specs.Entries.{wholeEntries, entriesRight, tooMany}
 use Rattle.answer_common.specs.Answer.{isOne, inside, outerBad}
 use Rattle.answer_common.specs.Content.{meets, rules, ruleFor, rightValue}
 use Rattle.answer_common.specs.Named.{membersIn, listed, among, direct, times, told, valueOf, wrongValue}
 use Rattle.answer_common.specs.Named.{anyTimes, anyTwice, anyMissing, anyWrong}
-use Rattle.answer_common.specs.Forms.{template, joined, bothForms, lacks}
+use Rattle.answer_common.specs.Forms.{template, joined, lacks}
 use Rattle.answer_common.proofs.Absent.{not-direct, one-form}
 use Rattle.answer_common.proofs.Alike.{times-alike, wrong-alike}
 use Rattle.answer_common.proofs.Limits.{between-in, between-below}

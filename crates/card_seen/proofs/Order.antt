@@ -1,8 +1,8 @@
--- The rules ask what stands under a name, how often, and in A5 the same again; none asks where it stands among the others. So `turnBy` is the
--- same for what is seen in another order.
+-- The rules ask what stands under a name, how often, and in A5 the same again; none asks where it stands among the others. So `turnBy`
+-- is the same for what is seen in another order.
 -- Assumes nothing.
 use mathlib.Core.Path.{_≡_, refl, sym, ap, ap₂, _∙_}
-use mathlib.Core.Bool.{Bool, true, false, not, _||_}
+use mathlib.Core.Bool.{not, _||_}
 use mathlib.Core.List.{List, [], _∷_, _++_}
 use mathlib.Core.Option.{none}
 use Prim.Native.Nat.{ℕ}
@@ -22,10 +22,9 @@ use Rattle.answer_record.specs.Records.{anyAgain}
 use Rattle.decide_cryptogram.specs.Cryptograms.{givenBy, allowedBy}
 use Rattle.decide_cryptogram.specs.declared.Request.the-variants.{First, Second}
 use Rattle.session_records.specs.Slots.{orElse}
-use Rattle.rulebook.specs.Situation.{Situation}
-use Rattle.rulebook.specs.Phase.{Asked, selecting, optioning, reading as readingRecord, first, second, Phase, asks, decided}
+use Rattle.rulebook.specs.Phase.{Asked, selecting, optioning, reading as readingRecord, first, second, asks, decided}
 use Rattle.rulebook.specs.Turn.{goesOn, readOn, withProfile, answered, byFirst, bySecond, turn}
-use Rattle.card_seen.specs.Seen.{Place, Shown, statusOf, namedAt, Seen, seen}
+use Rattle.card_seen.specs.Seen.{Shown, namedAt, Seen, seen}
 use Rattle.card_seen.specs.Given.{placeOf}
 use Rattle.card_seen.specs.Order.{Standing, nowhere, alone, repeated, beforeOthers, standing, Rearranged}
 use Rattle.card_seen.proofs.Looking.{back, under, membersUnder}

@@ -4,7 +4,6 @@ use mathlib.Core.Path.{_≡_, refl, sym, ap, ap₂, _∙_}
 use mathlib.Core.Bool.{Bool, true, false, not, _||_}
 use mathlib.Core.List.{List, [], _∷_, _++_}
 use Prim.Native.Nat.{ℕ}
-use lib.Dec.{eqb}
 use Rattle.slices.specs.Choice.{pick, firstOf}
 use Rattle.slices.specs.Tables.{anyOf, beside}
 use Rattle.slices.proofs.Lines.{one-more}
@@ -17,7 +16,7 @@ use Rattle.answer_common.specs.Named.{membersIn, listed, among, direct, times, 
 use Rattle.answer_common.proofs.Alike.{times-alike, wrong-alike}
 use Rattle.answer_select.specs.Select.{selectTag, selectNames, innerNames, inner, pdolOf, nameWrong}
 use Rattle.answer_select.specs.Select.{selectTwice, selectWrong, selectLines, selectReason}
-use Rattle.card_seen.specs.Seen.{whole, within, namesAt, objectsAt, namedAt, selection, Shown, Seen, seen, expectedAt}
+use Rattle.card_seen.specs.Seen.{namesAt, objectsAt, namedAt, selection, Shown, Seen, seen, expectedAt}
 use Rattle.card_seen.proofs.Looking.{under, membersUnder, look-whole, look-times, look-within, lookup-named}
 use Rattle.card_seen.proofs.Frames.{frameBy, lines-seen}
 

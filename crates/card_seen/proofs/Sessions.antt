@@ -7,13 +7,13 @@ use Prim.Native.Nat.{ℕ}
 use Rattle.slices.specs.Choice.{pick}
 use Rattle.slices.proofs.Choice.{pick-no}
 use Rattle.tape_read.specs.Entries.{Entry, entry, command, answer, decision}
-use Rattle.rulebook.specs.Phase.{Asked, Heard, Phase, asks, hears, decides, commandOf, dueKind, decisionOf}
+use Rattle.rulebook.specs.Phase.{Heard, Phase, asks, hears, decides, commandOf, dueKind, decisionOf}
 use Rattle.rulebook.specs.Phase.{tvrOf, tsiOf}
-use Rattle.rulebook.specs.Turn.{turn, after}
+use Rattle.rulebook.specs.Turn.{after}
 use Rattle.rulebook.specs.Session.{Plays, exchanged, heard, decided, phasesOf}
 use Rattle.rulebook.proofs.Said.{other-kinds}
 use Rattle.rulebook_zeros.specs.Zeros.{unsuppliedIn, addedBy}
-use Rattle.card_seen.specs.Given.{placeOf, Given, said, showed, givenTo, butAnswer, butAnswers, Same}
+use Rattle.card_seen.specs.Given.{Given, said, showed, givenTo, butAnswer, butAnswers, Same}
 use Rattle.card_seen.proofs.Turning.{turnBy, turn-seen}
 
 -- ---- the functions

@@ -1,17 +1,17 @@
 -- 02's own sentence follows from what is seen: an answer that leads to no reason has a right size and is the one expected object, so of two
 -- such answers that are alike the same is seen, and the sessions are given the same.
 -- Assumes nothing.
-use mathlib.Core.Path.{_≡_, refl, sym, ap, ap₂, _∙_, subst}
-use mathlib.Core.Bool.{Bool, true, false}
-use mathlib.Core.List.{List, [], _∷_, _++_}
+use mathlib.Core.Path.{_≡_, refl, sym, ap, ap₂, _∙_}
+use mathlib.Core.Bool.{Bool, false}
+use mathlib.Core.List.{List, _∷_, _++_}
 use Prim.Native.Nat.{ℕ}
 use native.Mathlib.Omega.{arith}
 use lib.Dec.{eqb}
 use borrow.Author.Tests.{eqb-true}
 use Rattle.slices.specs.Choice.{firstOf}
-use Rattle.slices.proofs.Choice.{pick-yes, pick-no, either}
+use Rattle.slices.proofs.Choice.{pick-no, either}
 use Rattle.slices.proofs.Lines.{line-clear}
-use Rattle.tape_read.specs.Entries.{Entry, entry}
+use Rattle.tape_read.specs.Entries.{Entry}
 use Rattle.answer_common.specs.Answer.{sizeBad, statusBad, outerBad, frame}
 use Rattle.answer_common.specs.Content.{namesFor}
 use Rattle.answer_select.specs.Select.{selectReason}
@@ -22,7 +22,7 @@ use Rattle.rulebook.specs.Situation.{Situation}
 use Rattle.rulebook.specs.Phase.{Asked, selecting, optioning, reading as readingRecord, first, second}
 use Rattle.rulebook.specs.Phase.{Heard, Phase, opens, asks, hears, ended}
 use Rattle.rulebook.specs.Turn.{goesOn, selected, optioned, recorded, firstAnswered, secondAnswered, turn, after}
-use Rattle.rulebook.specs.Session.{Plays, exchanged, heard, decided, Session}
+use Rattle.rulebook.specs.Session.{Plays, exchanged, heard, decided}
 use Rattle.card_seen.specs.Seen.{Place, expectedAt, selection, options, reading, generation, Seen, seen}
 use Rattle.card_seen.specs.Given.{placeOf, Given, said, showed, givenTo, Same}
 use Rattle.card_seen.specs.SideBySide.{Alike, reasonIn, SideBySide}

@@ -1,25 +1,20 @@
--- `turnBy` is the transition over what is seen: each part of `turn`, reason and what is gone on with, is read from what is seen by the file of
--- its place (Selection, Options, Records, Cryptograms). So where the same is seen the session goes on alike.
+-- `turnBy` is the transition over what is seen: each part of `turn`, reason and what is gone on with, is read from what is seen by the
+-- file of its place (Selection, Options, Records, Cryptograms). So where the same is seen the session goes on alike.
 -- Assumes nothing.
-use mathlib.Core.Path.{_≡_, refl, sym, ap, ap₂, _∙_}
-use mathlib.Core.List.{List, [], _∷_}
+use mathlib.Core.Path.{_≡_, sym, ap, _∙_}
+use mathlib.Core.List.{List}
 use Prim.Native.Nat.{ℕ}
 use Rattle.slices.specs.Tests.{isSome}
-use Rattle.session_records.specs.Slots.{Facts, orElse}
+use Rattle.session_records.specs.Slots.{orElse}
 use Rattle.answer_common.specs.Content.{namesFor}
 use Rattle.answer_afl.specs.Entries.{toRead}
-use Rattle.answer_select.specs.Select.{selectReason, pdolOf}
-use Rattle.answer_gpo.specs.Options.{optionsReason, profileOf, locatorOf}
-use Rattle.answer_record.specs.Records.{recordReason, namedIn}
-use Rattle.answer_cryptogram.specs.Cryptogram.{cryptogramReason, cryptogramOf}
 use Rattle.decide_cryptogram.specs.Cryptograms.{allowedBy}
-use Rattle.decide_cryptogram.specs.declared.Given.{Given}
 use Rattle.decide_cryptogram.specs.declared.Request.the-variants.{First, Second}
 use Rattle.rulebook.specs.Situation.{Situation}
 use Rattle.rulebook.specs.Phase.{Asked, selecting, optioning, reading as readingRecord, first, second, Phase, asks, decided}
 use Rattle.rulebook.specs.Turn.{goesOn, selected, readOn, withProfile, optioned, withRecord, recorded, answered, byFirst, firstAnswered}
 use Rattle.rulebook.specs.Turn.{bySecond, secondAnswered, turn}
-use Rattle.card_seen.specs.Seen.{selection, options, reading, generation, Seen, seen}
+use Rattle.card_seen.specs.Seen.{reading, Seen, seen}
 use Rattle.card_seen.specs.Given.{placeOf}
 use Rattle.card_seen.proofs.Selection.{pdolBy, selectBy, pdol-seen, select-seen}
 use Rattle.card_seen.proofs.Options.{profileBy, locatorBy, optionsBy, profile-seen, locator-seen, options-seen}

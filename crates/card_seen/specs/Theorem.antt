@@ -1,6 +1,6 @@
--- What a card can influence (02, R-13), in one record. Everything that it is said with stands in specs/ of this crate and of the rulebook;
--- that it holds is `theorem` of proofs/Theorem. What it means for the kernel's calls and for verdicts is in Theorem of `card_influence`; that
--- what is seen does count, in Theorem of `card_worked`.
+-- What a card can influence (02, R-13), in one record. Everything that it is said with stands in specs/ of this crate and of the
+-- rulebook; that it holds is `theorem` of proofs/Theorem. What it means for the kernel's calls and for verdicts is in Theorem of
+-- `card_influence`; that what is seen does count, in Theorem of `card_worked`.
 -- Assumes nothing.
 use mathlib.Core.Path.{_≡_}
 use mathlib.Core.List.{List}

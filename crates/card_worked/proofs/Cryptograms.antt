@@ -1,5 +1,5 @@
--- GENERATE AC: 9F27, 9F36, 9F26 and 9F10 count. 9F27 by its two bits; the three others by being there with a right length: their values are
--- asked for nowhere.
+-- GENERATE AC: 9F27, 9F36, 9F26 and 9F10 count. 9F27 by its two bits; the three others by being there with a right length, since no rule
+-- asks for their values.
 -- Assumes nothing.
 use mathlib.Core.Path.{_≡_, refl}
 use mathlib.Core.Bool.{true}
@@ -16,11 +16,11 @@ use Rattle.rulebook.proofs.Made.{reads as readsAll}
 use Rattle.card_seen.specs.Seen.{generation, seen}
 use Rattle.card_seen.specs.Given.{placeOf}
 use Rattle.card_seen.proofs.Freedoms.{viewed}
-use Rattle.card_worked.specs.Matters.{others, besides, seenBeside, placeIn, Matters}
+use Rattle.card_worked.specs.Matters.{others, besides, seenBeside, placeDue, reasonSaid, Matters}
 use Rattle.card_worked.proofs.Cards.{generates, giving, counter, cryptogram, issuer, decides, tvr, differ}
 
-owed : placeIn (run generates (at opens)) ≡ some generation
-unfolding reached placeIn placeOf
+owed : placeDue (run generates (at opens)) ≡ some generation
+unfolding reached placeDue placeOf
 owed = refl
 
 -- a TC: approved
@@ -35,11 +35,11 @@ unfolding reached
 plain-session = readsAll _ refl
 
 -- another answer, which differs in an object alone, and with it the decision
-pair : (name : ℕ) (other : List ℕ) (otherwise : Entry)
+pair : (name reason : ℕ) (other : List ℕ) (otherwise : Entry)
     → seenBeside name (seen generation approving) ≡ seenBeside name (seen generation other)
-    → given approved ≡ true → given otherwise ≡ true → (approved ≡ otherwise → ⊥)
-    → Session (generates ++ (entry answer other ∷ otherwise ∷ [])) → Matters name
-pair name other otherwise alone first-given second-given apart another = record {
+    → given approved ≡ true → given otherwise ≡ true → reasonSaid approved ≡ 0 → reasonSaid otherwise ≡ reason
+    → (approved ≡ otherwise → ⊥) → Session (generates ++ (entry answer other ∷ otherwise ∷ [])) → Matters name reason
+pair name reason other otherwise alone first-given second-given first-reason second-reason apart another = record {
   before = generates;
   place = generation;
   due = owed;
@@ -51,6 +51,8 @@ pair name other otherwise alone first-given second-given apart another = record 
   otherwise = otherwise;
   first-given = first-given;
   second-given = second-given;
+  first-reason = first-reason;
+  second-reason = second-reason;
   apart = apart;
   rest = [];
   more = [];
@@ -59,26 +61,26 @@ pair name other otherwise alone first-given second-given apart another = record 
 }
 
 -- an AAC: declined
-pub information-counts : Matters 0x9F27
-unfolding reached viewed given others besides seenBeside
+pub information-counts : Matters 0x9F27 0
+unfolding reached viewed given others besides seenBeside reasonSaid
 information-counts =
-    pair 0x9F27 (giving 0x18 0x00 (counter ++ (cryptogram ++ issuer))) (decides 2 0 (tvr 0 0) 0x60) refl refl refl (differ 0 _ _ refl)
-    (readsAll _ refl)
+    pair 0x9F27 0 (giving 0x18 0x00 (counter ++ (cryptogram ++ issuer))) (decides 2 0 (tvr 0 0) 0x60) refl refl refl refl refl
+    (differ 0 _ _ refl) (readsAll _ refl)
 
--- a byte too few, or 33 bytes: reason 5, before the TSI's bit is set
+-- a byte too few, or 33 bytes: reason 5, and the TSI's bit is not set
 abbrev ended : Entry
 ended = decides 3 5 (tvr 0 0) 0x40
 
-pub counter-counts : Matters 0x9F36
-unfolding reached viewed given others besides seenBeside
+pub counter-counts : Matters 0x9F36 5
+unfolding reached viewed given others besides seenBeside reasonSaid
 counter-counts =
-    pair 0x9F36 (giving 0x17 0x40 (0x9F ∷ 0x36 ∷ 0x01 ∷ 0x00 ∷ (cryptogram ++ issuer))) ended refl refl refl (differ 0 _ _ refl)
-    (readsAll _ refl)
+    pair 0x9F36 5 (giving 0x17 0x40 (0x9F ∷ 0x36 ∷ 0x01 ∷ 0x00 ∷ (cryptogram ++ issuer))) ended refl refl refl refl refl
+    (differ 0 _ _ refl) (readsAll _ refl)
 
-pub cryptogram-counts : Matters 0x9F26
-unfolding reached viewed given others besides seenBeside
+pub cryptogram-counts : Matters 0x9F26 5
+unfolding reached viewed given others besides seenBeside reasonSaid
 cryptogram-counts =
-    pair 0x9F26 (giving 0x17 0x40 (counter ++ (0x9F ∷ 0x26 ∷ 0x07 ∷ 1 ∷ 2 ∷ 3 ∷ 4 ∷ 5 ∷ 6 ∷ 7 ∷ issuer))) ended refl refl refl
+    pair 0x9F26 5 (giving 0x17 0x40 (counter ++ (0x9F ∷ 0x26 ∷ 0x07 ∷ 1 ∷ 2 ∷ 3 ∷ 4 ∷ 5 ∷ 6 ∷ 7 ∷ issuer))) ended refl refl refl refl refl
     (differ 0 _ _ refl) (readsAll _ refl)
 
 abbrev long : List ℕ
@@ -86,6 +88,7 @@ long =
     0x9F ∷ 0x10 ∷ 0x21
     ∷ 0 ∷ 0 ∷ 0 ∷ 0 ∷ 0 ∷ 0 ∷ 0 ∷ 0 ∷ 0 ∷ 0 ∷ 0 ∷ 0 ∷ 0 ∷ 0 ∷ 0 ∷ 0 ∷ 0 ∷ 0 ∷ 0 ∷ 0 ∷ 0 ∷ 0 ∷ 0 ∷ 0 ∷ 0 ∷ 0 ∷ 0 ∷ 0 ∷ 0 ∷ 0 ∷ 0 ∷ 0 ∷ 0 ∷ []
 
-pub issuer-counts : Matters 0x9F10
-unfolding reached viewed given others besides seenBeside
-issuer-counts = pair 0x9F10 (giving 0x38 0x40 (counter ++ (cryptogram ++ long))) ended refl refl refl (differ 0 _ _ refl) (readsAll _ refl)
+pub issuer-counts : Matters 0x9F10 5
+unfolding reached viewed given others besides seenBeside reasonSaid
+issuer-counts =
+    pair 0x9F10 5 (giving 0x38 0x40 (counter ++ (cryptogram ++ long))) ended refl refl refl refl refl (differ 0 _ _ refl) (readsAll _ refl)

@@ -1,19 +1,20 @@
--- Two whole sessions of which every answer differs as bytes and none in what is seen: '00' bytes, other length forms, objects that are not
--- named, and each of GPO and both GENERATE ACs in the other form. Both are sessions, and every command and the decision are the same.
+-- Two whole sessions, no answer of which has the bytes of the other's: '00' bytes, other length forms, objects that are not named, and
+-- each of GPO and both GENERATE ACs in the other form. Both are sessions of the rulebook, so both are PASS, and what is seen of each
+-- answer is the same.
 -- Assumes nothing.
-use mathlib.Core.Path.{_≡_, refl}
+use mathlib.Core.Path.{refl}
 use mathlib.Core.List.{List, [], _∷_, _++_}
 use Prim.Native.Nat.{ℕ}
 use lib.ListN.{drop}
-use Rattle.tape_read.specs.Entries.{Entry, entry, start, command, answer, host, decision}
-use Rattle.rulebook.specs.Phase.{opens}
-use Rattle.rulebook.specs.Session.{Session}
-use Rattle.rulebook.specs.Machine.{at}
+use Rattle.tape_read.specs.Entries.{Entry, entry, start, command, answer, host}
 use Rattle.rulebook.proofs.Opening.{reached}
 use Rattle.rulebook.proofs.Made.{startOf, select, withList, withNumber, readOne, reads as readsAll}
-use Rattle.card_seen.specs.Given.{placeOf, Alongside, none, asked, answered, said-both, decided-both}
+use Rattle.card_seen.specs.Given.{placeOf}
+use Rattle.card_seen.specs.SideBySide.{none, asked, answered, said-both, decided-both}
 use Rattle.card_seen.proofs.Freedoms.{viewed}
-use Rattle.card_worked.proofs.Cards.{offering, recordWith, plain, giving, counter, cryptogram, issuer, verified, asks, tvr, decides}
+use Rattle.card_worked.specs.Dressed.{answersDiffer, Dressed}
+use Rattle.card_worked.proofs.Cards.{offering, profile, recordWith, plain, giving, counter, cryptogram, issuer, verified, asks, tvr}
+use Rattle.card_worked.proofs.Cards.{decides}
 
 -- one session with five answers
 abbrev sessionOf : List ℕ → List ℕ → List ℕ → List ℕ → List ℕ → List Entry
@@ -23,7 +24,7 @@ sessionOf a b c d e =
     ∷ entry command withNumber ∷ entry answer b
     ∷ entry command readOne ∷ entry answer c
     ∷ verified
-    ∷ asks (0x10 ∷ 0x00 ∷ []) plain (tvr 0 0) ∷ entry answer d
+    ∷ asks profile plain (tvr 0 0) ∷ entry answer d
     ∷ entry host (1 ∷ 0x30 ∷ 0x30 ∷ [])
     ∷ entry command (0x80 ∷ 0xAE ∷ 0x40 ∷ 0x00 ∷ 0x04 ∷ 0x11 ∷ 0x22 ∷ 0x33 ∷ 0x44 ∷ 0x00 ∷ []) ∷ entry answer e
     ∷ decides 1 0 (tvr 0 0) 0x60
@@ -31,7 +32,7 @@ sessionOf a b c d e =
 
 abbrev plainSession : List Entry
 plainSession =
-    sessionOf withList (offering (0x10 ∷ 0x00 ∷ []) 1) (recordWith plain) (giving 0x18 0x80 (counter ++ (cryptogram ++ issuer)))
+    sessionOf withList (offering profile 1) (recordWith plain) (giving 0x18 0x80 (counter ++ (cryptogram ++ issuer)))
     (0x80 ∷ 0x0B ∷ 0x40 ∷ 0x00 ∷ 0x02 ∷ 8 ∷ 7 ∷ 6 ∷ 5 ∷ 4 ∷ 3 ∷ 2 ∷ 1 ∷ 0x90 ∷ 0x00 ∷ [])
 
 abbrev dressedSession : List Entry
@@ -45,16 +46,15 @@ dressedSession =
     (0x77 ∷ 0x14 ∷ 0x9F ∷ 0x27 ∷ 0x01 ∷ 0x40 ∷ 0x9F ∷ 0x36 ∷ 0x02 ∷ 0x00 ∷ 0x02 ∷ 0x9F ∷ 0x26 ∷ 0x08 ∷ 8 ∷ 7 ∷ 6 ∷ 5 ∷ 4 ∷ 3 ∷ 2 ∷ 1
     ∷ 0x90 ∷ 0x00 ∷ [])
 
-pub plain-plays : Session plainSession
-unfolding reached
-plain-plays = readsAll _ refl
-
-pub dressed-plays : Session dressedSession
-unfolding reached
-dressed-plays = readsAll _ refl
-
-pub alongside : Alongside (at opens) plainSession dressedSession
-unfolding reached viewed placeOf
-alongside =
-    said-both _ (asked _ _ (answered _ _ refl (asked _ _ (answered _ _ refl (asked _ _ (answered _ _ refl
-    (said-both _ (asked _ _ (answered _ _ refl (said-both _ (asked _ _ (answered _ _ refl (decided-both _ _ none)))))))))))))
+pub whole-pair : Dressed
+unfolding reached viewed placeOf answersDiffer
+whole-pair = record {
+  plain = plainSession;
+  dressed = dressedSession;
+  plain-session = readsAll _ refl;
+  dressed-session = readsAll _ refl;
+  same-given =
+      said-both _ (asked _ _ (answered _ _ refl (asked _ _ (answered _ _ refl (asked _ _ (answered _ _ refl
+      (said-both _ (asked _ _ (answered _ _ refl (said-both _ (asked _ _ (answered _ _ refl (decided-both _ _ none)))))))))))));
+  other-bytes = refl;
+}

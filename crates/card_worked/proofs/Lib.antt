@@ -3,3 +3,4 @@ pub mod Early
 pub mod Records
 pub mod Cryptograms
 pub mod Dressed
+pub mod Theorem

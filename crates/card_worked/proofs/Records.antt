@@ -1,5 +1,6 @@
--- READ RECORD: each of the eleven objects that records name counts, eight by value in the first GENERATE AC (and five of these in a bit of
--- the TVR or in the request, which worked sessions elsewhere show), 8E and 9F42 in the TVR, 8C and 8D in the commands that they fill.
+-- READ RECORD: each of the eleven objects that records name counts by its value. Eight of them stand in the first GENERATE AC, since 8C
+-- asks for them or is filled there (expiry, effective date and version set a bit of the TVR besides); 8E and 9F42 set bits of the TVR,
+-- which stand there too; 8D is filled in the second.
 -- Assumes nothing.
 use mathlib.Core.Path.{_≡_, refl}
 use mathlib.Core.Bool.{true}
@@ -17,285 +18,141 @@ use Rattle.rulebook.proofs.Made.{reads as readsAll}
 use Rattle.card_seen.specs.Seen.{reading, seen}
 use Rattle.card_seen.specs.Given.{placeOf}
 use Rattle.card_seen.proofs.Freedoms.{viewed}
-use Rattle.card_worked.specs.Matters.{others, besides, seenBeside, placeIn, Matters}
-use Rattle.card_worked.proofs.Cards.{Told, plain, recordWith, five, reads, verified, asks, tvr, differ, ending, giving, counter, cryptogram}
-use Rattle.card_worked.proofs.Cards.{issuer}
-
-abbrev profile : List ℕ
-profile = 0x10 ∷ 0x00 ∷ []
+use Rattle.card_worked.specs.Matters.{others, besides, seenBeside, placeDue, reasonSaid, Matters}
+use Rattle.card_worked.proofs.Cards.{differ, five, profile, firstList, secondList, verificationList, plain, recordWith, giving}
+use Rattle.card_worked.proofs.Cards.{counter, cryptogram, issuer, reads, verified, asks, tvr, ending}
 
 abbrev asked : Entry
 asked = asks profile plain (tvr 0 0)
 
+-- from the record on: the results, the first GENERATE AC, and an answer that ends it
 abbrev later : List ℕ → Entry → List ℕ → List Entry
-later record′ asking tvr′ = reads ++ (entry answer record′ ∷ verified ∷ asking ∷ ending tvr′ 0x40)
+later told asking tvr′ = reads ++ (entry answer told ∷ verified ∷ asking ∷ ending tvr′ 0x40)
 
 plain-session : Session (later (recordWith plain) asked (tvr 0 0))
 unfolding reached
 plain-session = readsAll _ refl
 
-owed : placeIn (run reads (at opens)) ≡ some (reading recordNames)
-unfolding reached placeIn placeOf
+owed : placeDue (run reads (at opens)) ≡ some (reading recordNames)
+unfolding reached placeDue placeOf
 owed = refl
 
--- another record, which differs in an object alone, and with it the first GENERATE AC
-pair : (name : ℕ) (record′ : List ℕ) (otherwise : Entry) (tvr′ : List ℕ)
-    → seenBeside name (seen (reading recordNames) (recordWith plain)) ≡ seenBeside name (seen (reading recordNames) record′)
-    → given asked ≡ true → given otherwise ≡ true → (asked ≡ otherwise → ⊥) → Session (later record′ otherwise tvr′) → Matters name
-pair name record′ otherwise tvr′ alone first-given second-given apart another = record {
-  before = reads;
-  place = reading recordNames;
-  due = owed;
-  one = recordWith plain;
-  other = record′;
-  alone = alone;
-  middle = verified ∷ [];
-  asked = asked;
-  otherwise = otherwise;
-  first-given = first-given;
-  second-given = second-given;
-  apart = apart;
-  rest = ending (tvr 0 0) 0x40;
-  more = ending tvr′ 0x40;
-  session = plain-session;
-  another = another;
-}
+-- a record with another value under a name, and with it another first GENERATE AC
+module _ (name : ℕ) (value : List ℕ) (otherwise : Entry) (tvr′ : List ℕ) where
+  abbrev told : List ℕ
+  told = recordWith ((name, value) ∷ plain)
 
-abbrev numberTold : Told
-numberTold = record {
-  number = 0x12 ∷ 0x35 ∷ [];
-  expiry = plain .expiry;
-  effective = plain .effective;
-  version = plain .version;
-  last = plain .last;
-  second = plain .second;
-  default = plain .default;
-  denial = plain .denial;
-  online = plain .online;
-  rule = plain .rule;
-  currency = plain .currency;
-}
+  pair : seenBeside name (seen (reading recordNames) (recordWith plain)) ≡ seenBeside name (seen (reading recordNames) told)
+      → given asked ≡ true → given otherwise ≡ true → reasonSaid asked ≡ 0 → reasonSaid otherwise ≡ 0 → (asked ≡ otherwise → ⊥)
+      → Session (later told otherwise tvr′) → Matters name 0
+  pair alone first-given second-given first-reason second-reason apart another = record {
+    before = reads;
+    place = reading recordNames;
+    due = owed;
+    one = recordWith plain;
+    other = told;
+    alone = alone;
+    middle = verified ∷ [];
+    asked = asked;
+    otherwise = otherwise;
+    first-given = first-given;
+    second-given = second-given;
+    first-reason = first-reason;
+    second-reason = second-reason;
+    apart = apart;
+    rest = ending (tvr 0 0) 0x40;
+    more = ending tvr′ 0x40;
+    session = plain-session;
+    another = another;
+  }
 
-pub number-counts : Matters 0x5A
-unfolding reached viewed given others besides seenBeside
+-- the request with another value in it, or with another TVR
+abbrev with′ : ℕ → List ℕ → List ℕ → Entry
+with′ name value tvr′ = asks profile ((name, value) ∷ plain) tvr′
+
+pub number-counts : Matters 0x5A 0
+unfolding reached viewed given others besides seenBeside reasonSaid
 number-counts =
-    pair 0x5A (recordWith numberTold) (asks profile numberTold (tvr 0 0)) (tvr 0 0) refl refl refl (differ 8 _ _ refl) (readsAll _ refl)
+    let v : List ℕ = 0x12 ∷ 0x35 ∷ [] in
+    pair 0x5A v (with′ 0x5A v (tvr 0 0)) (tvr 0 0) refl refl refl refl refl (differ 8 _ _ refl) (readsAll _ refl)
 
-abbrev expiryTold : Told
-expiryTold = record {
-  number = plain .number;
-  expiry = 0x25 ∷ 0x06 ∷ 0x29 ∷ [];
-  effective = plain .effective;
-  version = plain .version;
-  last = plain .last;
-  second = plain .second;
-  default = plain .default;
-  denial = plain .denial;
-  online = plain .online;
-  rule = plain .rule;
-  currency = plain .currency;
-}
-
-pub expiry-counts : Matters 0x5F24
-unfolding reached viewed given others besides seenBeside
+-- expired the day before
+pub expiry-counts : Matters 0x5F24 0
+unfolding reached viewed given others besides seenBeside reasonSaid
 expiry-counts =
-    pair 0x5F24 (recordWith expiryTold) (asks profile expiryTold (tvr 0x40 0)) (tvr 0x40 0) refl refl refl (differ 9 _ _ refl) (readsAll _ refl)
+    let v : List ℕ = 0x25 ∷ 0x06 ∷ 0x29 ∷ [] in
+    pair 0x5F24 v (with′ 0x5F24 v (tvr 0x40 0)) (tvr 0x40 0) refl refl refl refl refl (differ 9 _ _ refl) (readsAll _ refl)
 
-abbrev effectiveTold : Told
-effectiveTold = record {
-  number = plain .number;
-  expiry = plain .expiry;
-  effective = 0x25 ∷ 0x07 ∷ 0x01 ∷ [];
-  version = plain .version;
-  last = plain .last;
-  second = plain .second;
-  default = plain .default;
-  denial = plain .denial;
-  online = plain .online;
-  rule = plain .rule;
-  currency = plain .currency;
-}
-
-pub effective-counts : Matters 0x5F25
-unfolding reached viewed given others besides seenBeside
+-- effective the day after
+pub effective-counts : Matters 0x5F25 0
+unfolding reached viewed given others besides seenBeside reasonSaid
 effective-counts =
-    pair 0x5F25 (recordWith effectiveTold) (asks profile effectiveTold (tvr 0x20 0)) (tvr 0x20 0) refl refl refl (differ 12 _ _ refl) (readsAll _ refl)
+    let v : List ℕ = 0x25 ∷ 0x07 ∷ 0x01 ∷ [] in
+    pair 0x5F25 v (with′ 0x5F25 v (tvr 0x20 0)) (tvr 0x20 0) refl refl refl refl refl (differ 12 _ _ refl) (readsAll _ refl)
 
-abbrev versionTold : Told
-versionTold = record {
-  number = plain .number;
-  expiry = plain .expiry;
-  effective = plain .effective;
-  version = 0x00 ∷ 0x03 ∷ [];
-  last = plain .last;
-  second = plain .second;
-  default = plain .default;
-  denial = plain .denial;
-  online = plain .online;
-  rule = plain .rule;
-  currency = plain .currency;
-}
-
-pub version-counts : Matters 0x9F08
-unfolding reached viewed given others besides seenBeside
+pub version-counts : Matters 0x9F08 0
+unfolding reached viewed given others besides seenBeside reasonSaid
 version-counts =
-    pair 0x9F08 (recordWith versionTold) (asks profile versionTold (tvr 0x80 0)) (tvr 0x80 0) refl refl refl (differ 16 _ _ refl) (readsAll _ refl)
+    let v : List ℕ = 0x00 ∷ 0x03 ∷ [] in
+    pair 0x9F08 v (with′ 0x9F08 v (tvr 0x80 0)) (tvr 0x80 0) refl refl refl refl refl (differ 16 _ _ refl) (readsAll _ refl)
 
-abbrev defaultTold : Told
-defaultTold = record {
-  number = plain .number;
-  expiry = plain .expiry;
-  effective = plain .effective;
-  version = plain .version;
-  last = plain .last;
-  second = plain .second;
-  default = five 1;
-  denial = plain .denial;
-  online = plain .online;
-  rule = plain .rule;
-  currency = plain .currency;
-}
-
-pub default-counts : Matters 0x9F0D
-unfolding reached viewed given others besides seenBeside
+pub default-counts : Matters 0x9F0D 0
+unfolding reached viewed given others besides seenBeside reasonSaid
 default-counts =
-    pair 0x9F0D (recordWith defaultTold) (asks profile defaultTold (tvr 0 0)) (tvr 0 0) refl refl refl (differ 21 _ _ refl) (readsAll _ refl)
+    pair 0x9F0D (five 1) (with′ 0x9F0D (five 1) (tvr 0 0)) (tvr 0 0) refl refl refl refl refl (differ 21 _ _ refl) (readsAll _ refl)
 
-abbrev denialTold : Told
-denialTold = record {
-  number = plain .number;
-  expiry = plain .expiry;
-  effective = plain .effective;
-  version = plain .version;
-  last = plain .last;
-  second = plain .second;
-  default = plain .default;
-  denial = five 1;
-  online = plain .online;
-  rule = plain .rule;
-  currency = plain .currency;
-}
-
-pub denial-counts : Matters 0x9F0E
-unfolding reached viewed given others besides seenBeside
+pub denial-counts : Matters 0x9F0E 0
+unfolding reached viewed given others besides seenBeside reasonSaid
 denial-counts =
-    pair 0x9F0E (recordWith denialTold) (asks profile denialTold (tvr 0 0)) (tvr 0 0) refl refl refl (differ 26 _ _ refl) (readsAll _ refl)
+    pair 0x9F0E (five 1) (with′ 0x9F0E (five 1) (tvr 0 0)) (tvr 0 0) refl refl refl refl refl (differ 26 _ _ refl) (readsAll _ refl)
 
-abbrev onlineTold : Told
-onlineTold = record {
-  number = plain .number;
-  expiry = plain .expiry;
-  effective = plain .effective;
-  version = plain .version;
-  last = plain .last;
-  second = plain .second;
-  default = plain .default;
-  denial = plain .denial;
-  online = five 1;
-  rule = plain .rule;
-  currency = plain .currency;
-}
-
-pub online-counts : Matters 0x9F0F
-unfolding reached viewed given others besides seenBeside
+pub online-counts : Matters 0x9F0F 0
+unfolding reached viewed given others besides seenBeside reasonSaid
 online-counts =
-    pair 0x9F0F (recordWith onlineTold) (asks profile onlineTold (tvr 0 0)) (tvr 0 0) refl refl refl (differ 31 _ _ refl) (readsAll _ refl)
+    pair 0x9F0F (five 1) (with′ 0x9F0F (five 1) (tvr 0 0)) (tvr 0 0) refl refl refl refl refl (differ 31 _ _ refl) (readsAll _ refl)
 
-abbrev ruleTold : Told
-ruleTold = record {
-  number = plain .number;
-  expiry = plain .expiry;
-  effective = plain .effective;
-  version = plain .version;
-  last = plain .last;
-  second = plain .second;
-  default = plain .default;
-  denial = plain .denial;
-  online = plain .online;
-  rule = 0x00 ∷ 0x07 ∷ [];
-  currency = plain .currency;
-}
+-- a rule that always fails
+pub verification-counts : Matters 0x8E 0
+unfolding reached viewed given others besides seenBeside reasonSaid
+verification-counts =
+    pair 0x8E (verificationList 0x00) (asks profile plain (tvr 0 0x80)) (tvr 0 0x80) refl refl refl refl refl (differ 34 _ _ refl)
+    (readsAll _ refl)
 
-pub rule-counts : Matters 0x8E
-unfolding reached viewed given others besides seenBeside
-rule-counts =
-    pair 0x8E (recordWith ruleTold) (asks profile ruleTold (tvr 0 0x80)) (tvr 0 0x80) refl refl refl (differ 34 _ _ refl) (readsAll _ refl)
-
-abbrev currencyTold : Told
-currencyTold = record {
-  number = plain .number;
-  expiry = plain .expiry;
-  effective = plain .effective;
-  version = plain .version;
-  last = plain .last;
-  second = plain .second;
-  default = plain .default;
-  denial = plain .denial;
-  online = plain .online;
-  rule = plain .rule;
-  currency = 0x08 ∷ 0x40 ∷ [];
-}
-
-pub currency-counts : Matters 0x9F42
-unfolding reached viewed given others besides seenBeside
+-- not the currency of the transaction, so that the rule does not apply
+pub currency-counts : Matters 0x9F42 0
+unfolding reached viewed given others besides seenBeside reasonSaid
 currency-counts =
-    pair 0x9F42 (recordWith currencyTold) (asks profile currencyTold (tvr 0 0x80)) (tvr 0 0x80) refl refl refl (differ 34 _ _ refl) (readsAll _ refl)
+    pair 0x9F42 (0x08 ∷ 0x40 ∷ []) (asks profile plain (tvr 0 0x80)) (tvr 0 0x80) refl refl refl refl refl (differ 34 _ _ refl)
+    (readsAll _ refl)
 
--- 8C: the TVR in four bytes
-abbrev lastTold : Told
-lastTold = record {
-  number = plain .number;
-  expiry = plain .expiry;
-  effective = plain .effective;
-  version = plain .version;
-  last = 0x95 ∷ 0x04 ∷ [];
-  second = plain .second;
-  default = plain .default;
-  denial = plain .denial;
-  online = plain .online;
-  rule = plain .rule;
-  currency = plain .currency;
-}
-
+-- the TVR in four bytes and not in five
 abbrev asksLess : Entry
 asksLess =
     entry command (0x80 ∷ 0xAE ∷ 0x40 ∷ 0x00 ∷ 0x1F ∷ 0x10 ∷ 0x00 ∷ 0x12 ∷ 0x34 ∷ 0x30 ∷ 0x12 ∷ 0x31 ∷ 0x20 ∷ 0x01 ∷ 0x01 ∷ 0x00 ∷ 0x02
     ∷ (five 0 ++ (five 0 ++ (five 0 ++ (0x80 ∷ 0 ∷ 0 ∷ 0 ∷ 0x00 ∷ [])))))
 
-pub first-list-counts : Matters 0x8C
-unfolding reached viewed given others besides seenBeside
-first-list-counts = pair 0x8C (recordWith lastTold) asksLess (tvr 0 0) refl refl refl (differ 4 _ _ refl) (readsAll _ refl)
+pub first-list-counts : Matters 0x8C 0
+unfolding reached viewed given others besides seenBeside reasonSaid
+first-list-counts =
+    pair 0x8C (firstList 0x04) asksLess (tvr 0 0) refl refl refl refl refl (differ 4 _ _ refl) (readsAll _ refl)
 
--- 8D: the unpredictable number in two bytes, at the second GENERATE AC
-abbrev secondTold : Told
-secondTold = record {
-  number = plain .number;
-  expiry = plain .expiry;
-  effective = plain .effective;
-  version = plain .version;
-  last = plain .last;
-  second = 0x9F ∷ 0x37 ∷ 0x02 ∷ [];
-  default = plain .default;
-  denial = plain .denial;
-  online = plain .online;
-  rule = plain .rule;
-  currency = plain .currency;
-}
-
-pub second-list-counts : Matters 0x8D
-unfolding reached viewed given others besides seenBeside
+-- the unpredictable number in two bytes and not in four, at the second GENERATE AC
+pub second-list-counts : Matters 0x8D 0
+unfolding reached viewed given others besides seenBeside reasonSaid
 second-list-counts = record {
   before = reads;
   place = reading recordNames;
   due = owed;
   one = recordWith plain;
-  other = recordWith secondTold;
+  other = recordWith ((0x8D, secondList 0x02) ∷ plain);
   alone = refl;
   middle = verified ∷ asked ∷ entry answer (giving 0x18 0x80 (counter ++ (cryptogram ++ issuer))) ∷ entry host (1 ∷ 0x30 ∷ 0x30 ∷ []) ∷ [];
   asked = entry command (0x80 ∷ 0xAE ∷ 0x40 ∷ 0x00 ∷ 0x04 ∷ 0x11 ∷ 0x22 ∷ 0x33 ∷ 0x44 ∷ 0x00 ∷ []);
   otherwise = entry command (0x80 ∷ 0xAE ∷ 0x40 ∷ 0x00 ∷ 0x02 ∷ 0x11 ∷ 0x22 ∷ 0x00 ∷ []);
   first-given = refl;
   second-given = refl;
+  first-reason = refl;
+  second-reason = refl;
   apart = differ 4 _ _ refl;
   rest = ending (tvr 0 0) 0x60;
   more = ending (tvr 0 0) 0x60;

@@ -1,5 +1,5 @@
 -- That a named object counts: two sessions that differ in one answer, in that object alone, and then in a command or in the decision.
--- 02, R-13. There is such a pair for every named object (proofs/).
+-- 02, R-13. There is such a pair for every named object (`every` of Theorem).
 -- Assumes nothing.
 use mathlib.Core.Path.{_≡_}
 use mathlib.Core.Bool.{true}
@@ -7,9 +7,10 @@ use mathlib.Core.List.{List, [], _∷_, _++_}
 use mathlib.Core.Option.{Option, none, some}
 use Prim.Native.Nat.{ℕ}
 use lib.Dec.{eqb}
+use lib.ListN.{getD}
 use Rattle.slices.specs.Choice.{pick}
 use Rattle.tlv_list.specs.Objects.{Object}
-use Rattle.tape_read.specs.Entries.{Entry, entry, answer}
+use Rattle.tape_read.specs.Entries.{Entry, entry, answer, decision}
 use Rattle.rulebook.specs.Phase.{opens}
 use Rattle.rulebook.specs.Session.{Session}
 use Rattle.rulebook.specs.Machine.{Machine, at, owes, done, run}
@@ -28,23 +29,28 @@ besides name (t ∷ ts) =
     pick (eqb (t .tag) name) (besides name ts)
     (record { tag = t .tag; value = t .value; members = others name (t .members) } ∷ besides name ts)
 
--- what is seen of an answer beside the objects with a name, at their place or in another object
+-- what is seen of an answer beside the objects with a name, at their place or inside another object
 unfoldable pub seenBeside : ℕ → Seen → Seen
 seenBeside name v =
     record { size-wrong = v .size-wrong; status = v .status; form-wrong = v .form-wrong; objects = besides name (v .objects) }
 
 -- the place of the answer that is due after some entries
-unfoldable pub placeIn : Option Machine → Option Place
-placeIn none = none
-placeIn (some (at p)) = none
-placeIn (some (owes w)) = some (placeOf w)
-placeIn (some done) = none
+unfoldable pub placeDue : Option Machine → Option Place
+placeDue none = none
+placeDue (some (at p)) = none
+placeDue (some (owes w)) = some (placeOf w)
+placeDue (some done) = none
 
-pub record Matters (name : ℕ) : Type 0 where
+-- the reason that an entry says: that of a decision, 0 for a command
+unfoldable pub reasonSaid : Entry → ℕ
+reasonSaid e = pick (eqb (e .kind) decision) (getD (e .payload) 1 0) 0
+
+-- a reason of 0 says that the object counts by its value: both answers are good
+pub record Matters (name reason : ℕ) : Type 0 where
   -- up to the answer, and where that stands
   pub before : List Entry
   pub place : Place
-  pub due : placeIn (run before (at opens)) ≡ some place
+  pub due : placeDue (run before (at opens)) ≡ some place
   -- the two answers, which differ in the object alone
   pub one : List ℕ
   pub other : List ℕ
@@ -55,7 +61,10 @@ pub record Matters (name : ℕ) : Type 0 where
   pub otherwise : Entry
   pub first-given : given asked ≡ true
   pub second-given : given otherwise ≡ true
+  pub first-reason : reasonSaid asked ≡ 0
+  pub second-reason : reasonSaid otherwise ≡ reason
   pub apart : asked ≡ otherwise → ⊥
+  -- and each goes on to its end
   pub rest : List Entry
   pub more : List Entry
   pub session : Session (before ++ (entry answer one ∷ (middle ++ (asked ∷ rest))))
