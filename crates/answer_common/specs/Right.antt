@@ -2,7 +2,7 @@
 -- "What the card must answer".
 -- Assumes nothing.
 use mathlib.Core.Path.{_≡_}
-use mathlib.Core.Bool.{true, false}
+use mathlib.Core.Bool.{true}
 use mathlib.Core.List.{List, map}
 use mathlib.Core.Logic.{_⊎_}
 use Prim.Native.Nat.{ℕ, _-_, _≤_}
@@ -10,7 +10,7 @@ use lib.ListN.{length, getD}
 use Rattle.tlv_list.specs.Lookup.{Lookup, absent, once}
 use Rattle.slices.specs.Tables.{anyOf}
 use Rattle.answer_common.specs.Content.{rightValue}
-use Rattle.answer_common.specs.Answer.{fewest as fewestBytes, most as mostBytes, sizeBad, statusBad, isOne, outerBad}
+use Rattle.answer_common.specs.Answer.{fewest as fewestBytes, most as mostBytes, isOne}
 
 -- an answer that passes the lines for every answer
 pub record Framed (expected a : List ℕ) : Type 0 where
@@ -19,14 +19,6 @@ pub record Framed (expected a : List ℕ) : Type 0 where
   pub first : getD a (length a - 2) 0 ≡ 0x90
   pub second : getD a (length a - 1) 0 ≡ 0x00
   pub one : anyOf (map (λ tag. isOne tag a) expected) ≡ true
-
--- two answers of a right size, with the same status, each of one object that is expected
-pub record Alike (expected a b : List ℕ) : Type 0 where
-  pub first-size : sizeBad a ≡ false
-  pub second-size : sizeBad b ≡ false
-  pub status : statusBad a ≡ statusBad b
-  pub first-one : outerBad expected a ≡ false
-  pub second-one : outerBad expected b ≡ false
 
 -- one value stands there, and it is as P says
 abbrev pub There : (List ℕ → Type 0) → Lookup → Type 0

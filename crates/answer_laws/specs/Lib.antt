@@ -1,4 +1,3 @@
--- What the laws over all of the card's answers are stated with: right answers, and answers that tell the same.
+-- What the laws over all of the card's answers are stated with: right answers.
 pub mod RightAnswers
 pub mod RightForms
-pub mod AlikeAnswers

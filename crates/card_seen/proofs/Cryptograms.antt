@@ -16,12 +16,12 @@ use Rattle.slices.proofs.Tables.{or-no, and-yes, and-no}
 use Rattle.slices.proofs.Lines.{one-more}
 use Rattle.tlv_list.specs.Objects.{Object}
 use Rattle.tlv_list.specs.Lookup.{Lookup, absent, once, met, lookup}
-use Rattle.answer_common.specs.Answer.{isOne, inside, outerBad}
+use Rattle.answer_common.specs.Answer.{isOne, inside}
 use Rattle.answer_common.specs.Content.{meets, rules, ruleFor, rightValue}
-use Rattle.answer_common.specs.Named.{membersIn, listed, among, direct, times, told, valueOf, wrongValue}
+use Rattle.answer_common.specs.Named.{listed, direct, times, told, valueOf, wrongValue}
 use Rattle.answer_common.specs.Named.{anyTimes, anyTwice, anyMissing, anyWrong}
 use Rattle.answer_common.specs.Forms.{template, joined, lacks}
-use Rattle.answer_common.proofs.Absent.{not-direct, one-form}
+use Rattle.answer_common.proofs.Absent.{not-direct}
 use Rattle.answer_common.proofs.Alike.{times-alike, wrong-alike}
 use Rattle.answer_common.proofs.Limits.{between-in, between-below, between-above}
 use Rattle.answer_common.proofs.Names.{listed-more}
@@ -29,11 +29,11 @@ use Rattle.decide_cryptogram.specs.Cryptograms.{givenBy}
 use Rattle.decide_cryptogram.specs.declared.Given.{Given}
 use Rattle.answer_cryptogram.specs.Cryptogram.{mandatoryNames, cryptogramNames, informationOf, cryptogramOf}
 use Rattle.answer_cryptogram.specs.Cryptogram.{cryptogramWrong, cryptogramLines, cryptogramReason}
-use Rattle.answer_laws.proofs.BothForms.{itself}
 use Rattle.card_seen.specs.Seen.{namesAt, expectedAt, objectsAt, namedAt, generation, ifLeft, apartCryptogram, inForms}
 use Rattle.card_seen.specs.Seen.{shownAs, shown, Shown, Seen, seen}
-use Rattle.card_seen.proofs.Looking.{back, under, look-named}
-use Rattle.card_seen.proofs.Frames.{frameBy, lines-seen, lines-unseen}
+use Rattle.card_seen.proofs.Looking.{itself, back, under}
+use Rattle.card_seen.proofs.Frames.{frameBy}
+use Rattle.card_seen.proofs.Forms.{not-template, joined-lacks, in-template, by-form}
 
 unfoldable pub cryptogramGiven : Seen → Given
 cryptogramGiven v = givenBy (getD (valueOf (under (v .objects) 0x9F27)) 0 0)
@@ -216,11 +216,9 @@ module _ (a : List ℕ) where
   abbrev ts : List Shown
   ts = namedAt generation a
 
-  in-template : isOne joined a ≡ false → (name : ℕ) → listed name cryptogramNames ≡ true → direct template a name ≡ under ts name
-  unfolding direct among namedAt namesAt objectsAt inForms
-  in-template n name l =
-      sym (look-named cryptogramNames name l (membersIn (inside template a)))
-      ∙ ap (λ (ms : List Object). under (shown (namesAt generation) ms) name) (sym (pick-no _ _ _ n))
+  as-member : isOne joined a ≡ false → (name : ℕ) → listed name cryptogramNames ≡ true → direct template a name ≡ under ts name
+  unfolding namedAt namesAt objectsAt
+  as-member = in-template cryptogramNames apartCryptogram a
 
   seen-apart : isOne joined a ≡ true → Apart (inside joined a) (under ts)
   unfolding namedAt objectsAt inForms
@@ -229,14 +227,11 @@ module _ (a : List ℕ) where
       (joined-apart (inside joined a))
 
   module _ (y : isOne joined a ≡ true) where
-    not-template : isOne template a ≡ false
-    not-template = one-form joined template a (λ e. omega arith) y
-
     none-there : (f : Lookup → Lookup → Lookup → Lookup → Bool)
         → f (direct template a 0x9F27) (direct template a 0x9F36) (direct template a 0x9F26)
         (direct template a 0x9F10) ≡ f absent absent absent absent
     none-there f =
-        let e = not-direct template a not-template in
+        let e = not-direct template a (not-template a y) in
         ap₂ (λ (x z : Lookup). f x z (direct template a 0x9F26) (direct template a 0x9F10)) (e 0x9F27) (e 0x9F36)
         ∙ ap₂ (f absent absent) (e 0x9F26) (e 0x9F10)
 
@@ -253,10 +248,6 @@ module _ (a : List ℕ) where
         (pick (wrongValue 0x9F36 y) true (pick (wrongValue 0x9F26 z) true (pick (wrongValue 0x9F10 w) true false)))))
         ∙ and-yes refl _ y
 
-    joined-lacks : lacks mandatoryNames a ≡ false
-    unfolding lacks
-    joined-lacks = and-no refl _ not-template ∙ not-template
-
   pub cryptogram-seen : cryptogramOf a ≡ cryptogramGiven (seen generation a)
   unfolding cryptogramOf informationOf cryptogramGiven seen valueOf told listed anyOf pick
   cryptogram-seen =
@@ -265,7 +256,7 @@ module _ (a : List ℕ) where
       ap (λ (u : List ℕ). givenBy (getD u 0 0)) (pick-yes _ _ _ y)
       ∙ (ap givenBy (sym (first-byte (inside joined a)))
       ∙ sym (ap (λ (l : Lookup). givenBy (getD (valueOf l) 0 0)) (seen-apart y .information-there))))
-      (λ n. ap (λ (u : List ℕ). givenBy (getD u 0 0)) (pick-no _ _ _ n ∙ ap valueOf (in-template n 0x9F27 refl)))
+      (λ n. ap (λ (u : List ℕ). givenBy (getD u 0 0)) (pick-no _ _ _ n ∙ ap valueOf (as-member n 0x9F27 refl)))
 
   module _ (allowed : Given → Bool) where
     joined-lines : isOne joined a ≡ true → firstOf (cryptogramLines allowed a) ≡ firstOf (linesBy allowed (under ts))
@@ -274,30 +265,22 @@ module _ (a : List ℕ) where
         let apart = seen-apart y in
         one-more 4 _ _ (joined-twice y ∙ sym (apart .not-twice))
         (one-more 5 _ _ (joined-wrong y ∙ sym (apart .wrong))
-        (one-more 8 _ _ (joined-lacks y ∙ sym (apart .none-missing))
+        (one-more 8 _ _ (joined-lacks mandatoryNames a y ∙ sym (apart .none-missing))
         (one-more 10 [] [] (ap (λ (given : Given). not (allowed given)) cryptogram-seen) refl)))
 
     template-wrong : isOne joined a ≡ false → cryptogramWrong a ≡ anyWrong cryptogramNames (under ts)
     unfolding cryptogramWrong
-    template-wrong n = ap₂ _||_ (wrong-alike cryptogramNames _ _ (in-template n)) (and-no refl _ n ∙ n) ∙ or-false _
+    template-wrong n = ap₂ _||_ (wrong-alike cryptogramNames _ _ (as-member n)) (and-no refl _ n ∙ n) ∙ or-false _
 
     template-lines : isOne joined a ≡ false → isOne template a ≡ true
         → firstOf (cryptogramLines allowed a) ≡ firstOf (linesBy allowed (under ts))
     unfolding cryptogramLines linesBy cryptogramGiven seen lacks
     template-lines n y =
-        one-more 4 _ _ (times-alike cryptogramNames _ _ 2 (λ name l. ap times (in-template n name l)))
+        one-more 4 _ _ (times-alike cryptogramNames _ _ 2 (λ name l. ap times (as-member n name l)))
         (one-more 5 _ _ (template-wrong n)
-        (one-more 8 _ _ (and-yes refl _ y ∙ times-alike mandatoryNames _ _ 0 (λ name l. ap times (in-template n name (named-too name l))))
+        (one-more 8 _ _ (and-yes refl _ y ∙ times-alike mandatoryNames _ _ 0 (λ name l. ap times (as-member n name (named-too name l))))
         (one-more 10 [] [] (ap (λ (given : Given). not (allowed given)) cryptogram-seen) refl)))
-
-    neither : isOne joined a ≡ false → isOne template a ≡ false → outerBad (expectedAt generation) a ≡ true
-    unfolding outerBad expectedAt anyOf
-    neither n k = ap not (pick-no _ _ _ k ∙ pick-no _ _ _ n)
 
     pub reason-seen : cryptogramReason allowed a ≡ cryptogramBy allowed (seen generation a)
     unfolding cryptogramReason cryptogramBy seen expectedAt
-    reason-seen =
-        either (isOne joined a)
-        (λ y. lines-seen generation a _ _ (joined-lines y))
-        (λ n. either (isOne template a) (λ y. lines-seen generation a _ _ (template-lines n y))
-        (λ k. lines-unseen generation a _ _ (neither n k)))
+    reason-seen = by-form generation a _ _ refl joined-lines template-lines

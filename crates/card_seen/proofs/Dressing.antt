@@ -16,7 +16,7 @@ use Rattle.tlv_list.proofs.Joined.{objects-joined}
 use Rattle.answer_common.specs.Answer.{sizeBad, outer, tagged, isOne, inside, outerBad}
 use Rattle.answer_common.specs.Content.{recordTag}
 use Rattle.answer_common.specs.Named.{membersIn, listed, named}
-use Rattle.answer_common.specs.Forms.{template, joined}
+use Rattle.answer_common.specs.Forms.{template, joined, bothForms}
 use Rattle.answer_common.proofs.Absent.{not-inside, one-form}
 use Rattle.answer_select.specs.Select.{selectTag}
 use Rattle.card_seen.specs.Seen.{Counts, whole, within, wholly, Place, selection, options, reading, generation, namesAt}
@@ -24,6 +24,7 @@ use Rattle.card_seen.specs.Seen.{expectedAt, object, apartOptions, apart
 use Rattle.card_seen.specs.Seen.{tagsOf, shown, namedAt, seen}
 use Rattle.card_seen.specs.Dressing.{templateAt, Unseen, filler, ignored, rewritten, inner, Dressed, JoinedAgain, OtherForm}
 use Rattle.card_seen.proofs.Looking.{back, every-whole, their-names}
+use Rattle.card_seen.proofs.Forms.{not-joined, joined-expected}
 
 -- ---- members
 
@@ -131,9 +132,6 @@ size-right tag a e = either (sizeBad a) (λ y. absurd (false≢true (sym (ap (ta
 same-size : (tag other : ℕ) (a b : List ℕ) → isOne tag a ≡ true → isOne other b ≡ true → sizeBad a ≡ sizeBad b
 same-size tag other a b e f = size-right tag a e ∙ sym (size-right other b f)
 
-not-joined : (a : List ℕ) → isOne template a ≡ true → isOne joined a ≡ false
-not-joined a e = one-form template joined a (λ z. omega arith) e
-
 template-expected : (p : Place) (a : List ℕ) → isOne (templateAt p) a ≡ true → outerBad (expectedAt p) a ≡ false
 unfolding templateAt expectedAt outerBad anyOf
 template-expected selection a e = ap not (pick-yes _ _ _ e)
@@ -186,10 +184,6 @@ module _ (tag : ℕ) (other : joined ≡ tag → ⊥) (a : List ℕ) (e : isOne 
   nothing-inside : membersIn (inside tag a) ≡ membersIn []
   nothing-inside = ap membersIn (not-inside tag a (one-form joined tag a other e))
 
-both-expected : (a : List ℕ) → isOne joined a ≡ true → outerBad (template ∷ joined ∷ []) a ≡ false
-unfolding outerBad anyOf
-both-expected a e = ap not (pick-no _ _ _ (one-form joined template a (λ z. omega arith) e) ∙ pick-yes _ _ _ e)
-
 joined-objects : (apart : List ℕ → List Object) (a : List ℕ) → isOne joined a ≡ true → inForms apart a ≡ apart (inside joined a)
 unfolding inForms
 joined-objects apart a e = pick-yes _ _ _ e
@@ -200,11 +194,11 @@ module _ (a b : List ℕ) (again : JoinedAgain a b) where
   again-form selection =
       let k : joined ≡ selectTag → ⊥ = λ z. omega arith in
       not-expected selectTag k a (again .first-one) ∙ sym (not-expected selectTag k b (again .second-one))
-  again-form options = both-expected a (again .first-one) ∙ sym (both-expected b (again .second-one))
+  again-form options = joined-expected a (again .first-one) ∙ sym (joined-expected b (again .second-one))
   again-form (reading names) =
       let k : joined ≡ recordTag → ⊥ = λ z. omega arith in
       not-expected recordTag k a (again .first-one) ∙ sym (not-expected recordTag k b (again .second-one))
-  again-form generation = both-expected a (again .first-one) ∙ sym (both-expected b (again .second-one))
+  again-form generation = joined-expected a (again .first-one) ∙ sym (joined-expected b (again .second-one))
 
   values-same : (apart : List ℕ → List Object) → inForms apart a ≡ inForms apart b
   values-same apart =
@@ -234,13 +228,13 @@ joined-again-seen p a b again = λ i. record {
 -- ---- one form for the other
 
 module _ (p : Place) (apart : List ℕ → List Object) (forms : (a : List ℕ) → objectsAt p a ≡ inForms apart a)
-    (expected : expectedAt p ≡ template ∷ joined ∷ []) (a b : List ℕ) (f : OtherForm p apart a b) where
+    (expected : expectedAt p ≡ bothForms) (a b : List ℕ) (f : OtherForm p apart a b) where
   forms-form : outerBad (expectedAt p) a ≡ outerBad (expectedAt p) b
   unfolding outerBad anyOf
   forms-form =
-      let e : outerBad (template ∷ joined ∷ []) b ≡ false = ap not (pick-yes _ _ _ (f .second-one)) in
+      let e : outerBad (bothForms) b ≡ false = ap not (pick-yes _ _ _ (f .second-one)) in
       ap (λ (tags : List ℕ). outerBad tags a) expected
-      ∙ (both-expected a (f .first-one) ∙ (sym e ∙ sym (ap (λ (tags : List ℕ). outerBad tags b) expected)))
+      ∙ (joined-expected a (f .first-one) ∙ (sym e ∙ sym (ap (λ (tags : List ℕ). outerBad tags b) expected)))
 
   forms-objects : namedAt p a ≡ namedAt p b
   unfolding namedAt inForms

@@ -20,10 +20,6 @@ frameBy v =
     ∷ []
 
 module _ (p : Place) (a : List ℕ) where
-  pub frame-seen : frame (expectedAt p) a ≡ frameBy (seen p a)
-  unfolding frame frameBy seen statusOf statusBad
-  frame-seen = refl
-
   -- where the lines that follow agree
   pub lines-seen : (x y : List (Bool × ℕ)) → firstOf x ≡ firstOf y
       → firstOf (frame (expectedAt p) a ++ x) ≡ firstOf (frameBy (seen p a) ++ y)

@@ -18,8 +18,11 @@ use Rattle.answer_common.specs.Answer.{sizeBad, only, outer, tagged, valueUnder
 use Rattle.answer_common.specs.Content.{recordNames}
 use Rattle.answer_common.specs.Named.{membersIn, listed, named}
 use Rattle.card_seen.specs.Seen.{Place, selection, options, reading, generation, namesAt, expectedAt, apartOptions, ifLeft}
-use Rattle.card_seen.specs.Seen.{apartCryptogram, inForms, objectsAt, shownAs, shown, namedAt, statusOf, Seen, seen}
+use Rattle.card_seen.specs.Seen.{apartCryptogram, inForms, objectsAt, Shown, shownAs, shown, namedAt, statusOf, Seen}
+use Rattle.card_seen.specs.Seen.{seen}
+use Rattle.card_seen.specs.Order.{Rearranged}
 use Rattle.card_seen.specs.Dressing.{Pair}
+use Rattle.card_seen.proofs.Order.{swapped}
 
 -- what is seen, with every definition under it open, so that it computes
 unfoldable pub viewed : Place → List ℕ → Seen
@@ -117,6 +120,19 @@ pub ignored-in-70 : Pair (reading recordNames) (0x70 ∷ 0x04 ∷ 0x5A ∷ 0x02 
     (0x70 ∷ 0x08 ∷ 0x82 ∷ 0x02 ∷ 0x08 ∷ 0x00 ∷ 0x5A ∷ 0x02 ∷ 0x12 ∷ 0x34 ∷ ok)
 unfolding viewed alike
 ignored-in-70 = record { same = refl; other = other-bytes _ _ refl }
+
+-- 5A before 5F24, and behind it: not seen alike, but rearranged (beyond 02)
+abbrev number : Shown
+number = record { tag = 0x5A; value = 0x12 ∷ 0x34 ∷ []; members = [] }
+
+abbrev expiry : Shown
+expiry = record { tag = 0x5F24; value = 0x30 ∷ 0x12 ∷ 0x31 ∷ []; members = [] }
+
+pub other-order : Rearranged (reading recordNames)
+    (0x70 ∷ 0x0A ∷ 0x5A ∷ 0x02 ∷ 0x12 ∷ 0x34 ∷ 0x5F ∷ 0x24 ∷ 0x03 ∷ 0x30 ∷ 0x12 ∷ 0x31 ∷ ok)
+    (0x70 ∷ 0x0A ∷ 0x5F ∷ 0x24 ∷ 0x03 ∷ 0x30 ∷ 0x12 ∷ 0x31 ∷ 0x5A ∷ 0x02 ∷ 0x12 ∷ 0x34 ∷ ok)
+unfolding viewed
+other-order = record { size = refl; status = refl; form = refl; objects = λ name. swapped name number expiry [] }
 
 -- ---- GPO: 82 and 94
 

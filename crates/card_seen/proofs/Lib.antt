@@ -1,5 +1,6 @@
 pub mod Looking
 pub mod Frames
+pub mod Forms
 pub mod Selection
 pub mod Options
 pub mod Records

@@ -2,7 +2,7 @@
 -- and, where only the objects named in it count, what stands in the one that has the name.
 -- Assumes nothing.
 use mathlib.Core.Path.{_≡_, refl, sym, ap, ap₂, _∙_}
-use mathlib.Core.Bool.{true, false, false≢true}
+use mathlib.Core.Bool.{Bool, true, false, false≢true}
 use mathlib.Core.List.{List, [], _∷_, map}
 use mathlib.Core.Option.{Option, Option·getD}
 use Prim.Native.Nat.{ℕ, zero, suc}
@@ -16,6 +16,11 @@ use Rattle.tlv_list.specs.Lookup.{Lookup, absent, once, twice, met, lookup}
 use Rattle.tlv_list.proofs.Objects.{objects-empty}
 use Rattle.answer_common.specs.Named.{membersIn, listed, named, times, told, valueOf}
 use Rattle.card_seen.specs.Seen.{Counts, whole, within, Shown, shownAs, tagsOf, shown}
+
+pub itself : (t : Bool) → pick t true false ≡ t
+unfolding pick
+itself true = refl
+itself false = refl
 
 -- what is seen as objects again
 unfoldable pub back : List Shown → List Object

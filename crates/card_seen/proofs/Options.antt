@@ -14,23 +14,22 @@ use Rattle.slices.proofs.Choice.{pick-yes, pick-no, either}
 use Rattle.slices.proofs.Tables.{or-no, and-yes, and-no}
 use Rattle.slices.proofs.Tests.{failed}
 use Rattle.slices.proofs.Lines.{one-more}
-use Rattle.tlv_list.specs.Objects.{Object}
 use Rattle.tlv_list.specs.Lookup.{Lookup, absent, once, met, lookup}
 use Rattle.answer_afl.specs.Entries.{wholeEntries, entriesRight, tooMany}
-use Rattle.answer_common.specs.Answer.{isOne, inside, outerBad}
+use Rattle.answer_common.specs.Answer.{isOne, inside}
 use Rattle.answer_common.specs.Content.{meets, rules, ruleFor, rightValue}
-use Rattle.answer_common.specs.Named.{membersIn, listed, among, direct, times, told, valueOf, wrongValue}
+use Rattle.answer_common.specs.Named.{listed, direct, times, told, valueOf, wrongValue}
 use Rattle.answer_common.specs.Named.{anyTimes, anyTwice, anyMissing, anyWrong}
 use Rattle.answer_common.specs.Forms.{template, joined, lacks}
-use Rattle.answer_common.proofs.Absent.{not-direct, one-form}
+use Rattle.answer_common.proofs.Absent.{not-direct}
 use Rattle.answer_common.proofs.Alike.{times-alike, wrong-alike}
 use Rattle.answer_common.proofs.Limits.{between-in, between-below}
 use Rattle.answer_gpo.specs.Options.{optionNames, profileOf, locatorOf, optionsWrong, optionsLines, optionsReason}
-use Rattle.answer_laws.proofs.BothForms.{itself}
 use Rattle.card_seen.specs.Seen.{namesAt, expectedAt, objectsAt, namedAt, options, apartOptions, inForms, shownAs, shown}
 use Rattle.card_seen.specs.Seen.{Shown, Seen, seen}
-use Rattle.card_seen.proofs.Looking.{back, under, look-named}
-use Rattle.card_seen.proofs.Frames.{frameBy, lines-seen, lines-unseen}
+use Rattle.card_seen.proofs.Looking.{itself, back, under}
+use Rattle.card_seen.proofs.Frames.{frameBy}
+use Rattle.card_seen.proofs.Forms.{not-template, joined-lacks, in-template, by-form}
 
 unfoldable pub profileBy : Seen → List ℕ
 profileBy v = valueOf (under (v .objects) 0x82)
@@ -56,11 +55,9 @@ module _ (a : List ℕ) where
   ts = namedAt options a
 
   -- of an answer that is not joined the template's members are seen
-  in-template : isOne joined a ≡ false → (name : ℕ) → listed name optionNames ≡ true → direct template a name ≡ under ts name
-  unfolding direct among namedAt namesAt objectsAt inForms
-  in-template n name l =
-      sym (look-named optionNames name l (membersIn (inside template a)))
-      ∙ ap (λ (ms : List Object). under (shown (namesAt options) ms) name) (sym (pick-no _ _ _ n))
+  as-member : isOne joined a ≡ false → (name : ℕ) → listed name optionNames ≡ true → direct template a name ≡ under ts name
+  unfolding namedAt namesAt objectsAt
+  as-member = in-template optionNames apartOptions a
 
   -- of joined values the two objects that they stand for
   abbrev v : List ℕ
@@ -85,11 +82,8 @@ module _ (a : List ℕ) where
     locator-there : under ts 0x94 ≡ once (drop 2 v)
     locator-there = ap (λ (os : List Shown). under os 0x94) (apart-seen y) ∙ locator-apart
 
-    not-template : isOne template a ≡ false
-    not-template = one-form joined template a (λ e. omega arith) y
-
     none-there : (f : Lookup → Lookup → Bool) → f (direct template a 0x82) (direct template a 0x94) ≡ f absent absent
-    none-there f = ap₂ f (not-direct template a not-template 0x82) (not-direct template a not-template 0x94)
+    none-there f = ap₂ f (not-direct template a (not-template a y) 0x82) (not-direct template a (not-template a y) 0x94)
 
     both-there : (f : Lookup → Lookup → Bool) → f (under ts 0x82) (under ts 0x94) ≡ f (once (take 2 v)) (once (drop 2 v))
     both-there f = ap₂ f profile-there locator-there
@@ -130,10 +124,6 @@ module _ (a : List ℕ) where
         (λ s. let bad = short-wrong (ltb-true _ 2 s) in pick-yes _ _ _ (ap not (bad .0)) ∙ sym (ap not (bad .1)))
         (λ l. pick-no _ _ _ (ap not (long-right (ltb-false _ 2 l))) ∙ (itself _ ∙ ap not locator-rule))
 
-    none-lacks : lacks optionNames a ≡ false
-    unfolding lacks
-    none-lacks = and-no refl _ not-template ∙ not-template
-
     none-missing : anyMissing optionNames (under ts) ≡ false
     unfolding anyTimes anyOf times pick
     none-missing = both-there (λ x z. pick (eqb (times x) 0) true (pick (eqb (times z) 0) true false))
@@ -143,14 +133,14 @@ module _ (a : List ℕ) where
   profile-seen =
       either (isOne joined a)
       (λ y. pick-yes _ _ _ y ∙ sym (ap valueOf (profile-there y)))
-      (λ n. pick-no _ _ _ n ∙ ap valueOf (in-template n 0x82 refl))
+      (λ n. pick-no _ _ _ n ∙ ap valueOf (as-member n 0x82 refl))
 
   pub locator-seen : locatorOf a ≡ locatorBy (seen options a)
   unfolding locatorOf locatorBy seen valueOf told listed anyOf pick
   locator-seen =
       either (isOne joined a)
       (λ y. pick-yes _ _ _ y ∙ sym (ap valueOf (locator-there y)))
-      (λ n. pick-no _ _ _ n ∙ ap valueOf (in-template n 0x94 refl))
+      (λ n. pick-no _ _ _ n ∙ ap valueOf (as-member n 0x94 refl))
 
   joined-lines : isOne joined a ≡ true → firstOf (optionsLines a) ≡ firstOf (linesBy (under ts))
   unfolding optionsLines linesBy locatorBy seen
@@ -159,29 +149,22 @@ module _ (a : List ℕ) where
       (one-more 5 _ _ (joined-wrong y ∙ sym (apart-wrong y))
       (one-more 6 _ _ (ap (λ (u : List ℕ). not (entriesRight u)) locator-seen)
       (one-more 7 _ _ (ap tooMany locator-seen)
-      (one-more 8 [] [] (none-lacks y ∙ sym (none-missing y)) refl))))
+      (one-more 8 [] [] (joined-lacks optionNames a y ∙ sym (none-missing y)) refl))))
 
   template-wrong : isOne joined a ≡ false → optionsWrong a ≡ anyWrong optionNames (under ts)
   unfolding optionsWrong
   template-wrong n =
-      ap₂ _||_ (wrong-alike optionNames _ _ (in-template n)) (and-no refl _ n ∙ n) ∙ or-false _
+      ap₂ _||_ (wrong-alike optionNames _ _ (as-member n)) (and-no refl _ n ∙ n) ∙ or-false _
 
   template-lines : isOne joined a ≡ false → isOne template a ≡ true → firstOf (optionsLines a) ≡ firstOf (linesBy (under ts))
   unfolding optionsLines linesBy locatorBy seen lacks
   template-lines n y =
-      one-more 4 _ _ (times-alike optionNames _ _ 2 (λ name l. ap times (in-template n name l)))
+      one-more 4 _ _ (times-alike optionNames _ _ 2 (λ name l. ap times (as-member n name l)))
       (one-more 5 _ _ (template-wrong n)
       (one-more 6 _ _ (ap (λ (u : List ℕ). not (entriesRight u)) locator-seen)
       (one-more 7 _ _ (ap tooMany locator-seen)
-      (one-more 8 [] [] (and-yes refl _ y ∙ times-alike optionNames _ _ 0 (λ name l. ap times (in-template n name l))) refl))))
-
-  neither : isOne joined a ≡ false → isOne template a ≡ false → outerBad (expectedAt options) a ≡ true
-  unfolding outerBad expectedAt anyOf
-  neither n k = ap not (pick-no _ _ _ k ∙ pick-no _ _ _ n)
+      (one-more 8 [] [] (and-yes refl _ y ∙ times-alike optionNames _ _ 0 (λ name l. ap times (as-member n name l))) refl))))
 
   pub options-seen : optionsReason a ≡ optionsBy (seen options a)
   unfolding optionsReason optionsBy seen expectedAt
-  options-seen =
-      either (isOne joined a)
-      (λ y. lines-seen options a _ _ (joined-lines y))
-      (λ n. either (isOne template a) (λ y. lines-seen options a _ _ (template-lines n y)) (λ k. lines-unseen options a _ _ (neither n k)))
+  options-seen = by-form options a _ _ refl joined-lines template-lines

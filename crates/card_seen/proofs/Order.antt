@@ -10,7 +10,7 @@ use lib.Dec.{eqb}
 use lib.ListN.{getD}
 use Rattle.slices.specs.Choice.{pick, firstOf}
 use Rattle.slices.specs.Tests.{isSome}
-use Rattle.slices.proofs.Choice.{pick-ap}
+use Rattle.slices.proofs.Choice.{pick-yes, pick-no, pick-ap, either}
 use Rattle.tlv_list.specs.Objects.{Object}
 use Rattle.tlv_list.specs.Lookup.{Lookup, absent, once, twice, met, lookup}
 use Rattle.dol_wanted.specs.Wanted.{fillable}
@@ -75,6 +75,26 @@ members-standing name (t ∷ ts) =
     (under-standing name ts) rest
     ∙ (ap (λ (ms : List Object). pick (eqb (t .tag) name) ms (membersOf (standing name ts))) (only-members t (standing name ts))
     ∙ sym (pick-ap membersOf (eqb (t .tag) name) (beforeOthers t (standing name ts)) (standing name ts)))
+
+both-named : (t u : Shown) (s : Standing) → beforeOthers t (beforeOthers u s) ≡ beforeOthers u (beforeOthers t s)
+unfolding beforeOthers
+both-named t u nowhere = refl
+both-named t u (alone x) = refl
+both-named t u repeated = refl
+
+-- neighbours may change places, whether or not they have the same name
+pub swapped : (name : ℕ) (t u : Shown) (ts : List Shown) → standing name (t ∷ u ∷ ts) ≡ standing name (u ∷ t ∷ ts)
+unfolding standing
+swapped name t u ts =
+    let s = standing name ts in
+    either (eqb (t .tag) name)
+    (λ y. either (eqb (u .tag) name)
+    (λ z.
+    pick-yes _ _ _ y
+    ∙ (ap (beforeOthers t) (pick-yes _ _ _ z)
+    ∙ (both-named t u s ∙ sym (pick-yes _ _ _ z ∙ ap (beforeOthers u) (pick-yes _ _ _ y)))))
+    (λ n. pick-yes _ _ _ y ∙ (ap (beforeOthers t) (pick-no _ _ _ n) ∙ sym (pick-no _ _ _ n ∙ pick-yes _ _ _ y))))
+    (λ k. pick-no _ _ _ k ∙ ap (λ (x : Standing). pick (eqb (u .tag) name) (beforeOthers u x) x) (sym (pick-no _ _ _ k)))
 
 module _ (v u : Seen) (f : frameBy v ≡ frameBy u) (l : under (v .objects) ≡ under (u .objects))
     (m : membersUnder 0xA5 (v .objects) ≡ membersUnder 0xA5 (u .objects)) where
