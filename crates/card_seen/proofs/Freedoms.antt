@@ -12,16 +12,17 @@ use Rattle.slices.specs.Tests.{alike, isSome}
 use Rattle.slices.proofs.Comparing.{same-alike}
 use Rattle.tlv_head.specs.Head.{firstByte, constructed, twoBytes, tagSize, tagOf, tagRight, lengthByte, lengthForm, lengthSize, lengthOf}
 use Rattle.tlv_head.specs.Head.{valueStart, valueEnd, whole as wholeHead}
-use Rattle.tlv_list.specs.Objects.{between, firstObject, before, rightInside, listed as listedObjects, objects}
+use Rattle.tlv_list.specs.Objects.{Object, between, firstObject, before, rightInside, listed as listedObjects, objects}
 use Rattle.tlv_list.specs.Place.{dataField}
 use Rattle.answer_common.specs.Answer.{sizeBad, only, outer, tagged, valueUnder, isOne, inside, outerBad}
 use Rattle.answer_common.specs.Content.{recordNames}
 use Rattle.answer_common.specs.Named.{membersIn, listed, named}
+use Rattle.answer_select.specs.Select.{innerNames}
 use Rattle.card_seen.specs.Seen.{Place, selection, options, reading, generation, namesAt, expectedAt, apartOptions, ifLeft}
 use Rattle.card_seen.specs.Seen.{apartCryptogram, inForms, objectsAt, Shown, shownAs, shown, namedAt, statusOf, Seen}
 use Rattle.card_seen.specs.Seen.{seen}
 use Rattle.card_seen.specs.Order.{Rearranged}
-use Rattle.card_seen.specs.Dressing.{Pair}
+use Rattle.card_seen.specs.Dressing.{templateAt, filler, ignored, inner, Dressed, Pair}
 use Rattle.card_seen.proofs.Order.{swapped}
 
 -- what is seen, with every definition under it open, so that it computes
@@ -113,6 +114,57 @@ ignored-constructed = record { same = refl; other = other-bytes _ _ refl }
 pub ignored-repeated : Pair selection plain (0x6F ∷ 0x15 ∷ 0x50 ∷ 0x01 ∷ 0x41 ∷ (members ++ (0x50 ∷ 0x01 ∷ 0x42 ∷ ok)))
 unfolding viewed alike
 ignored-repeated = record { same = refl; other = other-bytes _ _ refl }
+
+-- what the laws of Dressing ask for, on two of these pairs: a '00' byte between the members of 6F, and 84 in A5
+abbrev nameObject : Object
+nameObject = record { tag = 0x84; value = 0xA0 ∷ 0 ∷ 0 ∷ 0 ∷ 3 ∷ [] }
+
+abbrev listObject : Object
+listObject = record { tag = 0x9F38; value = 0x9F ∷ 0x37 ∷ 0x04 ∷ [] }
+
+pub zero-dressed : Dressed selection plain (0x6F ∷ 0x10 ∷ (name ++ (0x00 ∷ 0xA5 ∷ 0x06 ∷ (list ++ ok))))
+unfolding viewed templateAt
+zero-dressed = record {
+  status = refl;
+  first-one = refl;
+  second-one = refl;
+  members = record {
+    front = name;
+    behind = 0xA5 ∷ 0x06 ∷ list;
+    front-objects = nameObject ∷ [];
+    behind-objects = record { tag = 0xA5; value = list } ∷ [];
+    front-list = refl;
+    behind-list = refl;
+    one = [];
+    other = 0x00 ∷ [];
+    unseen = filler refl refl;
+    first = refl;
+    second = refl;
+  };
+}
+
+pub inner-dressed : Dressed selection plain (0x6F ∷ 0x11 ∷ (name ++ (0xA5 ∷ 0x08 ∷ 0x84 ∷ 0x00 ∷ (list ++ ok))))
+unfolding viewed templateAt
+inner-dressed = record {
+  status = refl;
+  first-one = refl;
+  second-one = refl;
+  members = record {
+    front = name;
+    behind = [];
+    front-objects = nameObject ∷ [];
+    behind-objects = [];
+    front-list = refl;
+    behind-list = refl;
+    one = 0xA5 ∷ 0x06 ∷ list;
+    other = 0xA5 ∷ 0x08 ∷ 0x84 ∷ 0x00 ∷ list;
+    unseen =
+        inner 0xA5 innerNames [] list [] (0x84 ∷ 0x00 ∷ []) [] (listObject ∷ []) refl refl refl
+        (ignored (record { tag = 0x84; value = [] }) refl refl refl) refl refl;
+    first = refl;
+    second = refl;
+  };
+}
 
 -- ---- READ RECORD: 82 is not named there
 

@@ -1,6 +1,6 @@
 -- What a card can influence (02, R-13), in one record. Everything that it is said with stands in specs/ of this crate and of the
--- rulebook; that it holds is `theorem` of proofs/Theorem. What it means for the kernel's calls and for verdicts is in Theorem of
--- `card_influence`; that what is seen does count, in Theorem of `card_worked`.
+-- rulebook; that it holds is `theorem` of proofs/Theorem. The third and the fourth part, the kernel's calls and verdicts, are in Theorem
+-- of `card_influence`; that what is seen does count, in Theorem of `card_worked`.
 -- Assumes nothing.
 use mathlib.Core.Path.{_≡_}
 use mathlib.Core.List.{List}
@@ -26,6 +26,7 @@ pub record Influence : Type 0 where
   pub same-turn : (w : Asked) (a b : List ℕ) → seen (placeOf w) a ≡ seen (placeOf w) b → turn w a ≡ turn w b
   -- 2. Whole sessions: functions of what a session is given, and of nothing else, say the phases that it passes, its entries but for the
   -- bytes of the card's answers, and what each entry adds to the fourth number. So two sessions that are given the same are the same
+  -- but for these bytes
   pub phases : (f : List Given → List Phase) × ((es : List Entry) (play : Plays opens es) → phasesOf play ≡ f (givenTo play))
   pub entries : (f : List Given → List Entry) × ((es : List Entry) (play : Plays opens es) → butAnswers es ≡ f (givenTo play))
   pub zeros : (f : List Given → List ℕ) × ((es : List Entry) (play : Plays opens es) → addedBy play ≡ f (givenTo play))
@@ -35,8 +36,6 @@ pub record Influence : Type 0 where
   -- and so are beginnings that are given the same, wherever they stop: they lead to the same state of the rulebook's machine
   pub same-beginning : (es fs : List Entry) → Alongside (at opens) es fs → (τ ρ : Machine) → run es (at opens) ≡ some τ
       → run fs (at opens) ≡ some ρ → (τ ≡ ρ) × (butAnswers es ≡ butAnswers fs)
-  -- (3. and 4., the kernel's calls and tapes, are in `card_influence`)
-
   -- 5. Of two good answers only what the session goes on with matters
   pub good : (w : Asked) (a b : List ℕ) → usedOf w a ≡ usedOf w b → reasonIn (turn w a) ≡ 0 → reasonIn (turn w b) ≡ 0
       → turn w a ≡ turn w b
