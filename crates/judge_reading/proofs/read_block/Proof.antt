@@ -5,14 +5,14 @@ use Prim.Native.Nat.{_≤_, _-_}
 use native.Mathlib.Omega.{arith}
 use lib.ListN.{length}
 use borrow.Author.Needs.{needs}
-use Rattle.judge_tape.proofs.read_block.Statement.{statement}
-use Rattle.judge_tape.proofs.read_block.Tie as tie
+use Rattle.judge_reading.proofs.read_block.Statement.{statement}
+use Rattle.judge_reading.proofs.read_block.Tie as tie
 
 abbrev Inv-loop : tie.InvT-loop
-Inv-loop buf₀ n₀ buf n = (n ≤ length buf) × (length buf ≡ length buf₀)
+Inv-loop file buf₀ n₀ buf n = (n ≤ length buf) × (length buf ≡ length buf₀)
 
 abbrev μ-loop : tie.MeasureT-loop
-μ-loop buf₀ n₀ buf n = length buf - n
+μ-loop file buf₀ n₀ buf n = length buf - n
 
 pub read-block-spec : {M : Type 1} → statement M
 read-block-spec =
