@@ -14,6 +14,8 @@ pub const LIST: u8 = 3;
 
 pub const CHECK: u8 = 4;
 
+pub const ADD_MANY: u8 = 5;
+
 // The command, and the tape number behind it.
 pub struct Words {
     pub what: u8,
@@ -32,10 +34,19 @@ pub fn asked() -> Words {
             number: NO_NUMBER,
         };
     }
+    let third = part(&digits, 0, m);
     Words {
-        what,
-        number: decimal(part(&digits, 0, m)),
+        what: or_many(what, third),
+        number: decimal(third),
     }
+}
+
+// A dash for the number: the entries, each with its number, come on standard input.
+fn or_many(what: u8, third: &[u8]) -> u8 {
+    if what != ADD {
+        return what;
+    }
+    if alike(third, b"-") { ADD_MANY } else { ADD }
 }
 
 fn named(word: &[u8]) -> u8 {

@@ -1,24 +1,25 @@
 // A campaign book in a file.
 //
 //     book_file FILE add NUMBER    enters what the judge's line on standard input says of the tape with this number
+//     book_file FILE add -         the same for many: a line each, the number and the judge's line, answered before the next is read
 //     book_file FILE counts        the four counts, and their sum
 //     book_file FILE list          an entry a line: tape number, verdict, place, code
 //     book_file FILE check         whether the file is a book
 //
-// Out: `entered`, `no verdict`, `already entered` or `full`; counts; entries; `good` and the number of blocks. Where the file is no book,
+// Out: `entered`, `no verdict` (`no number` for one of many), `already entered` or `full`; counts; entries; `good` and the number of blocks. Where the file is no book,
 // `refused`, the block and why, whatever was asked. A file that is not there is an empty book for `add` and an error for the others.
 // What cannot be read or written is said on standard error, and then nothing on standard output.
 mod ask;
+mod many;
+mod one;
 mod say;
 mod store;
 
 use book::Book;
-use book_line::entry_said;
 use book_open::Opening;
 use book_open::reopen;
 use slices::part;
 use store::Input;
-use tape_read::block_at;
 use text_lines::decimal::NO_NUMBER;
 
 // One block more than a book can have is enough to know that a file is too long.
@@ -31,6 +32,7 @@ fn main() {
     match what {
         ask::NOTHING => say::usage(),
         ask::ADD => add(words.number, &mut bytes),
+        ask::ADD_MANY => add_many(&mut bytes),
         _ => look(what, &mut bytes),
     }
 }
@@ -58,22 +60,29 @@ fn enter(number: u32, line: &[u8], size: usize, new: bool, bytes: &mut [u8; ROOM
     let opened = reopen(part(bytes, 0, size));
     match opened {
         Opening::Refused(place, fault) => say::refused(place, fault),
-        Opening::Opened(book) => enter_in(book, number, line, new, bytes),
+        Opening::Opened(book) => enter_one(book, number, line, new, bytes),
     }
 }
 
-// The block is stored before it is said to be entered.
-fn enter_in(book: Book, number: u32, line: &[u8], new: bool, bytes: &mut [u8; ROOM]) {
-    let used = book.used as usize;
-    let step = book.enter(entry_said(number, line), bytes);
-    let reply = step.reply;
-    if say::is_entered(reply) {
-        if !store::add(new, block_at(bytes, used)) {
-            os::fail(b"book: the block could not be stored");
-            return;
-        }
+fn enter_one(book: Book, number: u32, line: &[u8], new: bool, bytes: &mut [u8; ROOM]) {
+    one::enter(book, number, line, new, bytes);
+}
+
+// One entry after the other, in a book that is opened once.
+fn add_many(bytes: &mut [u8; ROOM]) {
+    match store::read(bytes) {
+        Input::Bytes(n) => enter_many(n, false, bytes),
+        Input::Missing => enter_many(0, true, bytes),
+        Input::Failed => os::fail(b"book"),
     }
-    say::replied(reply);
+}
+
+fn enter_many(size: usize, new: bool, bytes: &mut [u8; ROOM]) {
+    let opened = reopen(part(bytes, 0, size));
+    match opened {
+        Opening::Refused(place, fault) => say::refused(place, fault),
+        Opening::Opened(book) => many::enter_all(book, new, bytes),
+    }
 }
 
 // What a book holds.

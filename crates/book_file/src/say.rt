@@ -12,7 +12,7 @@ use text_print::text;
 pub fn usage() {
     io::write_all(
         STDERR_FILENO,
-        b"usage: book FILE add NUMBER < LINE, or book FILE counts, list or check\n",
+        b"usage: book FILE add NUMBER < LINE, book FILE add - < LINES, or book FILE counts, list or check\n",
     );
 }
 
@@ -39,6 +39,10 @@ pub fn replied(reply: Reply) {
         Reply::AlreadyEntered => text(b"already entered\n"),
         Reply::Full => text(b"full\n"),
     }
+}
+
+pub fn no_number() {
+    text(b"no number\n");
 }
 
 // The faults stand in one text, nine bytes each: a text for each arm is dear to prove.

@@ -1,4 +1,5 @@
 // The book's file, named by the first argument.
+use libc::STDERR_FILENO;
 use libc::STDIN_FILENO;
 use tape_read::BLOCK;
 
@@ -52,16 +53,16 @@ fn read_all(file: i32, buf: &mut [u8]) -> Input {
     Input::Bytes(n)
 }
 
-// One block at the end of the file, in one write, and on its device before the answer is given.
+// One block at the end of the file, in one write, and on its device before the answer is given. Where it is not, standard error says so.
 pub fn add(new: bool, block: &[u8]) -> bool {
     let mut name = io::buffer();
     let n = os::arg(1, &mut name);
     if os::errno() != 0 {
-        return false;
+        return failed();
     }
     let file = open(new, &name[..n]);
     if file < 0 {
-        return false;
+        return failed();
     }
     let stored = write_whole(file, block);
     libc::close(file);
@@ -75,10 +76,26 @@ fn open(new: bool, name: &[u8]) -> i32 {
     os::open_append(name)
 }
 
+// A part of a block leaves no reason behind, so it is said in words.
 fn write_whole(file: i32, block: &[u8]) -> bool {
     let done = libc::write(file, block);
+    if done < 0 {
+        return failed();
+    }
     if io::count(done, block) != BLOCK {
+        io::write_all(
+            STDERR_FILENO,
+            b"book: only a part of the block could be stored\n",
+        );
         return false;
     }
-    libc::fsync(file) == 0
+    if libc::fsync(file) != 0 {
+        return failed();
+    }
+    true
+}
+
+fn failed() -> bool {
+    os::fail(b"book: the block could not be stored");
+    false
 }
