@@ -1,0 +1,192 @@
+"""bin/start: the terminal's data of START from named fields, and back."""
+import re
+import sys
+
+from lab import programs
+from lab.words import NOT_ALL, Undone, command, voice
+
+USAGE = """
+bin/start FIELD=VALUE ..    the line START of these fields, as play takes it
+bin/start HEX               the fields of such bytes, or of a line START HEX
+bin/start --fields          every field: its place, its form, and what it is where it is not named
+
+Fields that are not named are as --fields says. `length` says how many bytes START has. Whether such a START is valid is the
+kernel's word and is asked of it: behind the line stands on standard error `accepted`, or `refused` and its number.
+
+Example:  bin/start amount=125.00 currency=826 date=2026-06-30 | bin/play
+Status:   0 the kernel accepts it; 1 the kernel refuses it; 2 a field or a value is none, or the kernel could not be asked
+"""
+LENGTHS = (74, 77)
+
+
+def refuse(name, value, form):
+    raise Undone(f"{name}={value}: not {form}")
+
+
+def digits(size):
+    """A number in so many bytes of two digits each."""
+    form = f"a number of at most {2 * size} digits"
+
+    def write(name, value):
+        if not re.fullmatch(r"[0-9]{1,%d}" % (2 * size), value):
+            refuse(name, value, form)
+        return bytes.fromhex(value.zfill(2 * size))
+
+    return form, write, lambda data: data.hex().upper().lstrip("0") or "0"
+
+
+def money(size):
+    """An amount, with two digits behind a point where there is one (125.00), or in the smallest unit (12500)."""
+    form = f"an amount: 125.00, or 12500 in the smallest unit, at most {2 * size} digits"
+
+    def write(name, value):
+        if not re.fullmatch(r"[0-9]+(\.[0-9]{2})?", value) or len(value.replace(".", "")) > 2 * size:
+            refuse(name, value, form)
+        return bytes.fromhex(value.replace(".", "").zfill(2 * size))
+
+    def read(data):
+        text = data.hex().upper().lstrip("0").zfill(3)
+        return text[:-2] + "." + text[-2:]
+
+    return form, write, read
+
+
+def octets(size):
+    """Bytes in hexadecimal."""
+    form = f"{size} bytes in hexadecimal"
+
+    def write(name, value):
+        if not re.fullmatch(r"(?:[0-9A-Fa-f]{2}){%d}" % size, value):
+            refuse(name, value, form)
+        return bytes.fromhex(value)
+
+    return form, write, lambda data: data.hex().upper()
+
+
+def small():
+    """One byte as a number."""
+    form = "a number from 0 to 255"
+
+    def write(name, value):
+        if not re.fullmatch(r"[0-9]{1,3}", value) or int(value) > 255:
+            refuse(name, value, form)
+        return bytes([int(value)])
+
+    return form, write, lambda data: str(data[0])
+
+
+def day():
+    """A date, of which the tape keeps the last two digits of the year."""
+    form = "a date as 2026-06-30, from 1950 to 2049"
+
+    def write(name, value):
+        found = re.fullmatch(r"([0-9]{4})-([0-9]{2})-([0-9]{2})", value)
+        if not found or not 1950 <= int(found.group(1)) <= 2049:
+            refuse(name, value, form)
+        return bytes.fromhex(found.group(1)[2:] + found.group(2) + found.group(3))
+
+    def read(data):
+        text = data.hex().upper()
+        if not text.isdigit():
+            return text
+        return f"{'20' if int(text[:2]) < 50 else '19'}{text[:2]}-{text[2:4]}-{text[4:]}"
+
+    return form, write, read
+
+
+def identifier():
+    """The AID: its length, and its bytes in a room of sixteen."""
+    form = "5 to 16 bytes in hexadecimal"
+
+    def write(name, value):
+        if not re.fullmatch(r"(?:[0-9A-Fa-f]{2}){5,16}", value):
+            refuse(name, value, form)
+        data = bytes.fromhex(value)
+        return bytes([len(data)]) + data.ljust(16, b"\0")
+
+    def read(data):
+        kept = data[1:1 + min(data[0], 16)]
+        rest = data[1 + len(kept):]
+        odd = data[0] > 16 or any(rest)
+        return data.hex().upper() + " (length and room as they stand)" if odd else kept.hex().upper()
+
+    return form, write, read
+
+
+# name, place, size, form, and the value where it is not named: 01, "Terminal data", and 02, R-7
+FIELDS = (
+    ("type", 0, 1, small(), "2"), ("amount", 1, 6, money(6), "125.00"), ("other", 7, 6, money(6), "0.00"),
+    ("country", 13, 2, digits(2), "826"), ("currency", 15, 2, digits(2), "826"), ("date", 17, 3, day(), "2026-06-30"),
+    ("transaction", 20, 1, octets(1), "00"), ("unpredictable", 21, 4, octets(4), "00000000"), ("floor", 25, 6, money(6), "0.00"),
+    ("random", 31, 1, small(), "0"), ("target", 32, 1, small(), "0"), ("threshold", 33, 6, money(6), "0.00"),
+    ("maximum", 39, 1, small(), "0"), ("version", 40, 2, octets(2), "0001"), ("denial", 42, 5, octets(5), "0000000000"),
+    ("online", 47, 5, octets(5), "0000000000"), ("default", 52, 5, octets(5), "0000000000"),
+    ("aid", 57, 17, identifier(), "A0000000031010"), ("capabilities", 74, 3, octets(3), "E0F8C8"),
+)
+
+
+def made(words):
+    """The bytes of START from fields."""
+    values, known = {}, {field[0] for field in FIELDS} | {"length"}
+    for word in words:
+        name, equals, value = word.partition("=")
+        if not equals or name not in known:
+            raise Undone(f"{word}: no field (bin/start --fields says which there are)")
+        if name in values:
+            raise Undone(f"{name} is named twice")
+        values[name] = value
+    length = int(values.pop("length", LENGTHS[-1])) if values.get("length", "0").isdigit() else 0
+    if length not in LENGTHS:
+        raise Undone(f"length: START has {' or '.join(map(str, LENGTHS))} bytes")
+    data = bytearray(length)
+    for name, place, size, (_, write, _), default in FIELDS:
+        if place + size <= length:
+            data[place:place + size] = write(name, values.get(name, default))
+        elif name in values:
+            raise Undone(f"{name}: a START of {length} bytes has no such field")
+    return bytes(data)
+
+
+def told(data):
+    """The fields of bytes, as `made` takes them."""
+    if len(data) not in LENGTHS:
+        raise Undone(f"{len(data)} bytes are no START; it has {' or '.join(map(str, LENGTHS))}")
+    fields = [f"{name}={read(data[place:place + size])}" for name, place, size, (_, _, read), _ in FIELDS if place + size <= len(data)]
+    return fields + [f"length={len(data)}"]
+
+
+def asked_of_the_kernel(data):
+    [words] = programs.ready("play")
+    said, errors, _ = programs.said(words, b"START " + data.hex().upper().encode() + b"\n")
+    if errors or not re.fullmatch(rb"COMMAND [0-9A-F]+\n|REFUSED [0-9]+\n", said):
+        raise Undone("the kernel could not be asked" + (f": {errors}" if errors else ""))
+    return said
+
+
+def main(asked):
+    words = [word.decode("utf-8", "backslashreplace") for word in asked.rest]
+    if asked.get("--fields"):
+        for name, place, size, (form, _, _), default in FIELDS:
+            voice.line(f"{name}={default}  bytes {place} to {place + size - 1}: {form}")
+        return voice.line(f"length={LENGTHS[-1]}  {' or '.join(map(str, LENGTHS))}")
+    if not words:
+        raise Undone("no field and no bytes (--help)")
+    if words[0] == "START":
+        words.pop(0)
+    if len(words) == 1 and re.fullmatch(r"(?:[0-9A-Fa-f]{2})+", words[0]):
+        data = bytes.fromhex(words[0])
+        for field in told(data):
+            voice.line(field)
+    else:
+        data = made(words)
+        voice.line("START " + data.hex().upper())
+    said = asked_of_the_kernel(data)
+    if said.startswith(b"COMMAND"):
+        voice.note("accepted")
+    else:
+        voice.note(said.decode().strip().lower())
+        voice.worse(NOT_ALL)
+
+
+def start():
+    command(USAGE, ["play"], main, flags=("--fields",))
