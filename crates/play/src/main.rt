@@ -18,12 +18,14 @@
 //     REFUSED n        the call was turned away
 //     ERROR why        the line is none of these; nothing changed
 //
-// The first argument names a file for the tape, the second is the session number (0 where there is none).
+// The first argument names a file for the tape, the second is the session number (0 where there is none). A file that is there is not
+// touched, unless --over stands before its name. A block is on the disk before the line that it belongs to is said.
 mod call;
 mod line;
 mod say;
 mod store;
 mod streams;
+mod tape;
 
 use call::next;
 use kernel::Session;
@@ -41,11 +43,12 @@ fn main() {
     if !streams::are_open() {
         return;
     }
-    if os::arg_count() < 2 {
+    let at = tape::name_at();
+    if os::arg_count() <= at {
         play(store::NONE, 0);
         return;
     }
-    let number = number_asked();
+    let number = number_asked(at + 1);
     if number == NO_NUMBER {
         io::write_all(
             STDERR_FILENO,
@@ -53,7 +56,7 @@ fn main() {
         );
         return;
     }
-    let file = open_tape();
+    let file = tape::open(at);
     if 0 <= file {
         play(file, number as u32);
         libc::close(file);
@@ -61,30 +64,15 @@ fn main() {
 }
 
 // The session number that was asked for; NO_NUMBER where it is none.
-fn number_asked() -> usize
+fn number_asked(at: usize) -> usize
     ensures { λ r. ⌜ r ≤ 0x100000000 ⌝ }
 {
-    if os::arg_count() < 3 {
+    if os::arg_count() <= at {
         return 0;
     }
     let mut digits = io::buffer();
-    let n = os::arg(2, &mut digits);
+    let n = os::arg(at, &mut digits);
     decimal(&digits[..n])
-}
-
-// The tape's file, or below 0 where it cannot be opened for writing.
-fn open_tape() -> i32 {
-    let mut name = io::buffer();
-    let n = os::arg(1, &mut name);
-    if os::errno() != 0 {
-        os::fail(b"tape");
-        return store::NONE;
-    }
-    let file = os::open_overwrite(&name[..n]);
-    if file < 0 {
-        os::fail(&name[..n]);
-    }
-    file
 }
 
 fn play(file: i32, number: u32) {

@@ -6,7 +6,7 @@ use tape_write::Appended;
 // No file.
 pub const NONE: i32 = -1;
 
-// Stores the blocks that a call has added to those before it, and answers whether all that was due is stored.
+// Stores the blocks that a call has added to those before it, and answers whether all that was due is stored and on the disk.
 pub fn store(file: i32, tape: &[u8], before: usize, kept: Appended) -> bool {
     if kept.refusal != 0 {
         io::write_all(STDERR_FILENO, b"tape: the blocks of a call were refused\n");
@@ -16,12 +16,15 @@ pub fn store(file: i32, tape: &[u8], before: usize, kept: Appended) -> bool {
         return true;
     }
     let writer = kept.writer;
-    if store_blocks(file, tape, before, writer.used) {
-        true
-    } else {
+    if !store_blocks(file, tape, before, writer.used) {
         os::fail(b"tape");
-        false
+        return false;
     }
+    if libc::fsync(file) != 0 {
+        os::fail(b"tape");
+        return false;
+    }
+    true
 }
 
 // Says that the tape has no room.
