@@ -5,7 +5,8 @@ takes: line k of the list belongs to entry k of the book. A line that begins wit
 entered by hand. The list's lines are on the disk before their entries, so after an interruption it may have lines too many: those behind
 the last entry are cut off when the campaign goes on.
 
-Whoever adds to a book holds a lock (flock) on its file; a campaign holds one on its folder's file `lock` as well.
+Whoever adds to a book holds a lock (flock) on its file; a campaign holds one on its folder's file `lock` as well. The program that adds
+holds them too: where its front is killed, they last until it has ended.
 """
 import contextlib
 import fcntl
@@ -20,6 +21,8 @@ from lab.words import Undone, named, shown, text, voice
 
 PROGRAM = "book_file"
 BLOCK, FULL = 512, 4096
+# How long a second process waits for the first, in seconds, before it is told.
+WAIT = 1.0
 IN_FOLDER = re.compile(rb"[0-9]{4,9}\.book")
 LISTED = re.compile(rb"(\\?)([0-9a-f]{64})  (.+)", re.DOTALL)
 UNKNOWN = b"# no tape known for this entry"
@@ -133,7 +136,7 @@ def locked(name, wait=0.0, tidy=False):
     made = not os.path.lexists(name)
     descriptor = take_lock(name, time.monotonic() + wait)
     try:
-        yield
+        yield descriptor
     finally:
         if tidy and made and os.fstat(descriptor).st_size == 0:
             os.unlink(name)
@@ -178,17 +181,17 @@ def sync_folder(folder):
 class Open:
     """The book that a campaign adds to: its program, its lock and its list."""
 
-    def __init__(self, book, used):
+    def __init__(self, book, used, folder_lock):
         self.book, self.used = book, used
         self.lock = contextlib.ExitStack()
-        self.lock.enter_context(locked(book))
+        locks = (folder_lock, self.lock.enter_context(locked(book, WAIT)))
         lines, ends = listed(list_of(book))
         self.list = os.open(list_of(book), os.O_RDWR | os.O_CREAT | os.O_CLOEXEC, 0o666)
         os.ftruncate(self.list, ends[min(used, len(lines))])
         os.lseek(self.list, 0, os.SEEK_END)
         self.write(b"".join([UNKNOWN + b"\n"] * (used - len(lines))))
         sync_folder(os.path.dirname(book) or b".")
-        self.talk = programs.Talk(words() + [name_for(book), "add", "-"])
+        self.talk = programs.Talk(words() + [name_for(book), "add", "-"], keep=locks)
 
     def write(self, data):
         while data:
@@ -229,7 +232,7 @@ class Campaign:
         except FileExistsError:
             if not os.path.isdir(self.folder):
                 raise Undone(f"{text(self.folder)}: is a file; a campaign keeps its books in a folder, which is named first") from None
-        self.stack.enter_context(locked(os.path.join(self.folder, b"lock")))
+        self.lock = self.stack.enter_context(locked(os.path.join(self.folder, b"lock"), WAIT))
         self.books = sorted((name for name in os.listdir(self.folder) if IN_FOLDER.fullmatch(name)), key=lambda name: int(name[:-5]))
         self.books = [os.path.join(self.folder, name) for name in self.books]
         for book in self.books:
@@ -260,7 +263,7 @@ class Campaign:
             if not self.books or self.last_used >= FULL:
                 self.books.append(self.next_name())
                 self.last_used = 0
-            self.open = Open(self.books[-1], self.last_used)
+            self.open = Open(self.books[-1], self.last_used, self.lock)
         return self.open
 
     def next_name(self):

@@ -1,6 +1,7 @@
 """Many tapes judged: as many `lab_tapes` as there are processors, and their answers in the order asked."""
 import collections
 import concurrent.futures
+import itertools
 import os
 import queue
 from typing import NamedTuple, Optional
@@ -94,7 +95,7 @@ class Judges:
         asked, under_way = iter(asked), collections.deque()
 
         def hand_out():
-            together = [pair for pair, _ in zip(asked, range(TOGETHER))]
+            together = list(itertools.islice(asked, TOGETHER))
             if together:
                 under_way.append(self.threads.submit(self.some, together))
 

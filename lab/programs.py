@@ -263,11 +263,13 @@ class Ended(Exception):
 
 class Talk:
     """A program that answers each line before it reads the next. It stands apart from our terminal: an interrupt there ends us, and it
-    then meets the end of its input."""
+    then meets the end of its input. What cannot be written is an error to it, as to us, and not a signal."""
 
-    def __init__(self, words):
+    def __init__(self, words, keep=()):
+        """`keep` are descriptors that it holds too, such as a lock, which then lasts as long as it does."""
         self.errors = os.memfd_create("errors") if hasattr(os, "memfd_create") else os.open("/dev/null", os.O_RDWR)
-        self.process = subprocess.Popen(words, stdin=subprocess.PIPE, stdout=subprocess.PIPE, stderr=self.errors, start_new_session=True)
+        self.process = subprocess.Popen(words, stdin=subprocess.PIPE, stdout=subprocess.PIPE, stderr=self.errors, start_new_session=True,
+                                        restore_signals=False, pass_fds=keep)
 
     def ask(self, line):
         """The answer's line, its line feed included."""
@@ -283,7 +285,8 @@ class Talk:
 
     def complaint(self):
         self.close()
-        return "it said nothing" if not self.said else self.said
+        ended = self.process.returncode
+        return self.said or (f"it was ended by signal {-ended}" if ended < 0 else f"it said nothing, status {ended}")
 
     def close(self):
         """Ends it by ending its input; what it said on standard error stays in `said`."""
@@ -305,5 +308,6 @@ class Talk:
 
 def said(words, data=None, descriptor=None):
     """All that a program says to standard output and to standard error, and whether it ended by itself."""
-    done = subprocess.run(words, input=data, stdin=descriptor if data is None else None, capture_output=True, start_new_session=True)
+    done = subprocess.run(words, input=data, stdin=descriptor if data is None else None, capture_output=True, start_new_session=True,
+                          restore_signals=False)
     return done.stdout, done.stderr.decode("utf-8", "backslashreplace").strip(), done.returncode

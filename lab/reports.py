@@ -2,6 +2,7 @@
 import json
 import os
 import re
+import stat
 import tempfile
 from xml.sax.saxutils import escape, quoteattr
 
@@ -36,7 +37,9 @@ class JsonLines:
 
     def __init__(self, name, judge):
         self.name, self.judge, self.known = name, judge, {}
-        self.file = os.open(name, os.O_RDWR | os.O_CREAT | os.O_CLOEXEC, 0o666)
+        self.file = os.open(name, os.O_RDWR | os.O_CREAT | os.O_CLOEXEC | os.O_NONBLOCK, 0o666)
+        if not stat.S_ISREG(os.fstat(self.file).st_mode):
+            raise Undone(f"{text(name)}: is not a file that lines can be kept in")
         with os.fdopen(os.dup(self.file), "rb") as old:
             data = old.read()
         whole = data.rfind(b"\n") + 1

@@ -50,10 +50,10 @@ def add(book, third):
         raise Undone(f"tape number: {why}") from None
     if book.endswith(b".tape"):
         raise Undone(f"{text(book)}: the name of a tape, not of a book")
-    with books.locked(book, wait=10, tidy=True):
+    with books.locked(book, wait=10, tidy=True) as lock:
         used = books.check(book)
         note_unknown(book, used)
-        talk = programs.Talk(books.words() + [books.name_for(book), "add", "-"])
+        talk = programs.Talk(books.words() + [books.name_for(book), "add", "-"], keep=(lock,))
         try:
             for line in lines:
                 reply = talk.ask(line)

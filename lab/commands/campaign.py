@@ -119,6 +119,8 @@ def main(asked):
         with judging.Judges(known=run.known) as judges:
             for some in judges.in_order(tapes):
                 run.take(some)
+        if run.done != len(tapes):
+            raise Undone(f"only {run.done} of {len(tapes)} tapes came back")
         try:
             told = campaign.counts()
         except books.Refused as why:

@@ -99,6 +99,8 @@ def main(asked):
         for some in judges.in_order(judging.with_numbers(names)):
             for judged in some:
                 run.take(judged)
+    if run.done != len(names):
+        raise Undone(f"only {run.done} of {len(names)} tapes came back")
     if lines:
         lines.close()
     if junit:

@@ -1,8 +1,8 @@
 """bin/start: the terminal's data of START from named fields, and back."""
 import re
-import sys
 
 from lab import programs
+from lab.numbers import NoNumber, number
 from lab.words import NOT_ALL, Undone, command, voice
 
 USAGE = """
@@ -10,13 +10,14 @@ bin/start FIELD=VALUE ..    the line START of these fields, as play takes it
 bin/start HEX               the fields of such bytes, or of a line START HEX
 bin/start --fields          every field: its place, its form, and what it is where it is not named
 
-Fields that are not named are as --fields says. `length` says how many bytes START has. Whether such a START is valid is the
-kernel's word and is asked of it: behind the line stands on standard error `accepted`, or `refused` and its number.
+Fields that are not named are as --fields says. `length` says how many bytes START has; fields that have no room in it are left out, and
+`rest` is what stands behind the last. Whether such a START is valid is the kernel's word and is asked of it: behind the line stands
+on standard error `accepted`, or `refused` and its number.
 
 Example:  bin/start amount=125.00 currency=826 date=2026-06-30 | bin/play
 Status:   0 the kernel accepts it; 1 the kernel refuses it; 2 a field or a value is none, or the kernel could not be asked
 """
-LENGTHS = (74, 77)
+MOST = 496
 
 
 def refuse(name, value, form):
@@ -96,10 +97,10 @@ def day():
 
 def identifier():
     """The AID: its length, and its bytes in a room of sixteen."""
-    form = "5 to 16 bytes in hexadecimal"
+    form = "at most 16 bytes in hexadecimal"
 
     def write(name, value):
-        if not re.fullmatch(r"(?:[0-9A-Fa-f]{2}){5,16}", value):
+        if not re.fullmatch(r"(?:[0-9A-Fa-f]{2}){0,16}", value):
             refuse(name, value, form)
         data = bytes.fromhex(value)
         return bytes([len(data)]) + data.ljust(16, b"\0")
@@ -107,8 +108,7 @@ def identifier():
     def read(data):
         kept = data[1:1 + min(data[0], 16)]
         rest = data[1 + len(kept):]
-        odd = data[0] > 16 or any(rest)
-        return data.hex().upper() + " (length and room as they stand)" if odd else kept.hex().upper()
+        return data.hex().upper() if data[0] > 16 or any(rest) else kept.hex().upper()
 
     return form, write, read
 
@@ -117,17 +117,24 @@ def identifier():
 FIELDS = (
     ("type", 0, 1, small(), "2"), ("amount", 1, 6, money(6), "125.00"), ("other", 7, 6, money(6), "0.00"),
     ("country", 13, 2, digits(2), "826"), ("currency", 15, 2, digits(2), "826"), ("date", 17, 3, day(), "2026-06-30"),
-    ("transaction", 20, 1, octets(1), "00"), ("unpredictable", 21, 4, octets(4), "00000000"), ("floor", 25, 6, money(6), "0.00"),
-    ("random", 31, 1, small(), "0"), ("target", 32, 1, small(), "0"), ("threshold", 33, 6, money(6), "0.00"),
-    ("maximum", 39, 1, small(), "0"), ("version", 40, 2, octets(2), "0001"), ("denial", 42, 5, octets(5), "0000000000"),
-    ("online", 47, 5, octets(5), "0000000000"), ("default", 52, 5, octets(5), "0000000000"),
-    ("aid", 57, 17, identifier(), "A0000000031010"), ("capabilities", 74, 3, octets(3), "E0F8C8"),
+    ("transaction", 20, 1, octets(1), "00"), ("unpredictable", 21, 4, octets(4), "1A2B3C4D"), ("floor", 25, 6, money(6), "100.00"),
+    ("random", 31, 1, small(), "50"), ("target", 32, 1, small(), "10"), ("threshold", 33, 6, money(6), "50.00"),
+    ("maximum", 39, 1, small(), "40"), ("version", 40, 2, octets(2), "0001"), ("denial", 42, 5, octets(5), "0000000000"),
+    ("online", 47, 5, octets(5), "0000008000"), ("default", 52, 5, octets(5), "0000000000"),
+    ("aid", 57, 17, identifier(), "A0000000031010"), ("capabilities", 74, 3, octets(3), "60E0C8"),
 )
+LONGEST = max(place + size for _, place, size, _, _ in FIELDS)
+
+
+def fitting(length):
+    """The fields that such a START has room for, and where the last of them ends."""
+    fields = [field for field in FIELDS if field[1] + field[2] <= length]
+    return fields, max((field[1] + field[2] for field in fields), default=0)
 
 
 def made(words):
     """The bytes of START from fields."""
-    values, known = {}, {field[0] for field in FIELDS} | {"length"}
+    values, known = {}, {field[0] for field in FIELDS} | {"length", "rest"}
     for word in words:
         name, equals, value = word.partition("=")
         if not equals or name not in known:
@@ -135,24 +142,35 @@ def made(words):
         if name in values:
             raise Undone(f"{name} is named twice")
         values[name] = value
-    length = int(values.pop("length", LENGTHS[-1])) if values.get("length", "0").isdigit() else 0
-    if length not in LENGTHS:
-        raise Undone(f"length: START has {' or '.join(map(str, LENGTHS))} bytes")
+    try:
+        length = number(values.pop("length", str(LONGEST)).encode(), MOST)
+    except NoNumber as why:
+        raise Undone(f"length: {why}") from None
+    fields, end = fitting(length)
     data = bytearray(length)
-    for name, place, size, (_, write, _), default in FIELDS:
-        if place + size <= length:
-            data[place:place + size] = write(name, values.get(name, default))
-        elif name in values:
-            raise Undone(f"{name}: a START of {length} bytes has no such field")
+    for name, place, size, (_, write, _), default in fields:
+        data[place:place + size] = write(name, values.pop(name, default))
+    if "rest" in values or end < length:
+        data[end:] = octets(length - end)[1]("rest", values.pop("rest", "00" * (length - end)))
+    if values:
+        raise Undone(f"{next(iter(values))}: a START of {length} bytes has no such field")
     return bytes(data)
 
 
 def told(data):
     """The fields of bytes, as `made` takes them."""
-    if len(data) not in LENGTHS:
-        raise Undone(f"{len(data)} bytes are no START; it has {' or '.join(map(str, LENGTHS))}")
-    fields = [f"{name}={read(data[place:place + size])}" for name, place, size, (_, _, read), _ in FIELDS if place + size <= len(data)]
-    return fields + [f"length={len(data)}"]
+    fields, end = fitting(len(data))
+    lines = []
+    for name, place, size, (_, write, read), _ in fields:
+        value = read(data[place:place + size])
+        try:
+            whole = write(name, value) == data[place:place + size]
+        except Undone:
+            whole = False
+        lines.append(f"{name}={value}" if whole else f"{name} is no value that can be named: {data[place:place + size].hex().upper()}")
+    if end < len(data):
+        lines.append(f"rest={data[end:].hex().upper()}")
+    return lines + [f"length={len(data)}"]
 
 
 def asked_of_the_kernel(data):
@@ -168,7 +186,7 @@ def main(asked):
     if asked.get("--fields"):
         for name, place, size, (form, _, _), default in FIELDS:
             voice.line(f"{name}={default}  bytes {place} to {place + size - 1}: {form}")
-        return voice.line(f"length={LENGTHS[-1]}  {' or '.join(map(str, LENGTHS))}")
+        return voice.line(f"length={LONGEST}  how many bytes START has, at most {MOST}")
     if not words:
         raise Undone("no field and no bytes (--help)")
     if words[0] == "START":

@@ -154,6 +154,19 @@ class AtOnce(Trial):
             self.check(self.bin("campaign", "B", "one"), 2, err="another process is adding to it", no_out="entered")
         self.check(self.bin("campaign", "B", "one"), 1, out="TOTAL 8")
 
+    def test_the_program_holds_the_lock_too(self):
+        """Where its front is killed, the next one waits until the program has ended."""
+        from lab import books, programs
+        from lab.words import Undone
+        name = os.fsencode(self.folder / "B.book")
+        with books.locked(name) as lock:
+            talk = programs.Talk(books.words() + [name, "add", "-"], keep=(lock,))
+            self.assertEqual(talk.ask(b"1 PASS 3 0 0\n"), b"entered\n")
+        with self.assertRaises(Undone):
+            books.take_lock(name, time.monotonic())
+        talk.close()
+        os.close(books.take_lock(name, time.monotonic()))
+
     def make(self, name):
         (self.folder / name).mkdir()
         return self.folder / name
@@ -230,17 +243,15 @@ class Books(Trial):
 
 class Faults(Trial):
     def test_a_file_size_limit(self):
-        self.tapes("one", 12)
-        done = self.bin("campaign", "B", "one", preexec_fn=limited(3 * BLOCK + 100))
-        self.assertEqual(done.status, 2, done)
-        self.assertNotIn(b"Success", done.err)
-        said = done.out.count(b": entered: ")
+        self.tapes("one", 40)
+        done = self.bin("campaign", "B", "one", preexec_fn=limited(19 * BLOCK + 100))
+        self.check(done, 2, err="only a part of the block could be stored", no_err="Success")
+        self.assertEqual(done.out.count(b": entered: "), 19)
         book = self.folder / "B/0001.book"
-        if book.exists() and book.stat().st_size % BLOCK:
-            self.check(self.bin("book", book, "check"), 2, err="truncate")
-            os.truncate(book, book.stat().st_size // BLOCK * BLOCK)
-        self.assertEqual(self.counts("B")[4], said)
-        self.check(self.bin("campaign", "B", "one"), 1, out="TOTAL 12")
+        self.check(self.bin("campaign", "B", "one"), 2, err=f"truncate -s {19 * BLOCK}")
+        os.truncate(book, 19 * BLOCK)
+        self.assertEqual(self.counts("B")[4], 19)
+        self.check(self.bin("campaign", "B", "one"), 1, out="TOTAL 40")
 
     def test_output_that_is_lost(self):
         self.tapes("one", 4)
@@ -249,38 +260,42 @@ class Faults(Trial):
         self.check(self.bin("campaign", "B", "one"), 1, out="TOTAL 4")
 
     def test_killed_at_any_moment(self):
-        """Every entry that was said to be entered is in a book, at most one more is, and the same command goes on."""
-        self.tapes("one", 400)
-        chance, killed, said = random.Random(36), 0, set()
-        for trial in range(KILLS):
-            process = self.start("campaign", "B", "one", start_new_session=True)
-            time.sleep(chance.uniform(0.15, 0.7))
-            os.killpg(process.pid, signal.SIGKILL)
+        """Every entry that was said to be entered is in a book, for each kill at most one more is, and the same command goes on."""
+        self.tapes("0", 50)
+        began = time.monotonic()
+        self.check(self.bin("campaign", "B", "0"), 1, out="TOTAL 50")
+        whole = time.monotonic() - began
+        chance, killed, between, said = random.Random(36), 0, 0, set(range(1, 51))
+        for trial in range(1, KILLS + 1):
+            self.tapes(str(trial), 50, first=50 * trial + 1)
+            process = self.start("campaign", "B", str(trial), start_new_session=True)
+            time.sleep(chance.uniform(0.5, 1.1) * whole)
+            process.kill()
             out = process.communicate()[0]
             killed += process.returncode == -signal.SIGKILL
-            new = {line.split()[0] for line in out.split(b"\n")[:-1] if b": entered: " in line}
-            self.assertFalse(new & said, "entered twice")
+            new = {int(line.split()[0]) for line in out.split(b"\n")[:-1] if b": entered: " in line}
+            between += 0 < len(new) < 50
             said |= new
-            book = self.folder / "B/0001.book"
-            if not book.exists():
-                continue
-            self.wait_free()
-            listed = self.bin("book", book, "list")
-            self.assertEqual(listed.status, 0, listed)
-            held = {line.split()[0] for line in listed.out.splitlines()}
-            self.assertLessEqual(said, held)
-            self.assertLessEqual(len(held - said), 1 + trial)
-            if len(held) == 400:
-                break
+            held = self.held()
+            self.assertLessEqual(said, held, "what was said to be entered is not in a book")
+            self.assertLessEqual(len(held - said), 1)
             said = held
-        self.assertGreater(killed, 20, "it was not killed often enough")
-        self.check(self.bin("campaign", "B", "one"), 1, out="TOTAL 400")
-        done = self.bin("campaign", "B", "one")
-        self.assertEqual(done.out.count(b"already entered"), 400)
-        self.assertEqual(subprocess.run(["sha256sum", "-c", "--quiet", "B/0001.sha256"], cwd=self.folder).returncode, 0)
+        self.assertGreater(killed, KILLS // 4, "it was not killed often enough")
+        self.assertGreater(between, 0, "it was never killed between two entries")
+        folders = [str(trial) for trial in range(KILLS + 1)]
+        self.check(self.bin("campaign", "B", *folders), 1, out=f"TOTAL {50 * (KILLS + 1)}")
+        done = self.bin("campaign", "B", *folders)
+        self.assertEqual((done.out.count(b"already entered"), done.out.count(b": entered: ")), (50 * (KILLS + 1), 0))
+        for part in sorted((self.folder / "B").glob("*.sha256")):
+            self.assertEqual(subprocess.run(["sha256sum", "-c", "--quiet", part], cwd=self.folder).returncode, 0)
 
-    def wait_free(self):
-        """book_file, which is not killed with us, ends with its input."""
+    def held(self):
+        """The numbers in all books, when whoever was adding has ended."""
         from lab import books
-        with books.locked(os.fsencode(self.folder / "B/0001.book"), wait=5):
-            time.sleep(0.02)
+        numbers = set()
+        for book in sorted((self.folder / "B").glob("*.book")):
+            with books.locked(os.fsencode(book), wait=5):
+                time.sleep(0.05)
+            listed = self.check(self.bin("book", book, "list"), 0)
+            numbers |= {int(line.split()[0]) for line in listed.out.splitlines()}
+        return numbers
