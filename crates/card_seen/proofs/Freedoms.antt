@@ -17,11 +17,13 @@ use Rattle.tlv_list.specs.Place.{dataField}
 use Rattle.answer_common.specs.Answer.{sizeBad, only, outer, tagged, valueUnder, isOne, inside, outerBad}
 use Rattle.answer_common.specs.Content.{recordNames}
 use Rattle.answer_common.specs.Named.{membersIn, listed, named}
+use Rattle.answer_common.proofs.Present.{by-name}
 use Rattle.answer_select.specs.Select.{innerNames}
+use Rattle.answer_cryptogram.specs.Cryptogram.{mandatoryNames}
 use Rattle.card_seen.specs.Seen.{Place, selection, options, reading, generation, namesAt, expectedAt, apartOptions, ifLeft}
 use Rattle.card_seen.specs.Seen.{apartCryptogram, inForms, objectsAt, Shown, shownAs, shown, namedAt, statusOf, Seen}
 use Rattle.card_seen.specs.Seen.{seen}
-use Rattle.card_seen.specs.Order.{Rearranged}
+use Rattle.card_seen.specs.Order.{beforeOthers, standing, Rearranged, EmptyIssuerData}
 use Rattle.card_seen.specs.Dressing.{templateAt, filler, ignored, inner, Dressed, Pair}
 use Rattle.card_seen.proofs.Order.{swapped}
 
@@ -216,6 +218,18 @@ pub options-apart : Pair options (0x80 ∷ 0x06 ∷ (values ++ ok)) template
 unfolding viewed alike
 options-apart = record { same = refl; other = other-bytes _ _ refl }
 
+-- joined, and a template with the AFL before the AIP (beyond 02)
+abbrev profile : Shown
+profile = record { tag = 0x82; value = 0x08 ∷ 0x00 ∷ []; members = [] }
+
+abbrev locator : Shown
+locator = record { tag = 0x94; value = 0x08 ∷ 0x01 ∷ 0x02 ∷ 0x00 ∷ []; members = [] }
+
+pub options-other-order : Rearranged options (0x80 ∷ 0x06 ∷ (values ++ ok))
+    (0x77 ∷ 0x0A ∷ 0x94 ∷ 0x04 ∷ 0x08 ∷ 0x01 ∷ 0x02 ∷ 0x00 ∷ 0x82 ∷ 0x02 ∷ 0x08 ∷ 0x00 ∷ ok)
+unfolding viewed
+options-other-order = record { size = refl; status = refl; form = refl; objects = λ name. swapped name profile locator [] }
+
 -- ---- GENERATE AC, the first and the second: 9F27, 9F36, 9F26, with 9F10 and without
 
 abbrev three : List ℕ
@@ -233,3 +247,20 @@ pub cryptogram-apart : Pair generation (0x80 ∷ 0x0C ∷ (threeValues ++ (0xAA 
     (0x77 ∷ 0x18 ∷ (three ++ (0x9F ∷ 0x10 ∷ 0x01 ∷ 0xAA ∷ ok)))
 unfolding viewed alike
 cryptogram-apart = record { same = refl; other = other-bytes _ _ refl }
+
+-- joined values without issuer data, and a template with an empty 9F10 (beyond 02)
+pub empty-issuer-data : EmptyIssuerData (0x80 ∷ 0x0B ∷ (threeValues ++ ok)) (0x77 ∷ 0x17 ∷ (three ++ (0x9F ∷ 0x10 ∷ 0x00 ∷ ok)))
+unfolding viewed standing beforeOthers
+empty-issuer-data = record {
+  size = refl;
+  status = refl;
+  form = refl;
+  others =
+      by-name
+      (λ (name : ℕ).
+      standing name (namedAt generation (0x80 ∷ 0x0B ∷ (threeValues ++ ok)))
+      ≡ standing name (namedAt generation (0x77 ∷ 0x17 ∷ (three ++ (0x9F ∷ 0x10 ∷ 0x00 ∷ ok)))))
+      mandatoryNames (refl, (refl, (refl, tt)));
+  none = refl;
+  empty = refl;
+}

@@ -11,6 +11,7 @@ pub mod SideBySide
 pub mod Beginnings
 pub mod Least
 pub mod Order
+pub mod IssuerData
 pub mod Dressing
 pub mod Freedoms
 pub mod Theorem

@@ -35,7 +35,7 @@ use Rattle.card_seen.proofs.Records.{namedBy, recordBy}
 use Rattle.card_seen.proofs.Cryptograms.{cryptogramGiven, linesBy as cryptogramLines, cryptogramBy}
 use Rattle.card_seen.proofs.Turning.{withTold, turnBy, turn-seen}
 
-lookupOf : Standing → Lookup
+unfoldable pub lookupOf : Standing → Lookup
 lookupOf nowhere = absent
 lookupOf (alone t) = once (t .value)
 lookupOf repeated = twice
@@ -51,7 +51,7 @@ met-standing t nowhere = refl
 met-standing t (alone u) = refl
 met-standing t repeated = refl
 
-under-standing : (name : ℕ) (ts : List Shown) → under ts name ≡ lookupOf (standing name ts)
+pub under-standing : (name : ℕ) (ts : List Shown) → under ts name ≡ lookupOf (standing name ts)
 unfolding under back lookup standing lookupOf
 under-standing name [] = refl
 under-standing name (t ∷ ts) =

@@ -8,6 +8,7 @@ use Rattle.card_seen.proofs.SideBySide.{as-written}
 use Rattle.card_seen.proofs.Beginnings.{beginnings}
 use Rattle.card_seen.proofs.Least.{least}
 use Rattle.card_seen.proofs.Order.{in-any-order}
+use Rattle.card_seen.proofs.IssuerData.{as-none}
 use Rattle.card_seen.proofs.Dressing.{dressed-seen, joined-again-seen, options-forms, cryptogram-forms}
 
 pub theorem : Influence
@@ -22,6 +23,7 @@ theorem = record {
   same-beginning = λ es fs side. beginnings side;
   good = least;
   any-order = in-any-order;
+  empty-issuer-data = as-none;
   dressed = dressed-seen;
   joined-again = joined-again-seen;
   options-forms = options-forms;

@@ -16,7 +16,7 @@ use Rattle.card_seen.specs.Seen.{Place, options, generation, apartOption
 use Rattle.card_seen.specs.Given.{placeOf, Given, givenTo, butAnswers, Same}
 use Rattle.card_seen.specs.SideBySide.{reasonIn, SideBySide, Alongside}
 use Rattle.card_seen.specs.Used.{usedOf}
-use Rattle.card_seen.specs.Order.{Rearranged}
+use Rattle.card_seen.specs.Order.{Rearranged, EmptyIssuerData}
 use Rattle.card_seen.specs.Dressing.{Dressed, JoinedAgain, OtherForm}
 
 pub record Influence : Type 0 where
@@ -41,6 +41,8 @@ pub record Influence : Type 0 where
       → turn w a ≡ turn w b
   -- 6. Nor does the order of the named objects matter
   pub any-order : (w : Asked) (a b : List ℕ) → Rearranged (placeOf w) a b → turn w a ≡ turn w b
+  -- nor, at GENERATE AC, whether an empty 9F10 stands there or none
+  pub empty-issuer-data : (w : Asked) (a b : List ℕ) → placeOf w ≡ generation → EmptyIssuerData a b → turn w a ≡ turn w b
   -- The freedoms, wherever they are taken: '00' bytes, objects that are not named and length forms, between members and around the one
   -- object; joined values written another way; and the other form, 77 for 80
   pub dressed : (p : Place) (a b : List ℕ) → Dressed p a b → seen p a ≡ seen p b
