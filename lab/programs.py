@@ -237,8 +237,9 @@ def version(name):
     if stamp is None or not os.path.exists(path_of(name)):
         return f"{name}: not built"
     why = stale(name)
-    return (f"{name}: commit {stamp['commit']}{', clean' if stamp['clean'] else ', with changes'}, {stamp['kit']}, sha256 {stamp['sha256']}, "
-            f"{stamp['check']}" + (f"; not fresh: {why}" if why else ""))
+    state = "clean" if stamp["clean"] else "with changes"
+    return (f"{name}: commit {stamp['commit']}, {state}, {stamp['kit']}, sha256 {stamp['sha256']}, {stamp['check']}"
+            + (f"; not fresh: {why}" if why else ""))
 
 
 def versions(names):

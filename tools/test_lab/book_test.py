@@ -11,8 +11,11 @@ LINE = b"PASS 3 0 0\n"
 class Book(Trial):
     def book(self, name="B.book", count=3):
         for k in range(1, count + 1):
-            self.check(self.bin("book", "--", name, "add", str(k), given=LINE), 0, out="entered\n")
+            self.check(self.bin("book", *self.named(name), "add", str(k), given=LINE), 0, out="entered\n")
         return self.folder / name
+
+    def named(self, name):
+        return ("--", name) if name.startswith("-") else (name,)
 
     def test_what_is_shown(self):
         self.book()
@@ -66,13 +69,13 @@ class Book(Trial):
             book = self.book(name)
             with open(book, "ab") as file:
                 file.write(b"x" * 100)
-            done = self.check(self.bin("book", "--", name, "check"), 2, err="truncate -s 1536 -- ")
-            self.check(self.bin("book", "--", name, "add", "9", given=LINE), 2, no_out="entered")
+            done = self.check(self.bin("book", *self.named(name), "check"), 2, err="truncate -s 1536 -- ")
+            self.check(self.bin("book", *self.named(name), "add", "9", given=LINE), 2, no_out="entered")
             order = done.err.decode().split("cut it off with: ")[1].split("  and enter")[0]
             self.assertEqual(shlex.split(order)[-1], name)
             self.assertEqual(subprocess.run(["sh", "-c", order], cwd=self.folder).returncode, 0)
-            self.check(self.bin("book", "--", name, "check"), 0, out="good 3\n")
-            self.check(self.bin("book", "--", name, "add", "9", given=LINE), 0, out="entered")
+            self.check(self.bin("book", *self.named(name), "check"), 0, out="good 3\n")
+            self.check(self.bin("book", *self.named(name), "add", "9", given=LINE), 0, out="entered")
 
     def test_a_last_block_of_full_length_that_is_torn(self):
         book = self.book()

@@ -48,7 +48,8 @@ class OneNumber(Trial):
         self.tape("t-1.tape", PASS)
         self.tape("t-2.tape", PASS)
         self.check(self.bin("campaign", "B", "t-1.tape"), 0, out=": entered: t-1.tape")
-        self.check(self.bin("campaign", "B", "t-1.tape", "t-2.tape"), 0, out=("already entered: t-1.tape", ": entered: t-2.tape", "TOTAL 2"))
+        done = self.bin("campaign", "B", "t-1.tape", "t-2.tape")
+        self.check(done, 0, out=("already entered: t-1.tape", ": entered: t-2.tape", "TOTAL 2"))
 
     def test_an_entry_whose_tape_is_not_known(self):
         self.tape("t-1.tape", PASS)
@@ -131,11 +132,10 @@ class NothingAsked(Trial):
 
 class AtOnce(Trial):
     def test_two_campaigns_on_one_folder(self):
-        self.tapes("one", 40)
-        self.tapes("two", 40, first=101)
-        words, second = 0, []
+        tapes = [sorted(self.tapes("one", 40).glob("*.tape")), sorted(self.tapes("two", 40, first=101).glob("*.tape"))]
+        words = 0
         for trial in range(6):
-            both = [self.start("campaign", f"B{trial}", folder) for folder in ("one", "two")]
+            both = [self.start("campaign", f"B{trial}", *some) for some in tapes]
             done = [(process.communicate(), process.returncode) for process in both]
             for (out, err), status in done:
                 if status == 2:
@@ -238,7 +238,8 @@ class Books(Trial):
         (self.folder / "t-2.tape").mkdir()
         os.mkfifo(self.folder / "t-3.tape")
         done = self.bin("campaign", "B", "t-1.tape", "2=t-2.tape", "t-3.tape", "9=missing.tape", "t-4.tape", seconds=60)
-        self.check(done, 2, out=("1 PASS", "4 UNREADABLE", "TOTAL 2"), err=("t-2.tape: is a folder", "t-3.tape: is a named pipe", "missing.tape: "))
+        self.check(done, 2, out=("1 PASS", "4 UNREADABLE", "TOTAL 2"),
+                   err=("t-2.tape: is a folder", "t-3.tape: is a named pipe", "missing.tape: "))
 
 
 class Faults(Trial):

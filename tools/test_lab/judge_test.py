@@ -15,9 +15,11 @@ from trying import FAIL, INCONCLUSIVE, PASS, ROOT, SAMPLES, UNREADABLE, Trial, c
 
 EXPECTED = {PASS: "PASS 12 0 0", FAIL: "FAIL 0 0 0", INCONCLUSIVE: "INCONCLUSIVE 9 0 0", UNREADABLE: "UNREADABLE 4 3 0"}
 MANY = 10000
-ODD_NAMES = [b"with space.tape", b" lead.tape", b"trail .tape", b"-dash.tape", b"--jobs.tape", b"it's \"quoted\".tape", b"$HOME `id`.tape",
-             b"line\nfeed.tape", b"\nPASS 1 0 0.tape", b"back\\slash.tape", b"carriage\rreturn.tape", b"tab\t.tape", b"not utf-8 \xff\xfe.tape",
-             "umlaut ä.tape".encode(), "日本.tape".encode(), b"\x1b[31mred.tape", b"x" * 240 + b".tape", b"a;b&c|d.tape", b"*.tape", b"%s%n.tape"]
+ODD_NAMES = [b"with space.tape", b" lead.tape", b"trail .tape", b"-dash.tape", b"--jobs.tape", b"it's \"quoted\".tape",
+             b"$HOME `id`.tape", b"line\nfeed.tape", b"\nPASS 1 0 0.tape", b"back\\slash.tape", b"carriage\rreturn.tape", b"tab\t.tape",
+             b"not utf-8 \xff\xfe.tape",
+             "umlaut ä.tape".encode(), "日本.tape".encode(), b"\x1b[31mred.tape", b"x" * 240 + b".tape", b"a;b&c|d.tape", b"*.tape",
+             b"%s%n.tape"]
 
 
 class Lines(Trial):
@@ -109,7 +111,8 @@ class BadFiles(Trial):
         self.assertEqual(len(done.lines()), 1)
         for name in names[:-1]:
             self.assertIn(f"{name}: ", done.err.decode())
-        self.check(self.bin("judge", "folder.tape", "good.tape", seconds=30), 2, out="good.tape PASS 12 0 0\n", err="folder.tape: no tapes in")
+        done = self.bin("judge", "folder.tape", "good.tape", seconds=30)
+        self.check(done, 2, out="good.tape PASS 12 0 0\n", err="folder.tape: no tapes in")
 
     def test_a_file_that_may_not_be_read(self):
         path = self.tape("closed.tape")
@@ -305,7 +308,7 @@ class Lost(Trial):
         self.tapes("one", 800)
         (self.folder / "small").mkdir()
         words = ["unshare", "-rm", "sh", "-c", script, "sh", str(self.folder / "small"), str(ROOT / "bin/judge"), str(self.folder / "one")]
-        probe = subprocess.run(["unshare", "-rm", "sh", "-c", 'mount -t tmpfs none "$1"', "sh", str(self.folder / "small")], capture_output=True)
+        probe = subprocess.run([*words[:3], "-c", 'mount -t tmpfs none "$1"', *words[5:7]], capture_output=True)
         if probe.returncode:
             self.skipTest("no file system can be mounted here: " + probe.stderr.decode().strip())
         done = subprocess.run(words, capture_output=True, timeout=120)
@@ -328,8 +331,8 @@ class Lost(Trial):
 
     def test_an_answer_that_has_not_its_form(self):
         from lab import findings
-        for line in (b"PASS 1 0 0", b"PASS 1 0 0 \n", b"PASS 1 0\n", b"PASS 01 0 0\n", b" PASS 1 0 0\n", b"PASSED 1 0 0\n", b"PASS 1 0 0\n\n",
-                     b"PASS 1 0 -0\n", b"PASS 1 0 0 0\n", b"", b"\n", b"PASS 1 0 " + b"9" * 21 + b"\n"):
+        for line in (b"PASS 1 0 0", b"PASS 1 0 0 \n", b"PASS 1 0\n", b"PASS 01 0 0\n", b" PASS 1 0 0\n", b"PASSED 1 0 0\n",
+                     b"PASS 1 0 0\n\n", b"PASS 1 0 -0\n", b"PASS 1 0 0 0\n", b"", b"\n", b"PASS 1 0 " + b"9" * 21 + b"\n"):
             self.assertIsNone(findings.finding(line), line)
         self.assertEqual(findings.finding(b"PASS 1 0 0\n"), ("PASS", 1, 0, 0))
 

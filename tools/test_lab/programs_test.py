@@ -92,7 +92,8 @@ class Play(Trial):
 class Run(Trial):
     def test_any_program(self):
         self.check(self.bin("run", "read_atr", given=b"COLD 3B8001\n"), 0, out="REFUSED TB1-ABSENT@2 TB3-ABSENT@3 TCK-ABSENT@3")
-        self.check(self.bin("run", "exchange_t0", given=b"COMMAND 00A4040002616200\nCARD A4\nCARD 6103C0A1A2A39000\n"), 0, out="ANSWER A1A2A39000")
+        lines = b"COMMAND 00A4040002616200\nCARD A4\nCARD 6103C0A1A2A39000\n"
+        self.check(self.bin("run", "exchange_t0", given=lines), 0, out="ANSWER A1A2A39000")
         self.check(self.bin("run", "no_such"), 2, err="no_such is no program")
         self.check(self.bin("run", "slices"), 2, err="slices is no program")
         self.check(self.bin("run"), 2, err="no program is named")
@@ -145,7 +146,8 @@ class Start(Trial):
     def test_bad_fields(self):
         for words in (("amount=1.5",), ("amount=-1",), ("amount=1e3",), ("amount=9999999999999",), ("currency=GBP",), ("date=30.06.2026",),
                       ("date=2026-6-3",), ("type=256",), ("what=1",), ("amount",), ("amount=1.00", "amount=1.00"), ("aid=" + "A0" * 17,),
-                      ("length=x",), ("length=497",), ("rest=00",), ("capabilities=E0F8C8", "length=74"), (), ("zz",), ("version=1",), ("denial=00",)):
+                      ("length=x",), ("length=497",), ("rest=00",), ("capabilities=E0F8C8", "length=74"), (),
+                      ("zz",), ("version=1",), ("denial=00",)):
             self.check(self.bin("start", *words), 2, no_out="START")
 
 
@@ -160,14 +162,14 @@ class Recover(Trial):
         from lab.commands.recover import summary
         good = [b"BLOCK 0 0 7 1 00\n", b"END 1 0\n"]
         self.assertEqual(summary(good), (["1 blocks found in 1 steps, 0 bytes after them", "session 7: blocks 0"], True))
-        for lines in (good[:1], [good[0], b"END 1 0"], [good[0], b"END 1"], [good[0], b"END 1 \n"], [b"BLOCK 0 0 7 1 0\n", good[1]], [good[1], good[0]],
-                      [], [b"BLOCK 0 0 7 1\n", good[1]], good + good, [b"BLOCK 3 0 7 1 00\n", good[1]]):
+        for lines in (good[:1], [good[0], b"END 1 0"], [good[0], b"END 1"], [good[0], b"END 1 \n"], [b"BLOCK 0 0 7 1 0\n", good[1]],
+                      [good[1], good[0]], [], [b"BLOCK 0 0 7 1\n", good[1]], good + good, [b"BLOCK 3 0 7 1 00\n", good[1]]):
             self.assertIsNone(summary(lines), lines)
 
     def test_bad_files_do_not_stop_the_others(self):
         os.mkfifo(self.folder / "pipe")
-        self.check(self.bin("recover", "pipe", "missing", ".", PASS, seconds=30), 2, err=("pipe: is a named pipe", "missing: ", ".: is a folder"),
-                   out="12 blocks found")
+        self.check(self.bin("recover", "pipe", "missing", ".", PASS, seconds=30), 2, out="12 blocks found",
+                   err=("pipe: is a named pipe", "missing: ", ".: is a folder"))
 
     def test_output_that_is_lost(self):
         with open("/dev/full", "wb") as full:

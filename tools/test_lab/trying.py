@@ -1,4 +1,5 @@
 """What the tests of the front share: a folder for each, commands started in it, tapes."""
+import contextlib
 import os
 import pathlib
 import resource
@@ -14,6 +15,16 @@ SAMPLES = ROOT / "samples"
 PASS, FAIL, INCONCLUSIVE, UNREADABLE = (SAMPLES / f"{name}.tape" for name in ("approved-offline", "no-such-day", "silent-card", "damaged"))
 # A block of a book that is none: what a tape, a text and random bytes have at their start.
 BLOCK = 512
+
+
+def children(process):
+    """The processes that one has started, and those that these have started."""
+    found = []
+    for task in pathlib.Path("/proc").glob("[0-9]*"):
+        with contextlib.suppress(OSError, IndexError, ValueError):
+            if int((task / "stat").read_text().rpartition(")")[2].split()[1]) == process:
+                found += [int(task.name), *children(int(task.name))]
+    return found
 
 
 class Done:
@@ -49,7 +60,9 @@ class Trial(unittest.TestCase):
         try:
             out, err = process.communicate(given, seconds)
         except subprocess.TimeoutExpired:
-            process.kill()
+            for ended in (process, *children(process.pid)):
+                with contextlib.suppress(ProcessLookupError):
+                    os.kill(ended if isinstance(ended, int) else ended.pid, signal.SIGKILL)
             process.communicate()
             self.fail(f"bin/{name} did not end within {seconds} s")
         return Done(process.returncode, out, err)

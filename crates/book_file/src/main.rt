@@ -6,9 +6,9 @@
 //     book_file FILE list          an entry a line: tape number, verdict, place, code
 //     book_file FILE check         whether the file is a book
 //
-// Out: `entered`, `no verdict` (`no number` for one of many), `already entered` or `full`; counts; entries; `good` and the number of blocks. Where the file is no book,
-// `refused`, the block and why, whatever was asked. A file that is not there is an empty book for `add` and an error for the others.
-// What cannot be read or written is said on standard error, and then nothing on standard output.
+// Out: `entered`, `no verdict` (`no number` for one of many), `already entered` or `full`; counts; entries; `good` and the number of
+// blocks. Where the file is no book, `refused`, the block and why, whatever was asked. A file that is not there is an empty book for `add`
+// and an error for the others. What cannot be read or written is said on standard error, and then nothing on standard output.
 mod ask;
 mod many;
 mod one;
