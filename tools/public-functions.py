@@ -28,6 +28,7 @@ OTHERWISE = {
 # Those that fit more than one answer: docs/EXCEPTIONS.md names each and says why.
 EXCEPTIONS = {
     "text_input read_line": "all: of what comes from standard input no contract can speak",
+    "judge_reading judge_file": "all: of what comes from a file no contract can speak",
 }
 
 HEAD = """# Every public function
