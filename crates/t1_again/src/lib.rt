@@ -1,4 +1,5 @@
 // What goes out after a block that is invalid or not allowed: an R-block, or a block of ours once more; or the end.
+use t1_block::What;
 use t1_block::pcb_of_r;
 use t1_state::Act;
 use t1_state::Counts;
@@ -6,6 +7,7 @@ use t1_state::End;
 use t1_state::Last;
 use t1_state::Phase;
 use t1_state::Refusal;
+use t1_state::Role;
 use t1_state::State;
 use t1_state::Turn;
 use t1_state::change::at_phase;
@@ -14,6 +16,7 @@ use t1_state::limits::information_limit;
 use t1_state::limits::same_limit;
 ghost use mathlib.Core.Path.{_≡_};
 ghost use Rattle.t1_again.specs.Again.{goesOut, endedBy, refusedAs, readyFor, sameAgain, informationAgain, wrong as wrongIn};
+ghost use Rattle.t1_again.specs.Again.{isSize, asksSize, staysOpen, exhausted as exhaustedIn};
 
 pub fn goes_out(s: State) -> Turn
     ensures { λ r. ⌜ r ≡ goesOut s ⌝ }
@@ -71,7 +74,54 @@ pub fn same_again(s: State) -> Turn
         };
         return goes_out(sends(s, last, more));
     }
+    exhausted(s)
+}
+
+// A card's request for a size stays open; anything else is the end.
+fn exhausted(s: State) -> Turn
+    ensures { λ r. ⌜ r ≡ exhaustedIn s ⌝ }
+{
+    let role = s.role;
+    let last = s.last;
+    if stays_open(role, last) {
+        return Turn {
+            state: s,
+            act: Act::Nothing,
+        };
+    }
     ended_by(s, End::Limit)
+}
+
+fn stays_open(role: Role, last: Last) -> bool
+    ensures { λ r. ⌜ r ≡ staysOpen role last ⌝ }
+{
+    match role {
+        Role::Terminal => false,
+        Role::Card => asks_size(last),
+    }
+}
+
+fn asks_size(last: Last) -> bool
+    ensures { λ r. ⌜ r ≡ asksSize last ⌝ }
+{
+    match last {
+        Last::Request(w, _) => is_size(w),
+        Last::Nothing => false,
+        Last::Information => false,
+        Last::Ready(_) => false,
+        Last::Response(_, _) => false,
+    }
+}
+
+fn is_size(w: What) -> bool
+    ensures { λ r. ⌜ r ≡ isSize w ⌝ }
+{
+    match w {
+        What::Resynch => false,
+        What::Ifs => true,
+        What::Abort => false,
+        What::Wtx => false,
+    }
 }
 
 // The I-block once more.

@@ -24,7 +24,7 @@ use Rattle.t1_state.specs.declared.Last.{Last}
 use Rattle.t1_state.specs.declared.Last.the-variants.{Nothing, Information, Ready, Request, Response}
 use Rattle.t1_state.specs.declared.State.{State}
 use Rattle.t1_state.specs.declared.Turn.{Turn}
-use Rattle.t1_again.specs.Again.{readyFor, sameAgain, informationAgain, wrongAfter, wrong, forRole}
+use Rattle.t1_again.specs.Again.{readyFor, exhausted, sameAgain, informationAgain, wrongAfter, wrong, forRole}
 use Rattle.t1_line.specs.Line.{answers, onRequest, sendsPiece, sendsNext, equal, onReady, keeps, onInformation, onKind, onLine}
 use Rattle.t1_asking.specs.Asking.{settled, askedInstead, onResponse, askedKind, onAsking}
 use Rattle.t1_turns.specs.Turns.{byPhase, onBlock, silentIn, onSilence, asksFor, helloIn}
@@ -52,9 +52,13 @@ module _ (s : State) where
   both Terminal t c p q = p
   both Card t c p q = q
 
+  exhausted-quiet : Quiet s (exhausted s)
+  unfolding exhausted
+  exhausted-quiet = picked (Quiet s) _ _ _ (λ e. record { kept = refl; same = refl }) (λ e. record { kept = refl; same = refl })
+
   same-quiet : Quiet s (sameAgain s)
   unfolding sameAgain
-  same-quiet = picked (Quiet s) _ _ _ (λ e. record { kept = refl; same = refl }) (λ e. record { kept = refl; same = refl })
+  same-quiet = picked (Quiet s) _ _ _ (λ e. record { kept = refl; same = refl }) (λ e. exhausted-quiet)
 
   again-quiet : Quiet s (informationAgain s)
   unfolding informationAgain

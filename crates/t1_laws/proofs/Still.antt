@@ -17,7 +17,7 @@ use Rattle.t1_state.specs.declared.Last.{Last}
 use Rattle.t1_state.specs.declared.Last.the-variants.{Nothing, Information, Ready, Request, Response}
 use Rattle.t1_state.specs.declared.State.{State}
 use Rattle.t1_state.specs.declared.Turn.{Turn}
-use Rattle.t1_again.specs.Again.{goesOut, readyFor, sameAgain, informationAgain, wrongAfter, wrong}
+use Rattle.t1_again.specs.Again.{goesOut, readyFor, exhausted, sameAgain, informationAgain, wrongAfter, wrong}
 use Rattle.t1.specs.Steps.{keptBy}
 
 -- the number of an R-block that we write, whatever its code
@@ -64,6 +64,22 @@ module _ (x : State) (w : Says x) where
   pub nothing-moved : Still x x
   nothing-moved = record { numbers = refl; received = refl; message = refl; sizes = refl; phase = on refl; says = w }
 
+  exhausted-passes : Passes x (exhausted x)
+  unfolding exhausted keptBy
+  exhausted-passes =
+      picked (Passes x) _ _ _ (λ e. record { still = nothing-moved; keeps = λ inf. refl })
+      (λ e. record {
+        still = record {
+          numbers = refl;
+          received = refl;
+          message = refl;
+          sizes = refl;
+          phase = over refl;
+          says = record { plainly = w .plainly; numbered = w .numbered };
+        };
+        keeps = λ inf. refl;
+      })
+
   same-passes : Passes x (sameAgain x)
   unfolding sameAgain keptBy
   same-passes =
@@ -79,17 +95,7 @@ module _ (x : State) (w : Says x) where
         };
         keeps = λ inf. refl;
       })
-      (λ e. record {
-        still = record {
-          numbers = refl;
-          received = refl;
-          message = refl;
-          sizes = refl;
-          phase = over refl;
-          says = record { plainly = w .plainly; numbered = w .numbered };
-        };
-        keeps = λ inf. refl;
-      })
+      (λ e. exhausted-passes)
 
   pub again-passes : Passes x (informationAgain x)
   unfolding informationAgain keptBy

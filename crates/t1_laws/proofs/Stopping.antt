@@ -1,4 +1,4 @@
--- No block goes out a fourth time, whatever happens; and an end that hears nothing valid stops at the fourth block at the latest.
+-- No block goes out a fourth time, whatever happens: each sending is counted, and none goes out where the count is at its limit.
 -- Assumes nothing.
 use mathlib.Core.Path.{_≡_, refl, sym, ap, subst, _∙_}
 use mathlib.Core.Bool.{Bool, true, false, false≢true}
@@ -27,7 +27,7 @@ use Rattle.t1_state.specs.declared.Last.the-variants.{Nothing, Information, Rea
 use Rattle.t1_state.specs.declared.Counts.{Counts}
 use Rattle.t1_state.specs.declared.State.{State}
 use Rattle.t1_state.specs.declared.Turn.{Turn}
-use Rattle.t1_again.specs.Again.{readyFor, sameAgain, informationAgain, wrongAfter, wrong, forRole}
+use Rattle.t1_again.specs.Again.{readyFor, exhausted, sameAgain, informationAgain, wrongAfter, wrong, forRole}
 use Rattle.t1_line.specs.Line.{answers, onRequest, sendsPiece, sendsNext, onReady, keeps, onInformation, onKind, onLine}
 use Rattle.t1_asking.specs.Asking.{settled, askedInstead, onResponse, askedKind, onAsking}
 use Rattle.t1_turns.specs.Turns.{byPhase, onBlock, silentIn, onSilence, asksFor, helloIn}
@@ -65,6 +65,10 @@ module _ (s : State) (b : Bounded s) where
   for-role Terminal t c p q = p
   for-role Card t c p q = q
 
+  exhausted-keeps : Keeps (exhausted s)
+  unfolding exhausted
+  exhausted-keeps = picked Keeps _ _ _ (λ e. b) (λ e. record { information = b .information; same = b .same })
+
   same-again : Keeps (sameAgain s)
   unfolding sameAgain
   same-again =
@@ -72,7 +76,7 @@ module _ (s : State) (b : Bounded s) where
       (λ e. let below = ltb-true (s .counts .same) (sameLimit (s .role) (s .last)) e in
       let limit = same-limit (s .role) (s .last) in
       record { information = b .information; same = omega arith })
-      (λ e. record { information = b .information; same = b .same })
+      (λ e. exhausted-keeps)
 
   information-again : Keeps (informationAgain s)
   unfolding informationAgain

@@ -1,4 +1,4 @@
--- `same_again` meets its contract: once more, or the end. Assumes nothing.
+-- `same_again` meets its contract: once more, or what follows the last time. Assumes nothing.
 use mathlib.Core.Path.{_≡_, sym, ap, _∙_}
 use lib.Dec.{ltb}
 use borrow.Author.Tests.{lt-ltb, le-ltb}
@@ -21,7 +21,7 @@ returns-2 : tie.Need-returns-2
 unfolding sameAgain
 returns-2 c =
     let tested = c .before in
-    c .ended-by .ensures
+    c .exhausted .ensures
     ∙ sym (pick-no _ _ _ (sym (ap (ltb _) (tested .before .same-limit .ensures .0)) ∙ le-ltb _ _ (tested .if1 .left)))
 
 pub same-again-spec : {M : Type 1} → statement M
