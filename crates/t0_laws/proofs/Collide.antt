@@ -25,10 +25,10 @@ use Rattle.t0_laws.specs.Outcomes.{turned, Bytes}
 use Rattle.t0_laws.proofs.Apart.{status-read, command-kept, ins-accepted}
 use Rattle.t0_laws.proofs.Beginning.{byte-at}
 
-abbrev Accepted : Command → Type 0
+abbrev pub Accepted : Command → Type 0
 Accepted c = (c .ins < 256) × (isStatus (c .ins) ≡ false)
 
-ins-byte : (x : Sent) (c : Command) → c .ins < 256 → insFor x c < 256
+pub ins-byte : (x : Sent) (c : Command) → c .ins < 256 → insFor x c < 256
 unfolding insFor
 ins-byte Case1 c h = h
 ins-byte Case2 c h = h
@@ -36,7 +36,7 @@ ins-byte Case3 c h = h
 ins-byte Case4 c h = h
 ins-byte GetResponse c h = omega arith
 
-stays : (bs : List ℕ) (s : State) → Accepted (s .command) → Accepted (turned s bs .command)
+pub stays : (bs : List ℕ) (s : State) → Accepted (s .command) → Accepted (turned s bs .command)
 unfolding turned
 stays [] s h = h
 stays (b ∷ bs) s h = stays bs (afterByte s b .state) (subst Accepted (sym (command-kept s b)) h)
@@ -59,7 +59,7 @@ module _ (c out : List ℕ) (bytes : Bytes c) where
   in-accepted Three = as-accepted Case3 (lengthByte c)
   in-accepted Four = as-accepted Case4 (lengthByte c)
 
-  accepted : Accepted (begunBy c out .state .command)
+  pub accepted : Accepted (begunBy c out .state .command)
   unfolding begunBy
   accepted = in-accepted (caseOf c)
 

@@ -15,3 +15,5 @@ pub mod Annex
 pub mod Answered
 pub mod Within
 pub mod Collide
+pub mod Counting
+pub mod Waiting

@@ -4,3 +4,4 @@ pub mod Bounds
 pub mod Longest
 pub mod Moves
 pub mod Annex
+pub mod Counting
