@@ -11,3 +11,5 @@ pub mod Still
 pub mod Hearing
 pub mod Lossy
 pub mod Arriving
+pub mod Cases
+pub mod Sendings
