@@ -170,7 +170,7 @@ module _ (m : List ℕ) (some : 1 ≤ length m) (most : length m ≤ messageMost
         says = record { plainly = refl; numbered = λ p e. absurd (let z : _≡_ {A = ℕ} 0 1 = cc in omega arith) };
       }
 
-  holds-first : Says r → takesFields (r .phase) (moreOf (r .message)) ≡ true → r .received ≡ 0 → r .numbers .expected ≡ s .numbers .next
+  pub holds-first : Says r → takesFields (r .phase) (moreOf (r .message)) ≡ true → r .received ≡ 0 → r .numbers .expected ≡ s .numbers .next
       → s .numbers .expected ≡ r .numbers .next
       → Inv m (drop (length m) (zeros messageMost)) (sendsPiece (messageOf (s .sizes .theirs) m) s) r []
   unfolding sendsPiece messageOf

@@ -43,7 +43,7 @@ use Rattle.t1_laws.specs.Stopping.{awaits, isSame}
 use Rattle.t1_laws.specs.Conduct.{listens, fits}
 
 module _ (s : State) (orderly : fits (s .phase) (s .last) ≡ true) (P : Turn → Type 0)
-    (refuses : (why : Refusal) → P (refusedAs why s))
+    (refuses : (why : Refusal) → awaits (s .phase) ≡ false → P (refusedAs why s))
     (ends : (e : End) → awaits (s .phase) ≡ true → P (endedBy e s))
     (stands : s .phase ≡ Asking → s .role ≡ Card → sameLimit (s .role) (s .last) ≤ s .counts .same → P (remains s))
     (readies : (code : ℕ) → listens (s .phase) ≡ true → P (goesOut (readyFor code s)))
@@ -206,24 +206,24 @@ module _ (s : State) (orderly : fits (s .phase) (s .last) ≡ true) (P : Turn �
     every-block b = by (s .phase) refl
       where
         by : (p : Phase) → s .phase ≡ p → P (byPhase p (heardOf b (s .sizes .ours)) (getD b 3 0) (lenOf b) s)
-        by Start e = refuses NotDue
+        by Start e = refuses NotDue (ap awaits e)
         by Asking e = asked-case e (heardOf b (s .sizes .ours)) (getD b 3 0)
-        by Due e = refuses NotDue
+        by Due e = refuses NotDue (ap awaits e)
         by Sent e = line-case (ap listens e) (heardOf b (s .sizes .ours)) (getD b 3 0) (lenOf b)
         by Receiving e = line-case (ap listens e) (heardOf b (s .sizes .ours)) (getD b 3 0) (lenOf b)
-        by Over e = refuses Closed
+        by Over e = refuses Closed (ap awaits e)
 
     pub every-silence : P (onSilence s)
     unfolding onSilence silentIn
     every-silence = by (s .phase) refl
       where
         by : (p : Phase) → s .phase ≡ p → P (silentIn p s)
-        by Start e = refuses NotDue
+        by Start e = refuses NotDue (ap awaits e)
         by Asking e = ends Silence (ap awaits e)
-        by Due e = refuses NotDue
+        by Due e = refuses NotDue (ap awaits e)
         by Sent e = ends Silence (ap awaits e)
         by Receiving e = ends Silence (ap awaits e)
-        by Over e = refuses Closed
+        by Over e = refuses Closed (ap awaits e)
 
 -- what an end does of itself
 module _ (s : State) (P : Turn → Type 0) (refuses : (why : Refusal) → P (refusedAs why s)) where

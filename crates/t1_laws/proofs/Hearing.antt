@@ -26,11 +26,11 @@ use Rattle.t1_laws.proofs.Reading.{kind-i, kind-response}
 use Rattle.t1_laws.proofs.Still.{plain, Says}
 
 -- what is heard of a block: what its control byte says, or that it is not valid
-data Hears (h : Heard) (k : Kind) : Type 0 where
+pub data Hears (h : Heard) (k : Kind) : Type 0 where
   as-it-is : h ≡ Valid k → Hears h k
   as-bad : (c : ℕ) → h ≡ Bad c → Hears h k
 
-hears-any : (b : List ℕ) (most : ℕ) → Hears (heardOf b most) (kindOf (pcbOf b))
+pub hears-any : (b : List ℕ) (most : ℕ) → Hears (heardOf b most) (kindOf (pcbOf b))
 unfolding heardOf
 hears-any b most = picked (λ (h : Heard). Hears h (kindOf (pcbOf b))) _ _ _ (λ e. as-it-is refl) (λ e. as-bad _ refl)
 

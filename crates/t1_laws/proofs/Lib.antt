@@ -13,3 +13,9 @@ pub mod Lossy
 pub mod Arriving
 pub mod Cases
 pub mod Sendings
+pub mod Manner
+pub mod Completing
+pub mod Meeting
+pub mod Messages
+pub mod Talking
+pub mod Schedule

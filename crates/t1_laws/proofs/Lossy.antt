@@ -147,7 +147,7 @@ sent-more Receiving more e f g = false≢true e
 sent-more Over more e f g = false≢true e
 
 module _ (x : State) (w : Says x) where
-  ready-passes : (n : Bool) → n ≡ x .numbers .next → takesFields (x .phase) (moreOf (x .message)) ≡ true → Passes x (onReady n x)
+  pub ready-passes : (n : Bool) → n ≡ x .numbers .next → takesFields (x .phase) (moreOf (x .message)) ≡ true → Passes x (onReady n x)
   unfolding onReady
   ready-passes n e f =
       picked (Passes x) _ _ _
@@ -233,7 +233,7 @@ module _ (m rest : List ℕ) (s r : State) (k : List ℕ) (b : List ℕ) where
         ends final = all-sent m rest s d final
 
   -- a block heard where fields are taken
-  on-line-is : takesFields (r .phase) (moreOf (r .message)) ≡ true → (h : Heard) → heardOf b (r .sizes .ours) ≡ h
+  pub on-line-is : takesFields (r .phase) (moreOf (r .message)) ≡ true → (h : Heard) → heardOf b (r .sizes .ours) ≡ h
       → onBlock b r ≡ onLine h (getD b 3 0) (lenOf b) r
   unfolding onBlock
   on-line-is f h e =

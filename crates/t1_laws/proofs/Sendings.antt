@@ -232,7 +232,7 @@ module _ (s : State) (o : Orderly s) where
   unfolding sendsNext
   next-sound = piece-sound _ (small-piece (s .sizes .theirs) (s .message .at + s .message .size) (s .message .length))
 
-  send-sound : (m : List ℕ) → Sound s (goesOut (sendsPiece (messageOf (s .sizes .theirs) m) s))
+  pub send-sound : (m : List ℕ) → Sound s (goesOut (sendsPiece (messageOf (s .sizes .theirs) m) s))
   unfolding messageOf
   send-sound m = piece-sound _ (small-piece (s .sizes .theirs) 0 (length m))
 
@@ -289,7 +289,7 @@ module _ (s : State) (o : Orderly s) where
         goes = none nothing-shown refl refl refl (λ f. absurd (false≢true f));
       }
 
-  asks-sound : (w : What) (v : ℕ) → Sound s (goesOut (asksFor w v s))
+  pub asks-sound : (w : What) (v : ℕ) → Sound s (goesOut (asksFor w v s))
   unfolding asksFor sentBy blockOf blockFor
   asks-sound w v =
       record {
@@ -301,12 +301,12 @@ module _ (s : State) (o : Orderly s) where
   pub event-sound : (e : Event) → Sound s (turnOf e s)
   unfolding turnOf
   event-sound (block b) =
-      every-block s (o .fit) (Sound s) refused-sound (λ e w. ended-sound e) (λ e f g. remains-sound) ready-sound
+      every-block s (o .fit) (Sound s) (λ why w. refused-sound why) (λ e w. ended-sound e) (λ e f g. remains-sound) ready-sound
       (λ w i h. same-sound _ refl i) again-sound (λ w v e. answer-sound w v s refl refl refl refl refl e)
       (λ v e f. answer-sound Ifs v _ refl refl refl refl refl e) (λ e f. next-sound) (λ more n e f. keeps-sound more n)
       (λ w v e f. settled-sound w v) b
   event-sound silence =
-      every-silence s (o .fit) (Sound s) refused-sound (λ e w. ended-sound e) (λ e f g. remains-sound) ready-sound
+      every-silence s (o .fit) (Sound s) (λ why w. refused-sound why) (λ e w. ended-sound e) (λ e f g. remains-sound) ready-sound
       (λ w i h. same-sound _ refl i) again-sound (λ w v e. answer-sound w v s refl refl refl refl refl e)
       (λ v e f. answer-sound Ifs v _ refl refl refl refl refl e) (λ e f. next-sound) (λ more n e f. keeps-sound more n)
       (λ w v e f. settled-sound w v)

@@ -5,3 +5,4 @@ pub mod Stopping
 pub mod Lossy
 pub mod Conduct
 pub mod Sendings
+pub mod Talks
