@@ -19,3 +19,4 @@ pub mod Meeting
 pub mod Messages
 pub mod Talking
 pub mod Schedule
+pub mod Worked

@@ -6,3 +6,4 @@ pub mod Lossy
 pub mod Conduct
 pub mod Sendings
 pub mod Talks
+pub mod Worked
