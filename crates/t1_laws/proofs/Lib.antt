@@ -20,3 +20,7 @@ pub mod Messages
 pub mod Talking
 pub mod Schedule
 pub mod Worked
+pub mod Exactly
+pub mod Moods
+pub mod Recovery
+pub mod OneFault

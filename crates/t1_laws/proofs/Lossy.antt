@@ -138,7 +138,7 @@ module _ (m rest : List ℕ) (s r : State) (k : List ℕ) where
   sender-still s′ q (whole d e) = whole d e
 
 -- R-blocks and I-blocks that do not come at their time
-sent-more : (p : Phase) (more : Bool) → isSent p ≡ true → takesFields p more ≡ true → more ≡ true → ⊥
+pub sent-more : (p : Phase) (more : Bool) → isSent p ≡ true → takesFields p more ≡ true → more ≡ true → ⊥
 sent-more Start more e f g = false≢true e
 sent-more Asking more e f g = false≢true e
 sent-more Due more e f g = false≢true e

@@ -218,7 +218,7 @@ hears-request (Request v u) x most b e (spoiled f) = (v, bad-heard (heardOf b mo
 hears-request (Response v u) x most b e a = absurd (false≢true e)
 
 -- a request comes to y, or what the line makes of it
-calm : (x y : State) (b : List ℕ) → Says y → takesFields (y .phase) (moreOf (y .message)) ≡ true → isRequest (x .last) ≡ true
+pub calm : (x y : State) (b : List ℕ) → Says y → takesFields (y .phase) (moreOf (y .message)) ≡ true → isRequest (x .last) ≡ true
     → Arrives (blockOf x) (y .sizes .ours) b → Calm y (onBlock b y)
 unfolding onBlock blockOf
 calm x y b w f e a =
@@ -306,10 +306,10 @@ module _ (x y : Side) (b : List ℕ) where
   -- x asks, and y hears it
   module _ (l : Level x y) (asks-x : x .end .phase ≡ Asking) (fit : fits (x .end .phase) (x .end .last) ≡ true)
       (fit′ : fits (y .end .phase) (y .end .last) ≡ true) where
-    is-request : isRequest (x .end .last) ≡ true
+    pub is-request : isRequest (x .end .last) ≡ true
     is-request = subst (λ (p : Phase). fits p (x .end .last) ≡ true) asks-x fit
 
-    y-level : Calm (y .end) yTurn → keepsNone (yTurn .act) ≡ true → yTurn .state .phase ≡ y .end .phase → Level x yAfter
+    pub y-level : Calm (y .end) yTurn → keepsNone (yTurn .act) ≡ true → yTurn .state .phase ≡ y .end .phase → Level x yAfter
     y-level c e p =
         record {
           ears = ap₂ takesFields p (ap moreOf (c .message)) ∙ l .ears;
@@ -339,7 +339,7 @@ module _ (x y : Side) (b : List ℕ) where
             y-stops p (pick-no _ _ _ (ap speaks e)) (ap awaits asks-x) (y-order (ap keepsNone e) (level-order x y l))
 
     -- and what comes back to x
-    x-level : Unmoved (x .end) (xTurn .state) → keepsNone (xTurn .act) ≡ true → Level xAfter y
+    pub x-level : Unmoved (x .end) (xTurn .state) → keepsNone (xTurn .act) ≡ true → Level xAfter y
     x-level u e =
         record {
           ears = l .ears;

@@ -45,7 +45,7 @@ use Rattle.t1_laws.proofs.Meeting.{keepsNone, part-same, whole-same, yT
 over-not : (p : Phase) → p ≡ Over → listens p ≡ true → {A : Type 0} → A
 over-not p e f = absurd (false≢true (sym (ap listens e) ∙ f))
 
-due-not : (p : Phase) → p ≡ Due → listens p ≡ true → {A : Type 0} → A
+pub due-not : (p : Phase) → p ≡ Due → listens p ≡ true → {A : Type 0} → A
 due-not p e f = absurd (false≢true (sym (ap listens e) ∙ f))
 
 module _ (m rest : List ℕ) (s r : State) (k : List ℕ) where
@@ -119,12 +119,12 @@ module _ (m rest : List ℕ) (x y : Side) (b : List ℕ) (g : Going m rest x y) 
           all′ = g .all′;
         }
 
-    spoken : keepsNone (t .act) ≡ true → t .state .phase ≡ y .end .phase → Going m rest x (yAfter x y b)
+    pub spoken : keepsNone (t .act) ≡ true → t .state .phase ≡ y .end .phase → Going m rest x (yAfter x y b)
     spoken e p =
         y-going _ refl (sym (kept-part (t .act) (y .part) (infOf b) e)) (whole-same (t .act) (y .whole) (y .part ++ infOf b) e)
         (ap listens p ∙ y-listens)
 
-    kept : t .act ≡ Keep → t .state .phase ≡ Receiving → Going m rest x (yAfter x y b)
+    pub kept : t .act ≡ Keep → t .state .phase ≡ Receiving → Going m rest x (yAfter x y b)
     unfolding keptBy
     kept e p =
         y-going _ refl (ap (λ (z : Act). partBy z (y .part) (infOf b)) e ∙ sym (ap (λ (z : Act). y .part ++ keptBy z (infOf b)) e))
@@ -138,7 +138,7 @@ module _ (m rest : List ℕ) (x y : Side) (b : List ℕ) (g : Going m rest x y) 
         never-completes m rest (x .end) (y .end) b both k (g .ears) (arrived (x .end) (y .end .sizes .ours) (both .sends .says) b a) n e
     came n e (whole d f) = due-not (y .end .phase) d y-listens
 
-    complete : (n : ℕ) → t .act ≡ Whole n → t .state .phase ≡ Due → Level (yAfter x y b) x
+    pub complete : (n : ℕ) → t .act ≡ Whole n → t .state .phase ≡ Due → Level (yAfter x y b) x
     unfolding keptBy
     complete n e p =
         let c = came n e (g .inv) in
@@ -182,7 +182,7 @@ module _ (m rest : List ℕ) (x y : Side) (b : List ℕ) (g : Going m rest x y) 
     x-sent : (p : Phase) → u .state .phase ≡ p → Stays Sent p
     x-sent p e = subst (Stays Sent) e (sender-stays m rest (u .state) (y .end) (y .part) x-inv y-listens)
 
-    answered : keepsNone (u .act) ≡ true → u .state .phase ≡ x .end .phase → u .state .received ≡ x .end .received
+    pub answered : keepsNone (u .act) ≡ true → u .state .phase ≡ x .end .phase → u .state .received ≡ x .end .received
         → Going m rest (xAfter x y b) y
     answered e p r =
         record {

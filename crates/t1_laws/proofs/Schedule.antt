@@ -43,7 +43,7 @@ use Rattle.t1_laws.proofs.Talking.{clear-terminal, clear-card, to-card,
 
 -- x's turn: a message goes out, or a request
 module _ (x y : Side) (l : Level x y) where
-  within : (m : List ℕ) → between 1 messageMost (length m) ≡ true → (1 ≤ length m) × (length m ≤ messageMost)
+  pub within : (m : List ℕ) → between 1 messageMost (length m) ≡ true → (1 ≤ length m) × (length m ≤ messageMost)
   unfolding between
   within m e =
       let first = first-held _ _ e in
@@ -53,13 +53,12 @@ module _ (x y : Side) (l : Level x y) where
   abbrev sent : List ℕ → Turn
   sent m = goesOut (sendsPiece (messageOf (x .end .sizes .theirs) m) (x .end))
 
-  pub message-out : x .end .phase ≡ Due → (m : List ℕ) → between 1 messageMost (length m) ≡ true
-      → Met (handed m (sent m) x) y (there (blockOf (sent m .state)))
+  pub message-going : x .end .phase ≡ Due → (m : List ℕ) → between 1 messageMost (length m) ≡ true
+      → Going m (drop (length m) (zeros messageMost)) (handed m (sent m) x) y
   unfolding sendsPiece
-  message-out due m e =
+  message-going due m e =
       let w = within m e in
-      sending m (drop (length m) (zeros messageMost))
-      (record {
+      record {
         inv = subst (Inv m (drop (length m) (zeros messageMost)) (sent m .state) (y .end)) (sym (l .part′))
             (holds-first m (w .0) (w .1) (x .end) (y .end) due (l .says) (l .ears) (l .none′) (l .number) (l .step));
         live = refl;
@@ -68,15 +67,19 @@ module _ (x y : Side) (l : Level x y) where
         part = l .part;
         all = ap (λ (ms : List (List ℕ)). ms ++ (m ∷ [])) (l .all);
         all′ = l .all′;
-      }) (to-y refl)
+      }
+
+  pub message-out : x .end .phase ≡ Due → (m : List ℕ) → between 1 messageMost (length m) ≡ true
+      → Met (handed m (sent m) x) y (there (blockOf (sent m .state)))
+  message-out due m e = sending m (drop (length m) (zeros messageMost)) (message-going due m e) (to-y refl)
 
   abbrev asked : What → ℕ → Turn
   asked w v = goesOut (asksFor w v (x .end))
 
-  pub request-out : (w : What) (v : ℕ) → Met (moved (asked w v) x) y (there (blockOf (asked w v .state)))
+  pub request-level : (w : What) (v : ℕ) → Level (moved (asked w v) x) y
   unfolding asksFor
-  request-out w v =
-      asking (record {
+  request-level w v =
+      record {
         ears = l .ears;
         says = l .says;
         number = l .number;
@@ -87,7 +90,11 @@ module _ (x y : Side) (l : Level x y) where
         part′ = l .part′;
         all = l .all;
         all′ = l .all′;
-      }) refl (to-y refl)
+      }
+
+  pub request-out : (w : What) (v : ℕ) → Met (moved (asked w v) x) y (there (blockOf (asked w v .state)))
+  unfolding asksFor
+  request-out w v = asking (request-level w v) refl (to-y refl)
 
 -- an end that takes fields is not to move
 module _ (s : State) where
@@ -318,6 +325,22 @@ always (e ∷ hs) t h =
     (λ f. subst Holds (sym (pick-no _ _ _ f)) (always hs (happens e t) (step-holds t h f e)))
 
 -- both fresh
+pub fresh-level : (ifsc : ℕ) → Level (begun ifsc .terminal) (begun ifsc .card)
+unfolding begun freshEnd
+fresh-level ifsc =
+    record {
+      ears = refl;
+      says = record { plainly = refl; numbered = λ p e. absurd (let z : _≡_ {A = ℕ} 0 1 = cc in omega arith) };
+      number = refl;
+      step = refl;
+      none = refl;
+      none′ = refl;
+      part = refl;
+      part′ = refl;
+      all = refl;
+      all′ = refl;
+    }
+
 pub begun-holds : (ifsc : ℕ) → Holds (begun ifsc)
 unfolding begun freshEnd
 begun-holds ifsc =
@@ -326,18 +349,7 @@ begun-holds ifsc =
       card = fresh-orderly Card 254 ifsc;
       terminal-role = refl;
       card-role = refl;
-      place = starts (record {
-        ears = refl;
-        says = record { plainly = refl; numbered = λ p e. absurd (let z : _≡_ {A = ℕ} 0 1 = cc in omega arith) };
-        number = refl;
-        step = refl;
-        none = refl;
-        none′ = refl;
-        part = refl;
-        part′ = refl;
-        all = refl;
-        all′ = refl;
-      }) refl refl;
+      place = starts (fresh-level ifsc) refl refl;
     }
 
 -- what is due in each place

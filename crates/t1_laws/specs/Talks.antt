@@ -245,3 +245,28 @@ dueIn clearly terminal card =
 
 abbrev pub due : Talk → ℕ
 due t = dueIn (isClear (t .line)) (t .terminal .end .phase) (t .card .end .phase)
+
+-- how many blocks are damaged in a schedule, and how many are lost
+unfoldable pub damaged : List Happens → ℕ
+damaged [] = 0
+damaged (hello ∷ hs) = damaged hs
+damaged (command m ∷ hs) = damaged hs
+damaged (answer m ∷ hs) = damaged hs
+damaged (asks w v ∷ hs) = damaged hs
+damaged (comes ∷ hs) = damaged hs
+damaged (spoiled b ∷ hs) = 1 + damaged hs
+damaged (lost ∷ hs) = damaged hs
+
+unfoldable pub losses : List Happens → ℕ
+losses [] = 0
+losses (hello ∷ hs) = losses hs
+losses (command m ∷ hs) = losses hs
+losses (answer m ∷ hs) = losses hs
+losses (asks w v ∷ hs) = losses hs
+losses (comes ∷ hs) = losses hs
+losses (spoiled b ∷ hs) = losses hs
+losses (lost ∷ hs) = 1 + losses hs
+
+-- the conversation goes on
+abbrev pub finished : Talk → Bool
+finished t = isFinished (isClear (t .line)) (t .terminal .end .phase) (t .card .end .phase)

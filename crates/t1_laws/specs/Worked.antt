@@ -39,3 +39,12 @@ pub record Done (t : Talk) : Type 0 where
   pub next : t .terminal .end .phase ≡ Due
   pub line : t .line ≡ clear
   pub size : t .terminal .end .sizes .theirs ≡ 32
+
+-- two damaged blocks can end a session: both times that a card may send a block. Here it is the card's I-block; the terminal asks for it
+-- again each time, and the card may not send it a third time
+abbrev pub twiceDamaged : List Happens
+twiceDamaged =
+    hello ∷ comes ∷ comes
+    ∷ command (0x00 ∷ 0xB2 ∷ 0x01 ∷ 0x0C ∷ 0x00 ∷ []) ∷ comes
+    ∷ answer secondAnswer ∷ spoiled [] ∷ comes ∷ spoiled [] ∷ comes
+    ∷ []
