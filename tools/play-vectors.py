@@ -1,5 +1,6 @@
 #!/usr/bin/env python3
-"""Lines for crates/play and crates/bench_samples: writes their stdin, the stdout that they must give, and the tapes of samples/.
+"""Lines for crates/play and crates/bench_samples: writes their stdin, the stdout that they must give, and the tapes of samples/, which
+bench_samples has in its data/ too, to hold what was stored against them.
 
 Replies and tapes come from `reference play`, verdicts from `reference judge`, the scripts of SAMPLES from `reference sample`: a program
 that was written from the scope paper and shares nothing with the proved code. What an ERROR line says is written here by hand. Build the
@@ -7,7 +8,9 @@ reference first (cd reference && cargo build --release --offline), then run this
 `play SCRIPT.tape 7 < SCRIPT.script` must give the same tape.
 """
 import glob
+import os
 import subprocess
+import tempfile
 import zlib
 
 FOLDER = "crates/play/"
@@ -121,14 +124,22 @@ def longest():
 
 
 def record_samples():
+    """Every sample played, judged, and its file held against the sample's tape; the longest session played and judged."""
     asked, expected = [], []
-    for lines in [*map(lines_of, sorted(glob.glob("samples/*.script"))), longest()]:
-        played(lines, "--tape", "target/recorded.tape")
-        asked += ["SESSION", *lines, "JUDGE"]
-        expected.append(judged(bytes_of("target/recorded.tape")))
+    for script in sorted(glob.glob("samples/*.script")):
+        name = os.path.basename(script).replace(".script", ".tape")
+        lines, tape = lines_of(script), bytes_of("samples/" + name)
+        asked += ["SESSION", *lines, "JUDGE", "SAME " + name]
+        expected += [*played(lines), judged(tape), "same"]
+        with open(RECORDED + "data/" + name, "wb") as out:
+            out.write(tape)
+    with tempfile.TemporaryDirectory() as folder:
+        tape = os.path.join(folder, "longest.tape")
+        asked += ["SESSION", *longest(), "JUDGE", "SAME online-pin.tape", "SAME no-such.tape"]
+        expected += [*played(longest(), "--tape", tape), judged(bytes_of(tape)), "other", "unread"]
     write(RECORDED + "stdin", asked)
     write(RECORDED + "stdout", expected)
-    print(f"{len(expected)} sessions recorded and judged")
+    print(f"{len(asked)} lines recorded, {len(expected)} said of them")
 
 
 def main():

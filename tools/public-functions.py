@@ -28,7 +28,10 @@ OTHERWISE = {
 # Those that fit more than one answer: docs/EXCEPTIONS.md names each and says why.
 EXCEPTIONS = {
     "text_input read_line": "all: of what comes from standard input no contract can speak",
+    "text_input fill": "all: of what comes from a file no contract can speak",
     "judge_reading judge_file": "all: of what comes from a file no contract can speak",
+    "playing next": "all: of a file and of standard output no contract can speak",
+    "playing answer": "all: of a file and of standard output no contract can speak",
 }
 
 HEAD = """# Every public function

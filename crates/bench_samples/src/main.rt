@@ -1,46 +1,43 @@
-// Plays scripts on the kernel, records each session in memory, and judges its tape. A line of standard input at a time:
+// Plays scripts on the kernel as `play` does, each with a tape in a file, and reads the file back. A line of standard input at a time:
 //
-//     SESSION        a fresh session begins, and a tape for it
-//     START bytes    the calls, as in the scripts of samples/
+//     SESSION        a fresh session begins, and a file for its tape
+//     START bytes    the calls, as in the scripts of samples/; the replies are printed
 //     ANSWER bytes
 //     HOST bytes
 //     RESULTS bytes
 //     SILENCE
-//     JUDGE          the verdict of the tape is printed
-use commands::write::LONGEST;
-use judge::judge;
+//     JUDGE          the verdict of the file is printed
+//     SAME name      whether the file holds the same bytes as the one of this name: `same`, `other`, or `unread`
+use judge_reading::Judged;
+use judge_reading::judge_file;
 use kernel::Session;
-use kernel::Step;
-use kernel_record::record;
 use libc::STDOUT_FILENO;
-use slices::byte;
+use playing::NONE;
+use playing::answer;
+use slices::alike;
 use slices::part;
-use tape_read::ANSWER;
 use tape_read::BLOCK;
-use tape_read::BLOCKS;
-use tape_read::HOST;
-use tape_read::RESULTS;
-use tape_read::SILENCE;
-use tape_read::START;
 use tape_read::TAPE;
 use tape_write::Writer;
-use text_hex::unhex;
+use text_input::Filled;
 use text_input::Line;
+use text_input::fill;
 use text_input::read_line;
 use text_lines::after_word;
+use text_lines::word_end;
+use verdict::Finding;
 use verdict_line::LONGEST as LINE;
 use verdict_line::line as line_of;
 
-// A session, and the writer of its tape.
+// The session number of the samples' tapes.
+const NUMBER: u32 = 7;
+
+// A session, the writer of its tape, and the tape's file; whether there is a next line.
 struct Played {
     session: Session,
     writer: Writer,
-}
-
-// What a line leaves behind, and whether it was the last. A line that is too long ends the input.
-struct Turn {
-    played: Played,
-    ended: bool,
+    file: i32,
+    goes_on: bool,
 }
 
 fn main() {
@@ -51,110 +48,167 @@ fn main() {
 
 // Lines are counted down from more than there can be, since nothing says that the input ends.
 fn play_all(line: &mut [u8], tape: &mut [u8]) {
-    let mut played = begin();
+    let mut played = begin(NONE);
     let mut left: usize = 1_000_000;
     while 0 < left {
-        let turn = next(played, line, tape);
-        if turn.ended {
+        let then = next(played, line, tape);
+        if !then.goes_on {
             return;
         }
-        let then = turn.played;
         played = then;
         left -= 1;
     }
 }
 
-// Reads a line and does what it says.
-fn next(played: Played, line: &mut [u8], tape: &mut [u8]) -> Turn {
+// Reads a line and does what it says. A line that is too long ends the input.
+fn next(played: Played, line: &mut [u8], tape: &mut [u8]) -> Played {
     match read_line(line) {
-        Line::Whole(n) => Turn {
-            played: after(played, part(line, 0, n), tape),
-            ended: false,
-        },
-        Line::Long => Turn {
-            played,
-            ended: true,
-        },
-        Line::End => Turn {
-            played,
-            ended: true,
-        },
+        Line::Whole(n) => after(played, part(line, 0, n), tape),
+        Line::Long => ended(played),
+        Line::End => ended(played),
     }
 }
 
-fn begin() -> Played {
-    Played {
-        session: Session::fresh(),
-        writer: Writer::new(1),
-    }
-}
-
-// The fourth letter tells the line.
-fn after(played: Played, line: &[u8], tape: &mut [u8]) -> Played {
-    match byte(line, 3) as u8 {
-        b'S' => begin(),
-        b'G' => judged(played, tape),
-        event => call(played, event, after_word(line), tape),
-    }
-}
-
-fn call(played: Played, event: u8, word: &[u8], tape: &mut [u8]) -> Played {
-    let mut payload = [0u8; 4096];
-    let n = unhex(word, &mut payload);
-    play(played, event, &payload[0..n], tape)
-}
-
-fn play(played: Played, event: u8, payload: &[u8], tape: &mut [u8]) -> Played {
+fn ended(played: Played) -> Played {
     let session = played.session;
     let writer = played.writer;
-    let mut command = [0u8; LONGEST];
-    let step = stepped(session, event, payload, &mut command);
-    let next = step.session;
-    let reply = step.reply;
-    let kept = record(writer, kind_of(event), payload, reply, &command, next, tape);
-    let after = kept.writer;
     Played {
-        session: next,
-        writer: after,
+        session,
+        writer,
+        file: played.file,
+        goes_on: false,
     }
 }
 
-fn kind_of(event: u8) -> u8 {
-    match event {
-        b'R' => START,
-        b'W' => ANSWER,
-        b'T' => HOST,
-        b'U' => RESULTS,
-        _ => SILENCE,
+fn begin(file: i32) -> Played {
+    Played {
+        session: Session::fresh(),
+        writer: Writer::new(NUMBER),
+        file,
+        goes_on: true,
     }
 }
 
-fn stepped(s: Session, event: u8, payload: &[u8], command: &mut [u8]) -> Step {
-    match event {
-        b'R' => s.start(payload, command),
-        b'W' => s.answer(payload, command),
-        b'T' => s.host(payload, command),
-        b'U' => s.results(payload, command),
-        _ => s.silence(command),
+// Any other line than SESSION, JUDGE and SAME is a call.
+fn after(played: Played, line: &[u8], tape: &mut [u8]) -> Played {
+    let word = part(line, 0, word_end(line, 0));
+    if alike(word, b"SESSION") {
+        return begin(opened(played.file));
     }
+    if alike(word, b"JUDGE") {
+        return judged(played);
+    }
+    if alike(word, b"SAME") {
+        return hold_against(played, after_word(line));
+    }
+    call(played, line, tape)
 }
 
-// The bytes of so many blocks, or of all that there can be.
-fn bytes_of(blocks: usize) -> usize {
-    if blocks < BLOCKS {
-        blocks * BLOCK
-    } else {
-        TAPE
+// The tape's file, begun anew.
+fn opened(before: i32) -> i32 {
+    if 0 <= before {
+        libc::close(before);
     }
+    os::open_overwrite(b"stored.tape")
 }
 
-fn judged(played: Played, tape: &[u8]) -> Played {
+fn call(played: Played, line: &[u8], tape: &mut [u8]) -> Played {
+    let session = played.session;
     let writer = played.writer;
-    let mut out = [0u8; LINE];
-    let n = line_of(
-        judge(part(tape, 0, bytes_of(writer.used as usize))),
-        &mut out,
-    );
-    io::write_all(STDOUT_FILENO, part(&out, 0, n));
+    let file = played.file;
+    let turn = answer(session, writer, file, line, tape);
+    let then = turn.session;
+    let further = turn.writer;
+    Played {
+        session: then,
+        writer: further,
+        file,
+        goes_on: turn.goes_on,
+    }
+}
+
+fn judged(played: Played) -> Played {
+    let stored = os::open_read(b"stored.tape");
+    match judge_file(stored) {
+        Judged::Found(found) => tell(found),
+        Judged::Failed => say(b"unread\n"),
+    }
+    libc::close(stored);
     played
+}
+
+fn tell(found: Finding) {
+    let mut out = [0u8; LINE];
+    let n = line_of(found, &mut out);
+    say(part(&out, 0, n));
+}
+
+fn say(text: &[u8]) {
+    io::write_all(STDOUT_FILENO, text);
+}
+
+fn hold_against(played: Played, name: &[u8]) -> Played {
+    let stored = os::open_read(b"stored.tape");
+    let other = os::open_read(name);
+    hold(stored, other);
+    libc::close(stored);
+    libc::close(other);
+    played
+}
+
+// Blocks are counted down from more than a tape can have.
+fn hold(stored: i32, other: i32) {
+    let mut left: usize = 10_000;
+    while 0 < left {
+        if !hold_next(stored, other) {
+            return;
+        }
+        left -= 1;
+    }
+}
+
+// Whether more may follow; where not, what was found is said.
+fn hold_next(stored: i32, other: i32) -> bool {
+    match compare(stored, other) {
+        Held::Same => true,
+        Held::Ended => last(b"same\n"),
+        Held::Other => last(b"other\n"),
+        Held::Unread => last(b"unread\n"),
+    }
+}
+
+fn last(text: &[u8]) -> bool {
+    say(text);
+    false
+}
+
+// The next block of each: the same, and more may follow; the same, and the last; not the same.
+enum Held {
+    Same,
+    Ended,
+    Other,
+    Unread,
+}
+
+fn compare(stored: i32, other: i32) -> Held {
+    let mut one = [0u8; BLOCK];
+    let mut two = [0u8; BLOCK];
+    match fill(stored, &mut one) {
+        Filled::Bytes(n) => match fill(other, &mut two) {
+            Filled::Bytes(m) => weigh(part(&one, 0, n), part(&two, 0, m)),
+            Filled::Failed => Held::Unread,
+        },
+        Filled::Failed => Held::Unread,
+    }
+}
+
+fn weigh(one: &[u8], two: &[u8]) -> Held {
+    if !alike(one, two) {
+        return Held::Other;
+    }
+    if one.len() < BLOCK {
+        Held::Ended
+    } else {
+        Held::Same
+    }
 }

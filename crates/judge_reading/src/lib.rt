@@ -4,15 +4,12 @@
 use judge::pieces;
 use slices::part;
 use tape_read::BLOCK;
+use text_input::Filled;
+use text_input::fill;
 use verdict::Finding;
 
 pub enum Judged {
     Found(Finding),
-    Failed,
-}
-
-enum Input {
-    Bytes(usize),
     Failed,
 }
 
@@ -28,36 +25,19 @@ fn judge_blocks(file: i32, block: &mut [u8]) -> Judged {
     let mut u = pieces::begin();
     let mut left: usize = MOST;
     while 0 < left {
-        match read_block(file, block) {
-            Input::Bytes(n) => {
+        match fill(file, block) {
+            Filled::Bytes(n) => {
                 let next = pieces::feed(u, part(block, 0, n));
                 u = next;
                 if n < BLOCK {
                     return Judged::Found(pieces::close(u));
                 }
             }
-            Input::Failed => {
+            Filled::Failed => {
                 return Judged::Failed;
             }
         }
         left -= 1;
     }
     Judged::Failed
-}
-
-// Reads until the buffer is full, or the file has ended.
-fn read_block(file: i32, buf: &mut [u8]) -> Input {
-    let mut n = 0;
-    while n < buf.len() {
-        let got = libc::read(file, &mut buf[n..]);
-        if got < 0 {
-            return Input::Failed;
-        }
-        let more = io::count(got, &buf[n..]);
-        if more == 0 {
-            return Input::Bytes(n);
-        }
-        n += more;
-    }
-    Input::Bytes(n)
 }

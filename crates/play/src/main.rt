@@ -20,16 +20,13 @@
 //
 // The first argument names a file for the tape, the second is the session number (0 where there is none). A file that is there is not
 // touched, unless --over stands before its name. A block is on the disk before the line that it belongs to is said.
-mod call;
-mod line;
-mod say;
-mod store;
 mod streams;
 mod tape;
 
-use call::next;
 use kernel::Session;
 use libc::STDERR_FILENO;
+use playing::NONE;
+use playing::next;
 use tape_read::TAPE;
 use tape_write::Writer;
 use text_lines::decimal::NO_NUMBER;
@@ -45,7 +42,7 @@ fn main() {
     }
     let at = tape::name_at();
     if os::arg_count() <= at {
-        play(store::NONE, 0);
+        play(NONE, 0);
         return;
     }
     let number = number_asked(at + 1);

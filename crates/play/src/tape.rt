@@ -1,6 +1,6 @@
 // The tape's name and its file.
-use crate::store::NONE;
 use libc::STDERR_FILENO;
+use playing::NONE;
 use slices::alike;
 use slices::byte;
 ghost use Prim.Native.Nat.{_≤_};

@@ -15,11 +15,8 @@ use recover::payload;
 use recover::tail;
 use slices::part;
 use tape_read::BLOCK;
-
-enum Input {
-    Bytes(usize),
-    Failed,
-}
+use text_input::Filled;
+use text_input::fill;
 
 // More steps than there can be: nothing says that the input ends.
 const MOST: usize = 0x7FFF_FFFF_FFFF_FFFF;
@@ -39,8 +36,8 @@ fn main() {
 fn list_all(file: i32, block: &mut [u8]) -> bool {
     let mut step = 0;
     while step < MOST {
-        match read_block(block) {
-            Input::Bytes(n) => {
+        match fill(STDIN_FILENO, block) {
+            Filled::Bytes(n) => {
                 if n < BLOCK {
                     return is_kept(line::end(file, step, tail(part(block, 0, n))));
                 }
@@ -48,7 +45,7 @@ fn list_all(file: i32, block: &mut [u8]) -> bool {
                     return false;
                 }
             }
-            Input::Failed => {
+            Filled::Failed => {
                 os::fail(b"recover_tape: standard input");
                 return false;
             }
@@ -63,23 +60,6 @@ fn is_kept(taken: bool) -> bool {
         os::fail(b"recover_tape: a line could not be kept");
     }
     taken
-}
-
-// Reads until the buffer is full, or the input has ended.
-fn read_block(buf: &mut [u8]) -> Input {
-    let mut n = 0;
-    while n < buf.len() {
-        let got = libc::read(STDIN_FILENO, &mut buf[n..]);
-        if got < 0 {
-            return Input::Failed;
-        }
-        let more = io::count(got, &buf[n..]);
-        if more == 0 {
-            return Input::Bytes(n);
-        }
-        n += more;
-    }
-    Input::Bytes(n)
 }
 
 // The block at hand is its own step 0; the step where it stands in the input is the one that is told.

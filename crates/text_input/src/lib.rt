@@ -1,5 +1,6 @@
-// Standard input, line by line. No byte behind a line is read before the next line is asked for, so that a program can reply to
-// each line before the next is there. Of what is read no contract can speak; a read that fails counts as the end of the input.
+// What programs read. Standard input, line by line: no byte behind a line is read before the next line is asked for, so that a program can
+// reply to each line before the next is there; a read that fails counts as the end of the input. A file, a buffer at a time. Of what is read
+// no contract can speak.
 use libc::STDIN_FILENO;
 use slices::byte;
 ghost use Prim.Native.Nat.{_≤_};
@@ -58,4 +59,27 @@ fn read_byte() -> usize
     let mut one = [0u8; 1];
     let got = libc::read(STDIN_FILENO, &mut one);
     if got == 1 { byte(&one, 0) } else { NONE }
+}
+
+// So many bytes were read, fewer than there is room for where the file has ended; or a read failed.
+pub enum Filled {
+    Bytes(usize),
+    Failed,
+}
+
+// Reads until the buffer is full, or the file has ended.
+pub fn fill(file: i32, buf: &mut [u8]) -> Filled {
+    let mut n = 0;
+    while n < buf.len() {
+        let got = libc::read(file, &mut buf[n..]);
+        if got < 0 {
+            return Filled::Failed;
+        }
+        let more = io::count(got, &buf[n..]);
+        if more == 0 {
+            return Filled::Bytes(n);
+        }
+        n += more;
+    }
+    Filled::Bytes(n)
 }

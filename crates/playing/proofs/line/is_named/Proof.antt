@@ -7,10 +7,10 @@ use native.Mathlib.Omega.{arith}
 use lib.Dec.{eqb}
 use lib.ListN.{length, drop}
 use borrow.Author.Needs.{needs}
-use Rattle.play.specs.Lines.{named}
-use Rattle.play.proofs.Reading.{named-next, named-other, named-short, named-end, named-space}
-use Rattle.play.proofs.line.is_named.Statement.{statement}
-use Rattle.play.proofs.line.is_named.Tie as tie
+use Rattle.playing.specs.Lines.{named}
+use Rattle.playing.proofs.Reading.{named-next, named-other, named-short, named-end, named-space}
+use Rattle.playing.proofs.line.is_named.Statement.{statement}
+use Rattle.playing.proofs.line.is_named.Tie as tie
 
 abbrev Inv-loop : tie.InvT-loop
 Inv-loop line word i₀ i = (i ≤ length line) × (named (drop i word) (drop i line) ≡ named word line)

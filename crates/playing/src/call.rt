@@ -52,7 +52,8 @@ fn unchanged(session: Session, writer: Writer, goes_on: bool) -> Turn {
     }
 }
 
-fn answer(s: Session, writer: Writer, file: i32, line: &[u8], tape: &mut [u8]) -> Turn {
+// Answers a line.
+pub fn answer(s: Session, writer: Writer, file: i32, line: &[u8], tape: &mut [u8]) -> Turn {
     let kind = kind_of(line);
     let rest = after_word(line);
     let fault = fault_of(kind, rest);

@@ -6,10 +6,10 @@ use native.Mathlib.Omega.{arith}
 use lib.ListN.{length, drop, getD}
 use borrow.Author.Needs.{needs}
 use Rattle.text_hex.specs.Digits.{digit}
-use Rattle.play.specs.Lines.{allDigits}
-use Rattle.play.proofs.Reading.{digits-next, digits-stop, digits-end}
-use Rattle.play.proofs.line.all_digits.Statement.{statement}
-use Rattle.play.proofs.line.all_digits.Tie as tie
+use Rattle.playing.specs.Lines.{allDigits}
+use Rattle.playing.proofs.Reading.{digits-next, digits-stop, digits-end}
+use Rattle.playing.proofs.line.all_digits.Statement.{statement}
+use Rattle.playing.proofs.line.all_digits.Tie as tie
 
 abbrev Inv-loop : tie.InvT-loop
 Inv-loop s i₀ i = allDigits (drop i s) ≡ allDigits s

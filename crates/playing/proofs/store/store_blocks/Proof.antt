@@ -3,8 +3,8 @@
 use Prim.Native.Nat.{_-_}
 use native.Mathlib.Omega.{arith}
 use borrow.Author.Needs.{needs}
-use Rattle.play.proofs.store.store_blocks.Statement.{statement}
-use Rattle.play.proofs.store.store_blocks.Tie as tie
+use Rattle.playing.proofs.store.store_blocks.Statement.{statement}
+use Rattle.playing.proofs.store.store_blocks.Tie as tie
 
 abbrev Inv-loop : tie.InvT-loop
 Inv-loop file tape from to i₀ i = Unit {0}

@@ -12,7 +12,7 @@ use borrow.Author.Tests.{eq-eqb, ne-eqb, lt-ltb, le-ltb}
 use Rattle.slices.specs.Choice.{pick}
 use Rattle.slices.proofs.Choice.{pick-yes, pick-no}
 use Rattle.text_hex.specs.Digits.{digit}
-use Rattle.play.specs.Lines.{named, allDigits}
+use Rattle.playing.specs.Lines.{named, allDigits}
 
 -- the first word
 module _ (w s : List ℕ) (i : ℕ) where

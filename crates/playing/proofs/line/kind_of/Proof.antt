@@ -3,9 +3,9 @@
 use mathlib.Core.Path.{sym, _∙_}
 use borrow.Author.Needs.{needs}
 use Rattle.slices.proofs.Choice.{pick-yes, pick-no}
-use Rattle.play.specs.Lines.{kindOf}
-use Rattle.play.proofs.line.kind_of.Statement.{statement}
-use Rattle.play.proofs.line.kind_of.Tie as tie
+use Rattle.playing.specs.Lines.{kindOf}
+use Rattle.playing.proofs.line.kind_of.Statement.{statement}
+use Rattle.playing.proofs.line.kind_of.Tie as tie
 
 returns : tie.Need-returns
 unfolding kindOf

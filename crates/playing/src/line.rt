@@ -7,7 +7,7 @@ use tape_read::SILENCE;
 use tape_read::START;
 use text_hex::digit_of;
 ghost use mathlib.Core.Path.{_≡_};
-ghost use Rattle.play.specs.Lines.{named, kindOf, allDigits, faultOf};
+ghost use Rattle.playing.specs.Lines.{named, kindOf, allDigits, faultOf};
 
 // What can be wrong.
 pub const UNKNOWN: u8 = 1;

@@ -1,2 +1,0 @@
--- The lines of `play`.
-pub mod Lines

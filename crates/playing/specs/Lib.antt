@@ -1,0 +1,2 @@
+-- The lines with which a session is played.
+pub mod Lines
