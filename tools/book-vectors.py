@@ -173,16 +173,34 @@ def expanded(text):
     return re.sub(r"\((\d+)\)", lambda m: "00" * int(m[1]), text)
 
 
-# The book that crates/book_file lists: numbers at the ends of their range, and each verdict.
+# The book that crates/book_file adds to and lists: numbers at the ends of their range, and each verdict.
 LISTED = [(1, 1, 11, 0), (4294967295, 2, 5, 0), (0, 3, 0, 0), (417, 4, 3, 7), (418, 4, 4294967295, 9)]
 NAMES = ("PASS", "FAIL", "INCONCLUSIVE", "UNREADABLE")
 
 
+# What is handed in, the reply that 02, R-11, has for it, and the entry that it makes, if it makes one.
+HANDED_IN = [
+    ("419 PASS 7 0 2", "entered", (419, 1, 7, 0)),
+    ("1 FAIL 2 0 0", "already entered", None),
+    ("419 PASS 7 0 2", "already entered", None),
+    ("420 MAYBE 1 0 0", "no verdict", None),
+    ("4294967296 PASS 1 0 0", "no number", None),
+    ("", "no number", None),
+    ("2 UNREADABLE 6 3 0", "entered", (2, 4, 6, 3)),
+    ("3 INCONCLUSIVE 4 0 1", "entered", (3, 3, 4, 0)),
+]
+
+
 def listed():
+    """Entries handed in one after the other, and the list of what the file holds then, read anew."""
     with open("crates/book_file/data/book", "wb") as out:
         out.writelines(block(k, entry) for k, entry in enumerate(LISTED))
+    with open("crates/book_file/stdin", "w") as out:
+        out.writelines(line + "\n" for line, _, _ in HANDED_IN)
+    entries = LISTED + [entry for _, _, entry in HANDED_IN if entry]
     with open("crates/book_file/stdout", "w") as out:
-        out.writelines(f"{tape} {NAMES[verdict - 1]} {place} {code}\n" for tape, verdict, place, code in LISTED)
+        out.writelines(reply + "\n" for _, reply, _ in HANDED_IN)
+        out.writelines(f"{tape} {NAMES[verdict - 1]} {place} {code}\n" for tape, verdict, place, code in entries)
 
 
 def main():

@@ -41,6 +41,16 @@ pub fn asked() -> Words {
     }
 }
 
+// What is to be shown behind many entries.
+pub fn asked_behind() -> u8 {
+    let mut word = [0u8; 16];
+    let n = os::arg(4, &mut word);
+    if os::errno() != 0 {
+        return NOTHING;
+    }
+    named(part(&word, 0, n))
+}
+
 // A dash for the number: the entries, each with its number, come on standard input.
 fn or_many(what: u8, third: &[u8]) -> u8 {
     if what != ADD {

@@ -1,7 +1,8 @@
 // A campaign book in a file.
 //
 //     book_file FILE add NUMBER    enters what the judge's line on standard input says of the tape with this number
-//     book_file FILE add -         the same for many: a line each, the number and the judge's line, answered before the next is read
+//     book_file FILE add - [WHAT]  the same for many: a line each, the number and the judge's line, answered before the next is read; then
+//                                  WHAT of these, if it is named, of the file read anew:
 //     book_file FILE counts        the four counts, and their sum
 //     book_file FILE list          an entry a line: tape number, verdict, place, code
 //     book_file FILE check         whether the file is a book
@@ -32,7 +33,7 @@ fn main() {
     match what {
         ask::NOTHING => say::usage(),
         ask::ADD => add(words.number, &mut bytes),
-        ask::ADD_MANY => add_many(&mut bytes),
+        ask::ADD_MANY => add_and_look(&mut bytes),
         _ => look(what, &mut bytes),
     }
 }
@@ -66,6 +67,15 @@ fn enter(number: u32, line: &[u8], size: usize, new: bool, bytes: &mut [u8; ROOM
 
 fn enter_one(book: Book, number: u32, line: &[u8], new: bool, bytes: &mut [u8; ROOM]) {
     one::enter(book, number, line, new, bytes);
+}
+
+// What was entered, and then what the file holds of it.
+fn add_and_look(bytes: &mut [u8; ROOM]) {
+    add_many(bytes);
+    let what = ask::asked_behind();
+    if ask::ADD < what {
+        look(what, bytes);
+    }
 }
 
 // One entry after the other, in a book that is opened once.

@@ -12,7 +12,7 @@ use text_print::text;
 pub fn usage() {
     io::write_all(
         STDERR_FILENO,
-        b"usage: book FILE add NUMBER < LINE, book FILE add - < LINES, or book FILE counts, list or check\n",
+        b"usage: book FILE add NUMBER < LINE, book FILE add - [counts, list or check] < LINES, or book FILE counts, list or check\n",
     );
 }
 
