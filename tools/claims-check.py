@@ -9,8 +9,8 @@ enough. A `module::function` must be an `fn` of that module, or a method of that
 edit must stand in must-fail/ or in more-edits/. The crate is the one that stands before a name ("`crate`: ..") or after it ("of
 `crate`", "(`crate`)"); where there is none, one that the row, the column or the heading of the section names. A bare name that
 follows a `File.name` in a row of names stands in the same file, unless "of" names a crate for it. In RULEBOOK a name stands in
-`rulebook`, or in a crate that its sentence names. In the other pages it stands in some crate, in the one that "of" names if any. A
-path must be there.
+`rulebook`, or in a crate that its sentence names. In the other pages it stands in some crate, in the one that "of" names if any; on a
+landing's page an edit may stand there too, and what has gone since is written without marks. A path must be there.
 """
 import pathlib
 import re
@@ -197,11 +197,21 @@ def rulebook():
 
 
 def other_pages():
-    for name in ("ARCHITECTURE", "DECISIONS", "EXCEPTIONS", "GATE", "PROVING", "SPEED"):
+    for name in ("ARCHITECTURE", "DECISIONS", "EXCEPTIONS", "GATE", "PROVING", "SPEED", "TRUST"):
         for number, unit, _ in units((ROOT / "docs" / f"{name}.md").read_text()):
             for token, crates, _ in tokens(unit):
                 if not is_no_name(token) and not has(re.sub(r"\.antt$", "", token), crates or LISTED):
                     yield f"docs/{name}.md {number}: {token} is not in {', '.join(crates or ['any crate'])}", token
+
+
+def landings():
+    """A landing's page says what moved then: what has gone since stands there without marks, and every name with marks is somewhere."""
+    for page in sorted((ROOT / "docs" / "landings").glob("*.md")):
+        for number, unit, _ in units(page.read_text()):
+            for token, _, _ in tokens(unit):
+                token = re.sub(r"\.antt$", "", token)
+                if not is_no_name(token) and token not in EDITS and not has(token, LISTED):
+                    yield f"docs/landings/{page.name} {number}: {token} is in no crate", token
 
 
 def proofs():
@@ -216,7 +226,7 @@ def proofs():
 
 
 def paths():
-    for page in [ROOT / "README.md", *sorted((ROOT / "docs").glob("*.md"))]:
+    for page in [ROOT / "README.md", *sorted((ROOT / "docs").glob("**/*.md"))]:
         for number, line in enumerate(page.read_text().splitlines(), 1):
             for token in re.findall(r"`((?:crates|docs|tools|samples|reference|bin)/[\w./-]*)", line):
                 if not (ROOT / token).exists():
@@ -241,7 +251,7 @@ def selftest():
 def main():
     if "--selftest" in sys.argv[1:]:
         return selftest()
-    wrong = [*claims(), *rulebook(), *other_pages(), *proofs(), *paths()]
+    wrong = [*claims(), *rulebook(), *other_pages(), *landings(), *proofs(), *paths()]
     for line, token in wrong:
         where = [name for name, crate in CRATES.items() if token in crate.edits or crate.has(token.split(".")[-1].split("::")[-1])]
         print(f"{line} (the name is in {', '.join(where[:6]) or 'no crate'})")

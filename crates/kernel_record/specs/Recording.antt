@@ -25,7 +25,7 @@ recorded event Decided buf s = event ∷ entry decision (decisionIn (s .state)) 
 recorded event Closed buf s = event ∷ []
 recorded event (Refused n) buf s = []
 
--- 7: kind not 1-6, or payload over 496
+-- 7: kind not 1-7 (02, R-7), or payload over 496
 unfoldable pub wrong : Entry → Bool
 wrong e = pick (isKind (e .kind)) (ltb payloadMost (length (e .payload))) true
 
