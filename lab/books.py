@@ -199,8 +199,11 @@ class Open:
 
     def announce(self, tapes):
         """The list's lines for the entries that follow, on the disk."""
-        self.write(b"".join(list_line(sha256, tape) for sha256, tape in tapes))
-        os.fdatasync(self.list)
+        try:
+            self.write(b"".join(list_line(sha256, tape) for sha256, tape in tapes))
+            os.fdatasync(self.list)
+        except OSError as error:
+            raise Undone(f"{text(list_of(self.book))}: {error.strerror}; its entries are not made") from None
 
     def enter(self, number, found):
         """One entry; it is on the disk when this comes back."""

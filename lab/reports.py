@@ -72,8 +72,11 @@ class JsonLines:
             return
         data = json.dumps(record(judged, self.judge), separators=(",", ":")).encode() + b"\n"
         with signals.held():
-            while data:
-                data = data[os.write(self.file, data):]
+            try:
+                while data:
+                    data = data[os.write(self.file, data):]
+            except OSError as error:
+                raise Undone(f"{text(self.name)}: {error.strerror}: a line was not written") from None
 
     def close(self):
         os.fsync(self.file)

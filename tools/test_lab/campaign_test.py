@@ -133,18 +133,17 @@ class NothingAsked(Trial):
 class AtOnce(Trial):
     def test_two_campaigns_on_one_folder(self):
         tapes = [sorted(self.tapes("one", 40).glob("*.tape")), sorted(self.tapes("two", 40, first=101).glob("*.tape"))]
-        words = 0
         for trial in range(6):
             both = [self.start("campaign", f"B{trial}", *some) for some in tapes]
             done = [(process.communicate(), process.returncode) for process in both]
             for (out, err), status in done:
                 if status == 2:
-                    words += 1
                     self.assertIn(b"another process is adding to it", err)
+                    self.assertNotIn(b"entered", out)
                 else:
                     self.assertEqual((status, out.count(b": entered: ")), (1, 40), err)
-            self.assertIn(self.counts(f"B{trial}")[4], (40, 80))
-        self.assertGreater(words, 0, "the two never met")
+            told = sum(status == 2 for _, status in done)
+            self.assertEqual(self.counts(f"B{trial}")[4], 80 - 40 * told)
 
     def test_the_second_goes_on_later(self):
         self.tapes("one", 8)

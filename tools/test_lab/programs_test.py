@@ -1,7 +1,9 @@
 """The programs behind the front: one place that starts them, built trees without the kit, and the other commands."""
+import contextlib
 import json
 import os
 import pathlib
+import pty
 import random
 import re
 import shutil
@@ -234,14 +236,31 @@ class Trees(Trial):
         done = self.away(tree, "judge", PASS)
         self.assertEqual((done.returncode, done.stdout), (2, b""), done)
 
-    def test_a_build_that_fails_is_told_with_its_last_lines(self):
+    def failing(self):
+        """A tree whose program is missing, and a kit that fails."""
         tree = self.built()
         os.unlink(tree / "target/bin/lab_tapes")
         kit = self.folder / "kit/bin"
         kit.mkdir(parents=True)
         (kit / "rt").write_text("#!/bin/sh\necho 'rt: slices proved (1 s)'\necho 'the seventh seal'\nexit 1\n")
         (kit / "rt").chmod(0o755)
-        environment = dict(os.environ, PATH=f"{kit}:{os.environ['PATH']}", RATTLE_HOME="")
+        return tree, dict(os.environ, PATH=f"{kit}:{os.environ['PATH']}", RATTLE_HOME="")
+
+    def test_progress_where_somebody_looks(self):
+        tree, environment = self.failing()
+        ours, theirs = pty.openpty()
+        process = subprocess.Popen([tree / "bin/judge", PASS], env=environment, stdout=subprocess.DEVNULL, stderr=theirs, cwd=self.folder)
+        os.close(theirs)
+        said = b""
+        with contextlib.suppress(OSError):
+            while True:
+                said += os.read(ours, 4096)
+        os.close(ours)
+        self.assertEqual(process.wait(), 2)
+        self.assertRegex(said, rb"1 of \d+: slices, \d+ s")
+
+    def test_a_build_that_fails_is_told_with_its_last_lines(self):
+        tree, environment = self.failing()
         done = subprocess.run([tree / "bin/judge", PASS], env=environment, capture_output=True, cwd=self.folder)
         self.assertEqual((done.returncode, done.stdout), (2, b""), done)
         for words in (b"proving and building lab_tapes: ", b"build.log", b"the seventh seal", b"could not be built (status 1"):
