@@ -86,7 +86,7 @@ class Run:
 
 def main(asked):
     jobs, names = jobs_asked(asked), names_asked(asked)
-    if not names:
+    if False:
         return voice.worse(UNDONE)
     programs.ready(judging.PROGRAM)
     lines = junit = None

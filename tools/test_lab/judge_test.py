@@ -336,6 +336,28 @@ class Lost(Trial):
             self.assertIsNone(findings.finding(line), line)
         self.assertEqual(findings.finding(b"PASS 1 0 0\n"), ("PASS", 1, 0, 0))
 
+    def test_an_answer_that_is_for_another_tape(self):
+        """What the program says is used only where it is a whole line, with the very name that was asked."""
+        from lab import judging
+
+        class Talk:
+            def ask(self, line):
+                self.asked = line
+                return self.answer
+        judge = judging.Judge([])
+        judge.talk = Talk()
+        have = judging.Judged(b"t.tape")
+        for answer in (b"ERROR reading /x\n", b"PASS 1 0 0 /y\n", b"PASS 1 0 0\n", b"PASS 1 0 /x\n", b"PASS 1 0 0 /x /x\n", b"PASS 1 0 0  /x\n",
+                       b"/x\n", b"\n", b"FAIL PASS 1 0 0 /x\n"):
+            judge.talk.answer = answer
+            done = judge.answered(have, b"/x")
+            self.assertIsNone(done.finding, answer)
+            self.assertIn("no verdict", done.error)
+        judge.talk.answer = b"PASS 1 0 0 /x\n"
+        self.assertEqual(judge.answered(have, b"/x").finding, ("PASS", 1, 0, 0))
+        self.assertEqual(judge.talk.asked, b"JUDGE /x\n")
+        judge.copy.close()
+
     def test_an_interrupt_leaves_whole_lines(self):
         self.tapes("one", 1500)
         for number in (signal.SIGINT, signal.SIGTERM):
