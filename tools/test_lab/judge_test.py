@@ -347,8 +347,8 @@ class Lost(Trial):
         judge = judging.Judge([])
         judge.talk = Talk()
         have = judging.Judged(b"t.tape")
-        for answer in (b"ERROR reading /x\n", b"PASS 1 0 0 /y\n", b"PASS 1 0 0\n", b"PASS 1 0 /x\n", b"PASS 1 0 0 /x /x\n", b"PASS 1 0 0  /x\n",
-                       b"/x\n", b"\n", b"FAIL PASS 1 0 0 /x\n"):
+        for answer in (b"ERROR reading /x\n", b"PASS 1 0 0 /y\n", b"PASS 1 0 0\n", b"PASS 1 0 /x\n", b"PASS 1 0 0 /x /x\n",
+                       b"PASS 1 0 0  /x\n", b"/x\n", b"\n", b"FAIL PASS 1 0 0 /x\n"):
             judge.talk.answer = answer
             done = judge.answered(have, b"/x")
             self.assertIsNone(done.finding, answer)
