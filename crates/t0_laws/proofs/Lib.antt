@@ -17,3 +17,4 @@ pub mod Within
 pub mod Collide
 pub mod Counting
 pub mod Waiting
+pub mod Reasons

@@ -1,1 +1,0 @@
-// What a session is handed of an answer: laws only, see proofs/.
