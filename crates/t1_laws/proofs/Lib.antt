@@ -24,3 +24,6 @@ pub mod Exactly
 pub mod Moods
 pub mod Recovery
 pub mod OneFault
+pub mod Rank
+pub mod Ending
+pub mod Bound

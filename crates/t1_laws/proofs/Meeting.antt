@@ -329,11 +329,11 @@ module _ (x y : Side) (b : List ℕ) where
         (listened (y .end) fit′ b (takes-listens (y .end .phase) (moreOf (y .end .message)) (l .ears)))
       where
         by : Calm (y .end) yTurn → Listened (y .end) yTurn → Left x yAfter yWay
-        by c (says e p r) =
+        by c (says e p r n) =
             goes-on (asking (y-level c (ap keepsNone e) p) asks-x (to-x (pick-yes _ _ _ (ap speaks e))))
-        by c (replies e p r) =
+        by c (replies e p r n) =
             goes-on (asking (y-level c (ap keepsNone e) p) asks-x (to-x (pick-yes _ _ _ (ap speaks e))))
-        by c (takes e p) = absurd (not-kept (y .end) yTurn c e)
+        by c (takes e p n k q l) = absurd (not-kept (y .end) yTurn c e)
         by c (has-whole n e p) = absurd (not-whole (y .end) yTurn c n e)
         by c (stops f e p) =
             y-stops p (pick-no _ _ _ (ap speaks e)) (ap awaits asks-x) (y-order (ap keepsNone e) (level-order x y l))
@@ -361,7 +361,7 @@ module _ (x y : Side) (b : List ℕ) where
         ready = takes-awaits (y .end .phase) (moreOf (y .end .message)) (l .ears)
 
         by : Asked (x .end) xTurn → Left xAfter y xWay
-        by (asks e p u) = goes-on (asking (x-level u (ap keepsNone e)) p (to-y (pick-yes _ _ _ (ap speaks e))))
+        by (asks e p u f n) = goes-on (asking (x-level u (ap keepsNone e)) p (to-y (pick-yes _ _ _ (ap speaks e))))
         by (settles e p u) = goes-on (idle (x-level u (ap keepsNone e)) p (pick-no _ _ _ (ap speaks e)))
         by (stops-asking f e p u) =
             x-stops p (pick-no _ _ _ (ap speaks e)) ready (x-order (ap keepsNone e) (level-order x y l))

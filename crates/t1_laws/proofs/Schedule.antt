@@ -121,7 +121,7 @@ module _ (t : Talk) (h : Holds t) (live : isOver (t .terminal .end .phase) ≡ f
   moves-not p q e f g = absurd (false≢true (sym f ∙ (ap mayMove e ∙ g)))
 
   -- whose turn it is
-  terminal-due : T .end .phase ≡ Due → Level T C × (t .line ≡ clear)
+  pub terminal-due : T .end .phase ≡ Due → Level T C × (t .line ≡ clear)
   terminal-due e = by (h .place)
     where
       by : Place t → Level T C × (t .line ≡ clear)
@@ -135,7 +135,7 @@ module _ (t : Talk) (h : Holds t) (live : isOver (t .terminal .end .phase) ≡ f
       by (silenced m f w o) = absurd (false≢true (sym (ap awaits e) ∙ w))
       by (over f c o) = ended f
 
-  terminal-start : T .end .phase ≡ Start → Level T C × (t .line ≡ clear)
+  pub terminal-start : T .end .phase ≡ Start → Level T C × (t .line ≡ clear)
   terminal-start e = by (h .place)
     where
       by : Place t → Level T C × (t .line ≡ clear)
@@ -149,7 +149,7 @@ module _ (t : Talk) (h : Holds t) (live : isOver (t .terminal .end .phase) ≡ f
       by (silenced m f w o) = absurd (false≢true (sym (ap awaits e) ∙ w))
       by (over f c o) = ended f
 
-  card-due : C .end .phase ≡ Due → Level C T × (t .line ≡ clear)
+  pub card-due : C .end .phase ≡ Due → Level C T × (t .line ≡ clear)
   card-due e = by (h .place)
     where
       by : Place t → Level C T × (t .line ≡ clear)

@@ -5,8 +5,8 @@
 use mathlib.Core.Path.{_≡_}
 use mathlib.Core.Bool.{Bool, true, false, not}
 use mathlib.Core.List.{List, [], _∷_, _++_}
-use Prim.Native.Nat.{ℕ, _+_}
-use lib.ListN.{take}
+use Prim.Native.Nat.{ℕ, _+_, _*_}
+use lib.ListN.{length, take}
 use Rattle.slices.specs.Choice.{pick}
 use Rattle.t1_block.specs.Blocks.{infOf}
 use Rattle.t1_block.specs.Faults.{heardOf}
@@ -270,3 +270,36 @@ losses (lost ∷ hs) = 1 + losses hs
 -- the conversation goes on
 abbrev pub finished : Talk → Bool
 finished t = isFinished (isClear (t .line)) (t .terminal .end .phase) (t .card .end .phase)
+
+abbrev pub isDamage : Line → List ℕ → Talk → ℕ
+isDamage clear b t = 0
+isDamage (forth sent) b t = one (isBad (heardOf b (t .card .end .sizes .ours)))
+isDamage (back sent) b t = one (isBad (heardOf b (t .terminal .end .sizes .ours)))
+
+-- how many blocks come in a schedule, as they were sent or damaged; one that was sent and does not come is lost or still under way
+abbrev pub landed : Happens → Talk → ℕ
+landed hello t = 0
+landed (command m) t = 0
+landed (answer m) t = 0
+landed (asks w v) t = 0
+landed comes t = one (not (isClear (t .line)))
+landed (spoiled b) t = isDamage (t .line) b t
+landed lost t = 0
+
+unfoldable pub arrivals : List Happens → Talk → ℕ
+arrivals [] t = 0
+arrivals (h ∷ hs) t = pick (isOver (t .terminal .end .phase)) 0 (landed h t + arrivals hs (happens h t))
+
+-- how many can come of it, whatever the line does: of a request six, of a message six for each byte and seven more
+abbrev pub cost : Happens → ℕ
+cost hello = 6
+cost (command m) = 6 * length m + 7
+cost (answer m) = 6 * length m + 7
+cost (asks w v) = 6
+cost comes = 0
+cost (spoiled b) = 0
+cost lost = 0
+
+unfoldable pub costs : List Happens → ℕ
+costs [] = 0
+costs (h ∷ hs) = cost h + costs hs
