@@ -18,3 +18,4 @@ pub mod Collide
 pub mod Counting
 pub mod Waiting
 pub mod Reasons
+pub mod Cards

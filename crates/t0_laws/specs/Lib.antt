@@ -5,3 +5,4 @@ pub mod Longest
 pub mod Moves
 pub mod Annex
 pub mod Counting
+pub mod Cards
