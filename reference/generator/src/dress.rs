@@ -8,6 +8,7 @@ mod clothes;
 mod pieces;
 mod programs;
 mod tapes;
+mod values;
 
 pub use programs::{dress_script, dress_tape, make_dressed};
 

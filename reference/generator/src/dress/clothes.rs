@@ -3,6 +3,7 @@
 
 use super::answer::{Answer, Asked};
 use super::pieces::{List, Path, Piece, Value};
+use super::values::right_value;
 use crate::random::Random;
 use rules::answers::LONGEST_ANSWER;
 use rules::objects::is_constructed;
@@ -26,6 +27,9 @@ const TAGS: [u16; 44] = [
     0x20, 0xC1, 0x5F20,
 ];
 
+/// For a name that no place looks at.
+const ANY_AID: [u8; 5] = [0xA0, 0x00, 0x00, 0x00, 0x03];
+
 /// Any tag but those named.
 fn any_tag(named: &[u16], r: &mut Random) -> u16 {
     loop {
@@ -46,8 +50,32 @@ fn free_tag(r: &mut Random) -> u16 {
     }
 }
 
+/// The objects without others inside that are named at some place.
+#[rustfmt::skip]
+const NAMED_SOMEWHERE: [u16; 19] = [
+    0x84, 0x9F38, 0x82, 0x94, 0x5A, 0x5F24, 0x5F25, 0x9F08, 0x8C, 0x8D, 0x9F0D, 0x9F0E, 0x9F0F,
+    0x8E, 0x9F42, 0x9F27, 0x9F36, 0x9F26, 0x9F10,
+];
+
+/// An object with a value that would be right at another place than one where
+/// these are named: in 6F often that of A5, and in A5 that of 6F.
+fn misplaced(named: &[u16], r: &mut Random) -> Piece {
+    let elsewhere: Vec<u16> =
+        NAMED_SOMEWHERE.into_iter().filter(|tag| !named.contains(tag)).collect();
+    let near = match named {
+        [0x84, ..] => Some(0x9F38),
+        [0x9F38] => Some(0x84),
+        _ => None,
+    };
+    let tag = near.filter(|_| r.chance(50)).unwrap_or(*r.pick(&elsewhere));
+    Piece::new(tag, Value::Bytes(right_value(tag, &ANY_AID, r)))
+}
+
 /// An object of any tag but those named; what is in it may have any.
 fn any_piece(named: &[u16], depth: usize, r: &mut Random) -> Piece {
+    if r.chance(25) {
+        return misplaced(named, r);
+    }
     let tag = any_tag(named, r);
     let value = if is_constructed(tag) {
         let count = if depth == 0 { 0 } else { *r.pick(&[0, 1, 1, 2, 3]) };
