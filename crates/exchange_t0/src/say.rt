@@ -20,15 +20,6 @@ pub fn reply(said: Reply, out: &[u8], answer: &[u8]) {
     text_print::text(b"\n");
 }
 
-// Whether the exchange is over.
-pub fn is_last(said: Reply) -> bool {
-    match said {
-        Reply::Go { send: _, wait: _ } => false,
-        Reply::Answer(_) => true,
-        Reply::Refused(_) => true,
-    }
-}
-
 fn sent(bytes: &[u8]) {
     if 0 < bytes.len() {
         text_print::text(b"SEND ");

@@ -1,11 +1,13 @@
 // One line: a command, or bytes of the card's.
-use crate::say::is_last;
 use crate::say::reply;
 use slices::part;
 use t0_begin::begin;
+use t0_pieces::is_closed;
 use t0_pieces::takes;
 use t0_state::State;
 use text_hex::unhex;
+ghost use mathlib.Core.Path.{_≡_};
+ghost use Rattle.t0_pieces.specs.Pieces.{gone, takenAll};
 
 // No exchange yet.
 pub fn none(out: &mut [u8; 255]) -> State {
@@ -41,7 +43,10 @@ pub fn card(s: State, digits: &[u8], out: &mut [u8; 255], answer: &mut [u8; 4354
 }
 
 // Piece by piece, each up to the next byte that brings something to send or ends the exchange.
-fn take_all(s: State, piece: &[u8], out: &mut [u8; 255], answer: &mut [u8; 4354]) -> State {
+fn take_all(s: State, piece: &[u8], out: &mut [u8; 255], answer: &mut [u8; 4354]) -> State
+    ensures { λ r.
+        ⌜ gone r (now (out .exit)) (now (answer .exit)) ≡ takenAll s (now (piece .entry)) (now (out .entry)) (now (answer .entry)) ⌝ }
+{
     let mut state = s;
     let mut rest = piece;
     let mut left = piece.len() + 1;
@@ -51,7 +56,7 @@ fn take_all(s: State, piece: &[u8], out: &mut [u8; 255], answer: &mut [u8; 4354]
         let taken = t.taken;
         state = t.state;
         reply(said, out, answer);
-        if is_last(said) {
+        if is_closed(state) {
             return state;
         }
         if rest.len() <= taken {

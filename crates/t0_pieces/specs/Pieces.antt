@@ -60,3 +60,18 @@ takesFrom n s (b ∷ piece) out answer =
     (pick (isQuiet (stepOf s b out answer .reply))
     (takesFrom (n + 1) (stepOf s b out answer .state) piece (stepOf s b out answer .out) (stepOf s b out answer .answer))
     (ends (n + 1) (stepOf s b out answer)))
+
+-- a whole piece, however many calls it takes: the exchange and the two buffers after its bytes, up to the end of the exchange
+pub record Gone : Type 0 where
+  pub state : State
+  pub out : List ℕ
+  pub answer : List ℕ
+
+abbrev pub gone : State → List ℕ → List ℕ → Gone
+gone s out answer = record { state = s; out = out; answer = answer }
+
+unfoldable pub takenAll : State → List ℕ → List ℕ → List ℕ → Gone
+takenAll s [] out answer = gone s out answer
+takenAll s (b ∷ piece) out answer =
+    pick (isClosed s) (gone s out answer)
+    (takenAll (stepOf s b out answer .state) piece (stepOf s b out answer .out) (stepOf s b out answer .answer))
