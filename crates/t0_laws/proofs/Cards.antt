@@ -1,31 +1,29 @@
 -- The answer to a command is the right card's data and status, all of it and nothing else: each step of its script is one turn, or a
 -- turn and the bytes that it announces, and keeps exactly the script's data. Assumes nothing.
 use mathlib.Core.Path.{_≡_, refl, sym, ap, subst, _∙_}
-use mathlib.Core.Bool.{Bool, true, false, false≢true}
+use mathlib.Core.Bool.{true, false}
 use mathlib.Core.List.{List, [], _∷_, _++_, append-assoc, append-nil}
 use Prim.Native.Nat.{ℕ, _+_, _-_, _<_, _≤_}
 use native.Mathlib.Omega.{arith}
-use lib.Dec.{eqb, leb, ltb}
+use lib.Dec.{eqb}
 use lib.ListN.{length}
-use borrow.Author.Tests.{eq-eqb, ne-eqb, le-ltb, lt-ltb, le-leb, lt-leb}
+use borrow.Author.Tests.{eq-eqb, ne-eqb, lt-ltb, le-leb, lt-leb}
 use Rattle.slices.specs.Choice.{pick}
-use Rattle.slices.proofs.Choice.{pick-yes, pick-no, picked}
+use Rattle.slices.proofs.Choice.{pick-yes, pick-no}
 use Rattle.apdu.specs.Commands.{asked}
 use Rattle.apdu.specs.Answers.{isStatus}
-use Rattle.t0_state.specs.Bytes.{insFor, insOf, complement, meaningOf, comesIn, mayGet, mayRepeat, goesOn}
+use Rattle.t0_state.specs.Bytes.{insOf, complement, meaningOf, comesIn, mayGet, mayRepeat, goesOn}
 use Rattle.t0_state.specs.Changes.{atPhase, withReceived, withTrailer, asking}
 use Rattle.t0_state.specs.declared.Sent.the-variants.{GetResponse}
-use Rattle.t0_state.specs.declared.Command.{Command}
 use Rattle.t0_state.specs.declared.Trailer.{Trailer}
 use Rattle.t0_state.specs.declared.Trailer.the-variants.{Last, Kept}
 use Rattle.t0_state.specs.declared.Phase.{Phase}
 use Rattle.t0_state.specs.declared.Phase.the-variants.{Procedure, Length61, Length6C, Status, Data, Over}
 use Rattle.t0_state.specs.declared.State.{State}
-use Rattle.t0_state.specs.declared.Act.{Act}
-use Rattle.t0_state.specs.declared.Act.the-variants.{Nothing, Header, Send, Keep, Answer, Refuse}
+use Rattle.t0_state.specs.declared.Act.the-variants.{Nothing, Header, Send, Keep}
 use Rattle.t0_state.specs.declared.Turn.{Turn}
 use Rattle.t0_state.specs.declared.bytes.Meaning.{Meaning}
-use Rattle.t0_state.specs.declared.bytes.Meaning.the-variants.{All, Next, Wait, Get, Repeat, Strange, Status as Begins}
+use Rattle.t0_state.specs.declared.bytes.Meaning.the-variants.{All, Next, Wait, Get, Repeat, Status as Begins}
 use Rattle.t0_procedure.specs.Procedure.{waitsMost, getsMost, onward, lessLeft, moving, onAll, onNext, waited, onWait, got, onGet, repeats}
 use Rattle.t0_procedure.specs.Procedure.{onSixC, byMeaning, onProcedure}
 use Rattle.t0_turns.specs.Turns.{dataMost, onLength, onRepeat, endingIn, onStatus, phaseAfter, onData, byPhase, afterByte}

@@ -7,17 +7,16 @@ use Prim.Native.Nat.{ℕ, _+_, _≤_, _<_}
 use native.Mathlib.Omega.{arith}
 use lib.Dec.{eqb, leb, ltb}
 use lib.ListN.{getD}
-use borrow.Author.Tests.{eqb-true, le-ltb, le-leb, lt-ltb}
+use borrow.Author.Tests.{eqb-true, le-ltb}
 use Rattle.slices.specs.Choice.{pick}
 use Rattle.slices.proofs.Choice.{pick-yes, pick-no, picked, either}
 use Rattle.apdu.specs.Answers.{isStatus}
 use Rattle.apdu.specs.Commands.{lengthByte, caseOf, asked}
 use Rattle.apdu.specs.declared.Case.{Case}
 use Rattle.apdu.specs.declared.Case.the-variants.{One, Two, Three, Four, NoCase}
-use Rattle.t0_state.specs.Bytes.{insOf, complement, meaningOf, mayGet, mayRepeat, comesIn, goesOn}
+use Rattle.t0_state.specs.Bytes.{insOf, meaningOf, mayGet, mayRepeat}
 use Rattle.t0_state.specs.declared.Sent.{Sent}
 use Rattle.t0_state.specs.declared.Sent.the-variants.{Case1, Case2, Case3, Case4}
-use Rattle.t0_state.specs.declared.Counts.{Counts}
 use Rattle.t0_state.specs.declared.Phase.{Phase}
 use Rattle.t0_state.specs.declared.Phase.the-variants.{Procedure, Length61, Length6C, Status, Data, Over}
 use Rattle.t0_state.specs.declared.Refusal.{Refusal}
@@ -29,7 +28,7 @@ use Rattle.t0_state.specs.declared.bytes.Meaning.{Meaning}
 use Rattle.t0_state.specs.declared.bytes.Meaning.the-variants.{All, Next, Wait, Get, Repeat, Strange, Status as Begins}
 use Rattle.t0_procedure.specs.Procedure.{waitsMost, getsMost, refused, onward, moving, onAll, onNext}
 use Rattle.t0_procedure.specs.Procedure.{waited, onWait, got, onGet, repeats, onSixC, byMeaning, onProcedure}
-use Rattle.t0_turns.specs.Turns.{dataMost, onLength, onRepeat, onStatus, phaseAfter, onData, byPhase, afterByte}
+use Rattle.t0_turns.specs.Turns.{dataMost, onLength, onRepeat, onStatus, onData, byPhase, afterByte}
 use Rattle.t0_begin.specs.Begin.{Begun, nowhere, begun, begunAs, begunIn, begunBy}
 use Rattle.t0_pieces.specs.Pieces.{isOver}
 use Rattle.t0_laws.specs.Outcomes.{turned, Bytes}

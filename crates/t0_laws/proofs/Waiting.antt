@@ -5,9 +5,9 @@ use mathlib.Core.Bool.{Bool, true, false, false≢true}
 use mathlib.Core.List.{List, [], _∷_, _++_}
 use Prim.Native.Nat.{ℕ, _+_, _<_, _≤_}
 use native.Mathlib.Omega.{arith}
-use lib.Dec.{eqb, leb, ltb}
+use lib.Dec.{eqb, ltb}
 use lib.ListN.{length, getD, take}
-use borrow.Author.Tests.{lt-ltb, le-ltb}
+use borrow.Author.Tests.{lt-ltb}
 use Rattle.slices.specs.Choice.{pick}
 use Rattle.slices.specs.Writing.{laid}
 use Rattle.slices.proofs.Choice.{pick-yes, pick-no, pick-ap, pick-cong, picked, either}
@@ -31,8 +31,8 @@ use Rattle.t0_procedure.specs.Procedure.{waitsMost, moving, onAll, onNext, wait
 use Rattle.t0_turns.specs.Turns.{dataMost, onLength, onRepeat, onStatus, onData, byPhase, afterByte}
 use Rattle.t0_begin.specs.Begin.{Begun, headerOf, nowhere, begun, begunAs, begunIn, begunBy}
 use Rattle.t0_begin.specs.declared.Reply.{Reply}
-use Rattle.t0_begin.specs.declared.Reply.the-variants.{Go, Refused, Answer as Answered}
-use Rattle.t0.specs.Steps.{sentBy, keptBy, waitFor, replyTo, Stepped, done, stepOf}
+use Rattle.t0_begin.specs.declared.Reply.the-variants.{Go}
+use Rattle.t0.specs.Steps.{sentBy, keptBy, waitFor, replyTo, done, stepOf}
 use Rattle.t0_pieces.specs.Pieces.{isOver, isClosed}
 use Rattle.t0_laws.specs.Outcomes.{Outcome, logged, settled, opened, steppedTo, playing, turned, Bytes}
 use Rattle.t0_laws.specs.Counting.{procedureDue, procedures, times, once, oneMore}

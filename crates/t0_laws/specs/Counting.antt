@@ -12,7 +12,7 @@ use Rattle.t0_state.specs.declared.Phase.the-variants.{Procedure, Length61, Len
 use Rattle.t0_state.specs.declared.State.{State}
 use Rattle.t0_procedure.specs.Procedure.{waited}
 use Rattle.t0_turns.specs.Turns.{afterByte}
-use Rattle.t0_laws.specs.Outcomes.{Outcome, turned}
+use Rattle.t0_laws.specs.Outcomes.{Outcome}
 
 abbrev pub procedureDue : Phase → Bool
 procedureDue Procedure = true

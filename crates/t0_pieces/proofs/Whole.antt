@@ -2,14 +2,13 @@
 use mathlib.Core.Path.{_≡_, refl, sym, ap, subst, _∙_}
 use mathlib.Core.Bool.{true, false, false≢true}
 use mathlib.Core.List.{List, [], _∷_}
-use Prim.Native.Nat.{ℕ, zero, suc, _+_, _-_, _≤_}
+use Prim.Native.Nat.{ℕ, suc, _+_, _-_, _≤_}
 use native.Mathlib.Omega.{arith}
 use lib.ListN.{length, drop}
-use Rattle.slices.specs.Choice.{pick}
 use Rattle.slices.proofs.Choice.{pick-yes, pick-no, picked, either}
 use Rattle.t0_state.specs.declared.State.{State}
 use Rattle.t0.specs.Steps.{Stepped, stepOf}
-use Rattle.t0_pieces.specs.Pieces.{isClosed, isQuiet, Took, here, ends, takesFrom, Gone, gone, takenAll}
+use Rattle.t0_pieces.specs.Pieces.{isClosed, isQuiet, Took, takesFrom, Gone, gone, takenAll}
 
 -- an exchange that is over takes nothing
 pub closed-all : (piece : List ℕ) (s : State) (out answer : List ℕ) → isClosed s ≡ true → takenAll s piece out answer ≡ gone s out answer

@@ -1,6 +1,6 @@
 -- The number of blocks that come in a whole session, at most. Assumes nothing.
 use mathlib.Core.Path.{_≡_, refl, sym, ap, subst, _∙_}
-use mathlib.Core.Bool.{Bool, true, false, not, false≢true}
+use mathlib.Core.Bool.{Bool, true, false, not}
 use mathlib.Core.List.{List, [], _∷_}
 use Prim.Native.Nat.{ℕ, _+_, _*_, _-_, _≤_}
 use native.Mathlib.Omega.{arith}
@@ -8,13 +8,12 @@ use lib.ListN.{length, drop}
 use Rattle.slices.specs.Choice.{pick}
 use Rattle.slices.specs.Tests.{between}
 use Rattle.slices.specs.Writing.{zeros}
-use Rattle.slices.proofs.Choice.{pick-yes, pick-no, picked, either}
+use Rattle.slices.proofs.Choice.{pick-yes, pick-no, either}
 use Rattle.t1_block.specs.Faults.{heardOf}
 use Rattle.t1_block.specs.declared.What.{What}
 use Rattle.t1_block.specs.declared.What.the-variants.{Ifs}
 use Rattle.t1_state.specs.Limits.{messageMost}
 use Rattle.t1_state.specs.declared.Phase.the-variants.{Due}
-use Rattle.t1_state.specs.declared.State.{State}
 use Rattle.t1_state.specs.declared.Turn.{Turn}
 use Rattle.t1_again.specs.Again.{goesOut}
 use Rattle.t1_line.specs.Line.{equal, sendsPiece}
@@ -24,12 +23,12 @@ use Rattle.t1_laws.specs.Stopping.{isBad}
 use Rattle.t1_laws.specs.Lossy.{intact, spoiled}
 use Rattle.t1_laws.specs.Talks.{Side, Line, clear, forth, back, Talk, Happens, command, answer, comes, lost, carrying, moved, handed}
 use Rattle.t1_laws.specs.Talks.{hello as greets, asks as requests, spoiled as spoils-it, toCard, toTerminal, arrives, spoils, happens}
-use Rattle.t1_laws.specs.Talks.{isOver, talk, begun, isClear, one, isDamage, landed, arrivals, cost, costs}
+use Rattle.t1_laws.specs.Talks.{isOver, begun, isClear, one, isDamage, landed, arrivals, cost, costs}
 use Rattle.t1_laws.proofs.Cases.{every-hello, every-ask, every-send}
 use Rattle.t1_laws.proofs.Meeting.{Way, there, Level, to-y, Met, asking, sending}
 use Rattle.t1_laws.proofs.Talking.{fromTerminal, fromCard, Holds}
 use Rattle.t1_laws.proofs.Schedule.{message-going, request-level, terminal-due, terminal-start, card-due, step-holds, begun-holds}
-use Rattle.t1_laws.proofs.Rank.{tries, lacks, rankOf, tries-most, other}
+use Rattle.t1_laws.proofs.Rank.{lacks, rankOf, tries-most, other}
 use Rattle.t1_laws.proofs.Ending.{Ranked, standing, terminals, cards, more, card-ranked, terminal-ranked}
 
 -- a message goes out, or a request

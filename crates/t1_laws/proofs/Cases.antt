@@ -1,12 +1,10 @@
 -- The turns that an event can bring at one end, each with what led to it: what holds of all of them holds of every turn. Assumes nothing.
-use mathlib.Core.Path.{_≡_, refl, sym, ap, subst, _∙_}
-use mathlib.Core.Bool.{Bool, true, false, not, false≢true}
+use mathlib.Core.Path.{_≡_, refl, ap, subst}
+use mathlib.Core.Bool.{Bool, true, false, false≢true}
 use mathlib.Core.List.{List}
 use Prim.Native.Nat.{ℕ, _+_, _<_, _≤_}
-use lib.Dec.{ltb}
 use lib.ListN.{length, getD}
 use borrow.Author.Tests.{ltb-true, ltb-false}
-use Rattle.slices.specs.Choice.{pick}
 use Rattle.slices.specs.Tests.{between}
 use Rattle.slices.proofs.Choice.{picked}
 use Rattle.t1_block.specs.Blocks.{lenOf}
@@ -34,7 +32,7 @@ use Rattle.t1_state.specs.declared.Act.the-variants.{Nothing as Quiet}
 use Rattle.t1_state.specs.declared.Turn.{Turn}
 use Rattle.t1_again.specs.Again.{goesOut, endedBy, refusedAs, readyFor, staysOpen, remains, exhausted, sameAgain}
 use Rattle.t1_again.specs.Again.{informationAgain, wrongAfter, wrong, forRole}
-use Rattle.t1_line.specs.Line.{isIfs, answers, onRequest, sendsPiece, sendsNext, equal, isSent, onReady, takesFields}
+use Rattle.t1_line.specs.Line.{isIfs, answers, onRequest, sendsPiece, sendsNext, isSent, onReady, takesFields}
 use Rattle.t1_line.specs.Line.{keeps, onInformation, onKind, onLine}
 use Rattle.t1_asking.specs.Asking.{isResponse, settled, askedInstead, onResponse, askedKind, onAsking}
 use Rattle.t1_turns.specs.Turns.{byPhase, onBlock, silentIn, onSilence, asksFor, helloIn, onHello, mayAsk, cardAsks, askIn, onAsk}

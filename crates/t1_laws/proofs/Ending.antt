@@ -1,38 +1,19 @@
 -- Every conversation ends: the number of blocks that come is at most what the messages and requests cost, whatever the line does to them;
 -- each arrival takes one from the rank, and only a message or a request adds to it. Assumes nothing.
 use mathlib.Core.Path.{_≡_, refl, sym, ap, subst, _∙_}
-use mathlib.Core.Bool.{Bool, true, false, not, false≢true}
-use mathlib.Core.List.{List, [], _∷_}
-use Prim.Native.Nat.{ℕ, _+_, _*_, _-_, _<_, _≤_}
+use mathlib.Core.List.{List}
+use Prim.Native.Nat.{ℕ, _-_, _<_, _≤_}
 use native.Mathlib.Omega.{arith}
-use lib.ListN.{length, drop}
-use Rattle.slices.specs.Choice.{pick}
-use Rattle.slices.specs.Tests.{between}
-use Rattle.slices.specs.Writing.{zeros}
-use Rattle.slices.proofs.Choice.{pick-yes, pick-no, pick-ap, picked, either}
-use Rattle.t1_block.specs.Faults.{heardOf}
-use Rattle.t1_block.specs.declared.What.{What}
-use Rattle.t1_block.specs.declared.What.the-variants.{Ifs}
-use Rattle.t1_state.specs.Limits.{messageMost}
-use Rattle.t1_state.specs.declared.State.{State}
-use Rattle.t1_state.specs.declared.Turn.{Turn}
-use Rattle.t1_again.specs.Again.{goesOut}
-use Rattle.t1_line.specs.Line.{equal, sendsPiece}
-use Rattle.t1_turns.specs.Turns.{asksFor, messageOf}
+use Rattle.slices.proofs.Choice.{pick-ap}
 use Rattle.t1.specs.Steps.{blockOf}
-use Rattle.t1_laws.specs.Stopping.{isBad}
-use Rattle.t1_laws.specs.Lossy.{Arrives, intact, spoiled}
-use Rattle.t1_laws.specs.Talks.{Side, Line, clear, forth, back, Talk, Happens, command, answer, comes, lost, speaks, carrying}
-use Rattle.t1_laws.specs.Talks.{hello as greets, asks as requests, spoiled as spoils-it, moved, handed, toCard, toTerminal}
-use Rattle.t1_laws.specs.Talks.{arrives, spoils, happens, isOver, talk, begun, isClear, one, isDamage, landed, arrivals, cost, costs}
-use Rattle.t1_laws.proofs.Rounds.{equal-same, not-not}
-use Rattle.t1_laws.proofs.Cases.{every-hello, every-ask, every-send}
-use Rattle.t1_laws.proofs.Meeting.{Way, empty, there, here, Level, Flies, to-y, to-x, Met, idle, asking, sending, Left, goes-on, changes}
+use Rattle.t1_laws.specs.Lossy.{Arrives}
+use Rattle.t1_laws.specs.Talks.{Side, clear, forth, back, Talk, speaks}
+use Rattle.t1_laws.specs.Talks.{toCard, toTerminal}
+use Rattle.t1_laws.proofs.Meeting.{Way, empty, there, here, to-y, to-x, Met, idle, asking, sending, Left, goes-on, changes}
 use Rattle.t1_laws.proofs.Meeting.{x-stops, y-stops, x-mute, yAfter, xAfter, yTurn, xTurn, yWay, xWay, request-comes, reply-comes}
 use Rattle.t1_laws.proofs.Messages.{piece-comes, response-comes}
 use Rattle.t1_laws.proofs.Talking.{fromTerminal, fromCard, Holds, clear-terminal, clear-card}
-use Rattle.t1_laws.proofs.Schedule.{message-out, request-out, terminal-due, terminal-start, card-due, step-holds, begun-holds}
-use Rattle.t1_laws.proofs.Rank.{tries, triesOf, lacks, askWay, sendWay, rankOf, tries-most, other}
+use Rattle.t1_laws.proofs.Rank.{askWay, sendWay, rankOf}
 use Rattle.t1_laws.proofs.Rank.{request-rank, reply-rank, piece-rank, response-rank}
 
 -- at most so many blocks can still come of what is under way

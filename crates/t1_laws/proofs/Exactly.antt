@@ -3,14 +3,12 @@
 use mathlib.Core.Path.{_≡_, refl, sym, ap, subst, _∙_}
 use mathlib.Core.Bool.{Bool, true, false, not, false≢true}
 use mathlib.Core.List.{List, [], _∷_}
-use Prim.Native.Nat.{ℕ, _+_, _<_, _≤_}
+use Prim.Native.Nat.{ℕ, _+_, _≤_}
 use native.Mathlib.Omega.{arith}
-use lib.Dec.{eqb}
-use lib.ListN.{length, getD}
+use lib.ListN.{getD}
 use borrow.Author.Tests.{eq-eqb, lt-ltb}
-use Rattle.slices.specs.Choice.{pick}
 use Rattle.slices.proofs.Choice.{pick-yes, pick-no, picked}
-use Rattle.t1_block.specs.Blocks.{lenOf, kindOf, whatNumber, pcbOfS, framed}
+use Rattle.t1_block.specs.Blocks.{lenOf, whatNumber, pcbOfS, framed}
 use Rattle.t1_block.specs.Faults.{fieldFault, heardOf}
 use Rattle.t1_block.proofs.Framing.{not-too-long}
 use Rattle.t1_block.specs.declared.What.{What}
@@ -19,7 +17,7 @@ use Rattle.t1_block.specs.declared.Kind.the-variants.{Ready as R, Request as As
 use Rattle.t1_block.specs.declared.Fault.the-variants.{Sound}
 use Rattle.t1_block.specs.declared.Heard.{Heard}
 use Rattle.t1_block.specs.declared.Heard.the-variants.{Valid, Bad}
-use Rattle.t1_state.specs.Limits.{informationLimit, askingLimit, cardLimit, sameLimit, moreOf}
+use Rattle.t1_state.specs.Limits.{informationLimit, askingLimit, sameLimit, moreOf}
 use Rattle.t1_state.specs.Changes.{atPhase, sending, withSizes}
 use Rattle.t1_state.specs.declared.Role.{Role}
 use Rattle.t1_state.specs.declared.Role.the-variants.{Terminal, Card}

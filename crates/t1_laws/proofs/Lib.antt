@@ -12,6 +12,7 @@ pub mod Hearing
 pub mod Lossy
 pub mod Arriving
 pub mod Cases
+pub mod Orderly
 pub mod Sendings
 pub mod Manner
 pub mod Completing
@@ -19,10 +20,12 @@ pub mod Meeting
 pub mod Messages
 pub mod Talking
 pub mod Schedule
+pub mod Deadlock
 pub mod Worked
 pub mod Exactly
 pub mod Moods
 pub mod Recovery
+pub mod Well
 pub mod OneFault
 pub mod Rank
 pub mod Ending

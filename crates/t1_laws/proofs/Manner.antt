@@ -1,29 +1,24 @@
 -- What an end does with a block that comes where it awaits one: it sends a block and goes on waiting, keeps a field, has its message
 -- whole, has its response, stops, or remains silent. Assumes nothing.
-use mathlib.Core.Path.{_≡_, refl, sym, ap, subst, _∙_}
-use mathlib.Core.Bool.{Bool, true, false, not, false≢true}
-use mathlib.Core.List.{List, [], _∷_}
-use Prim.Native.Nat.{ℕ, _+_, _<_, _≤_}
+use mathlib.Core.Path.{_≡_, refl, sym, ap, _∙_}
+use mathlib.Core.Bool.{true, false, not, false≢true}
+use mathlib.Core.List.{List}
+use Prim.Native.Nat.{ℕ, _+_, _<_}
 use native.Mathlib.Omega.{arith}
 use Rattle.slices.proofs.Choice.{picked}
 use Rattle.t1_block.specs.declared.What.{What}
 use Rattle.t1_block.specs.declared.What.the-variants.{Resynch, Ifs, Abort, Wtx}
-use Rattle.t1_state.specs.Limits.{sameLimit, moreOf}
 use Rattle.t1_state.specs.Changes.{atPhase}
 use Rattle.t1_state.specs.declared.Role.the-variants.{Card}
 use Rattle.t1_state.specs.declared.Phase.{Phase}
 use Rattle.t1_state.specs.declared.Phase.the-variants.{Start, Asking, Due, Sent, Receiving, Over}
-use Rattle.t1_state.specs.declared.Last.{Last}
 use Rattle.t1_state.specs.declared.Last.the-variants.{Ready}
-use Rattle.t1_state.specs.declared.Numbers.{Numbers}
-use Rattle.t1_state.specs.declared.Message.{Message}
 use Rattle.t1_state.specs.declared.State.{State}
 use Rattle.t1_state.specs.declared.End.{End}
-use Rattle.t1_state.specs.declared.Act.{Act}
-use Rattle.t1_state.specs.declared.Act.the-variants.{Send, Keep, Value, Whole, Refuse, Nothing as Quiet, End as Ends}
+use Rattle.t1_state.specs.declared.Act.the-variants.{Send, Keep, Value, Whole, Nothing as Quiet, End as Ends}
 use Rattle.t1_state.specs.declared.Turn.{Turn}
 use Rattle.t1_again.specs.Again.{readyFor}
-use Rattle.t1_line.specs.Line.{answers, sendsPiece, sendsNext, takesFields, keeps}
+use Rattle.t1_line.specs.Line.{answers, sendsPiece, sendsNext, keeps}
 use Rattle.t1_asking.specs.Asking.{settled}
 use Rattle.t1_turns.specs.Turns.{onBlock}
 use Rattle.t1_laws.specs.Stopping.{awaits}

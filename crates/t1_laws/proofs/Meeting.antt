@@ -2,7 +2,7 @@
 -- before the piece that is out, or that piece too. Every arrival leads from one of these to one of these, the roles changed where the
 -- message is whole, or to an end that has stopped or fallen silent. Assumes nothing.
 use mathlib.Core.Path.{_≡_, refl, sym, ap, ap₂, subst, _∙_}
-use mathlib.Core.Bool.{Bool, true, false, not, false≢true}
+use mathlib.Core.Bool.{Bool, true, false, false≢true}
 use mathlib.Core.List.{List, [], _∷_, _++_, append-nil}
 use Prim.Native.Nat.{ℕ, _+_}
 use native.Mathlib.Omega.{arith}
@@ -25,7 +25,6 @@ use Rattle.t1_state.specs.declared.Phase.the-variants.{Start, Asking, Due, Sent
 use Rattle.t1_state.specs.declared.Last.{Last}
 use Rattle.t1_state.specs.declared.Last.the-variants.{Nothing, Information, Ready, Request, Response}
 use Rattle.t1_state.specs.declared.Numbers.{Numbers}
-use Rattle.t1_state.specs.declared.Message.{Message}
 use Rattle.t1_state.specs.declared.State.{State}
 use Rattle.t1_state.specs.declared.End.{End}
 use Rattle.t1_state.specs.declared.End.the-variants.{Abort as Aborted}
@@ -34,19 +33,17 @@ use Rattle.t1_state.specs.declared.Act.the-variants.{Send, Keep, Value, Whole, 
 use Rattle.t1_state.specs.declared.Turn.{Turn}
 use Rattle.t1_again.specs.Again.{endedBy, wrong, forRole}
 use Rattle.t1_line.specs.Line.{answers, onRequest, takesFields, onKind, onLine}
-use Rattle.t1_turns.specs.Turns.{byPhase, onBlock}
+use Rattle.t1_turns.specs.Turns.{onBlock}
 use Rattle.t1.specs.Steps.{blockFor, blockOf, keptBy}
 use Rattle.t1_laws.specs.Stopping.{isBad, awaits}
 use Rattle.t1_laws.specs.Conduct.{listens, isRequest, fits}
 use Rattle.t1_laws.specs.Lossy.{Arrives, intact, spoiled}
 use Rattle.t1_laws.specs.Talks.{Side, speaks, wholeBy, partBy, heard, InOrder}
 use Rattle.t1_laws.proofs.Reading.{kind-request}
-use Rattle.t1_laws.proofs.Rounds.{not-not, on-line}
-use Rattle.t1_laws.proofs.Still.{Says, Stays, on, over, Still, Passes, passes}
-use Rattle.t1_laws.proofs.Hearing.{Hears, as-it-is, as-bad, hears-any, arrived}
-use Rattle.t1_laws.proofs.Lossy.{Sends, Ear, ready-to, shut, Both, Inv, before, behind, whole, comes-forth}
-use Rattle.t1_laws.proofs.Arriving.{comes-back}
-use Rattle.t1_laws.proofs.Completing.{Came, completes, never-completes}
+use Rattle.t1_laws.proofs.Rounds.{on-line}
+use Rattle.t1_laws.proofs.Still.{Says, passes}
+use Rattle.t1_laws.proofs.Hearing.{Hears, as-it-is, as-bad, hears-any}
+use Rattle.t1_laws.proofs.Lossy.{Inv, before, behind, whole}
 use Rattle.t1_laws.proofs.Manner.{Listened, says, replies, takes, stops, listened, Unmoved, Asked, asks, settles, remains, asked}
 use Rattle.t1_laws.proofs.Manner.{whole as has-whole, stops as stops-asking}
 

@@ -1,43 +1,34 @@
 -- A message on its way between two ends: each arrival brings the piece that is out, or asks for it, or is not taken; the last piece makes
 -- the message whole, and then the other end is to send. Assumes nothing.
 use mathlib.Core.Path.{_≡_, refl, sym, ap, ap₂, subst, _∙_}
-use mathlib.Core.Bool.{Bool, true, false, not, false≢true}
+use mathlib.Core.Bool.{true, not, false≢true}
 use mathlib.Core.List.{List, [], _∷_, _++_, append-nil}
-use Prim.Native.Nat.{ℕ, _≤_}
+use Prim.Native.Nat.{ℕ}
 use native.Mathlib.Omega.{arith}
-use lib.Dec.{leb}
-use lib.ListN.{length, drop}
-use borrow.Author.Tests.{leb-true}
-use Rattle.slices.specs.Choice.{pick}
-use Rattle.slices.specs.Tests.{between}
-use Rattle.slices.specs.Writing.{zeros}
-use Rattle.slices.proofs.Choice.{pick-yes, pick-no, and-left, and-right}
+use Rattle.slices.proofs.Choice.{pick-yes, pick-no}
 use Rattle.t1_block.specs.Blocks.{infOf}
-use Rattle.t1_block.specs.declared.What.{What}
-use Rattle.t1_state.specs.Limits.{messageMost, moreOf}
+use Rattle.t1_state.specs.Limits.{moreOf}
 use Rattle.t1_state.specs.declared.Phase.{Phase}
-use Rattle.t1_state.specs.declared.Phase.the-variants.{Start, Asking, Due, Sent, Receiving, Over}
+use Rattle.t1_state.specs.declared.Phase.the-variants.{Due, Sent, Receiving, Over}
 use Rattle.t1_state.specs.declared.State.{State}
 use Rattle.t1_state.specs.declared.Act.{Act}
 use Rattle.t1_state.specs.declared.Act.the-variants.{Send, Keep, Value, Whole, Refuse, Nothing as Quiet, End as Ends}
 use Rattle.t1_state.specs.declared.Turn.{Turn}
-use Rattle.t1_again.specs.Again.{goesOut}
-use Rattle.t1_line.specs.Line.{sendsPiece, takesFields}
-use Rattle.t1_turns.specs.Turns.{onBlock, asksFor, messageOf}
+use Rattle.t1_line.specs.Line.{takesFields}
 use Rattle.t1.specs.Steps.{blockOf, keptBy}
 use Rattle.t1_laws.specs.Stopping.{awaits}
 use Rattle.t1_laws.specs.Conduct.{listens, fits}
 use Rattle.t1_laws.specs.Lossy.{Arrives}
-use Rattle.t1_laws.specs.Talks.{Side, speaks, partBy, wholeBy, heard, handed, moved}
+use Rattle.t1_laws.specs.Talks.{Side, speaks, partBy, wholeBy}
 use Rattle.t1_laws.proofs.Rounds.{not-not}
 use Rattle.t1_laws.proofs.Still.{Stays, on, over}
 use Rattle.t1_laws.proofs.Hearing.{arrived}
 use Rattle.t1_laws.proofs.Lossy.{Ear, ready-to, shut, Both, Inv, before, behind, whole, comes-forth}
-use Rattle.t1_laws.proofs.Arriving.{comes-back, holds-first}
+use Rattle.t1_laws.proofs.Arriving.{comes-back}
 use Rattle.t1_laws.proofs.Completing.{Came, completes, never-completes}
 use Rattle.t1_laws.proofs.Manner.{Listened, says, replies, takes, stops, listened}
 use Rattle.t1_laws.proofs.Manner.{whole as has-whole}
-use Rattle.t1_laws.proofs.Meeting.{Way, empty, there, here, Level, Going, Flies, to-y, to-x, Met, idle, asking, sending, Apart}
+use Rattle.t1_laws.proofs.Meeting.{Level, Going, to-y, to-x, idle, sending, Apart}
 use Rattle.t1_laws.proofs.Meeting.{Left, goes-on, changes, x-stops, y-stops, going-order, begun-part, takes-listens, takes-awaits}
 use Rattle.t1_laws.proofs.Meeting.{keepsNone, part-same, whole-same, yTurn, xTurn, yAfter, xAfter, yWay, xWay, y-order, x-order}
 

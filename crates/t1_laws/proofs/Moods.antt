@@ -3,47 +3,31 @@
 -- on as before: so no count passes two, and two are allowed to every end. Assumes nothing.
 use mathlib.Core.Path.{_≡_, refl, sym, ap, subst, _∙_}
 use mathlib.Core.Bool.{Bool, true, false, not, false≢true}
-use mathlib.Core.List.{List, [], _∷_, _++_}
-use Prim.Native.Nat.{ℕ, _+_, _≤_}
-use native.Mathlib.Omega.{arith}
+use mathlib.Core.List.{List}
+use Prim.Native.Nat.{ℕ, _≤_}
 use lib.ListN.{length}
-use Rattle.slices.specs.Choice.{pick}
-use Rattle.slices.proofs.Choice.{pick-yes, pick-no, picked, either}
-use Rattle.t1_block.specs.Faults.{fieldFault, heardOf}
 use Rattle.t1_block.specs.declared.What.{What}
-use Rattle.t1_block.specs.declared.What.the-variants.{Resynch, Ifs, Abort, Wtx}
-use Rattle.t1_block.specs.declared.Kind.the-variants.{Response as Answers}
-use Rattle.t1_block.specs.declared.Fault.the-variants.{Sound}
+use Rattle.t1_block.specs.declared.What.the-variants.{Wtx}
 use Rattle.t1_state.specs.Limits.{messageMost, room, moreOf}
-use Rattle.t1_state.specs.declared.Role.the-variants.{Terminal, Card}
-use Rattle.t1_state.specs.declared.Phase.{Phase}
-use Rattle.t1_state.specs.declared.Phase.the-variants.{Asking, Due, Sent, Receiving}
+use Rattle.t1_state.specs.declared.Phase.the-variants.{Asking, Due}
 use Rattle.t1_state.specs.declared.Last.{Last}
 use Rattle.t1_state.specs.declared.Last.the-variants.{Nothing, Information, Ready, Request, Response}
 use Rattle.t1_state.specs.declared.Sizes.{Sizes}
 use Rattle.t1_state.specs.declared.State.{State}
-use Rattle.t1_state.specs.declared.Act.the-variants.{Send, Keep, Value, Whole, Nothing as Quiet}
+use Rattle.t1_state.specs.declared.Act.the-variants.{Send}
 use Rattle.t1_state.specs.declared.Turn.{Turn}
-use Rattle.t1_again.specs.Again.{goesOut, readyFor, wrong}
-use Rattle.t1_line.specs.Line.{isIfs, answers, sendsPiece, sendsNext, takesFields, keeps}
+use Rattle.t1_again.specs.Again.{readyFor, wrong}
 use Rattle.t1_asking.specs.Asking.{settled}
-use Rattle.t1_turns.specs.Turns.{onBlock}
 use Rattle.t1.specs.Steps.{blockOf}
-use Rattle.t1_laws.specs.Stopping.{isBad, awaits}
 use Rattle.t1_laws.specs.Conduct.{listens, fits}
-use Rattle.t1_laws.specs.Lossy.{Arrives, intact, spoiled}
-use Rattle.t1_laws.specs.Talks.{Side, speaks}
-use Rattle.t1_laws.proofs.Rounds.{not-not, taken}
+use Rattle.t1_laws.specs.Talks.{Side}
 use Rattle.t1_laws.proofs.Rounds.{Going as Round}
 use Rattle.t1_laws.proofs.Still.{plain, Says}
 use Rattle.t1_laws.proofs.Lossy.{Inv, before, behind, whole}
-use Rattle.t1_laws.proofs.Manner.{Unmoved}
-use Rattle.t1_laws.proofs.Meeting.{Way, empty, there, here, Level, Going, calm, keepsNone, yAfter, xAfter, yTurn, xTurn, yWay, xWay}
-use Rattle.t1_laws.proofs.Meeting.{y-level, x-level, is-request, takes-listens}
-use Rattle.t1_laws.proofs.Messages.{due-not, spoken, kept, complete, answered}
-use Rattle.t1_laws.proofs.Exactly.{repeated, resent, wrong-ready, opens, wrong-opens, Askable, a-size, some-time, resized}
-use Rattle.t1_laws.proofs.Exactly.{request-heard, response-heard, next-asked, again-asked, request-asked, ready-asked}
-use Rattle.t1_laws.proofs.Exactly.{code, bad-line, bad-sent, bad-asking}
+use Rattle.t1_laws.proofs.Meeting.{Way, empty, there, here, Level, Going}
+use Rattle.t1_laws.proofs.Meeting.{takes-listens}
+use Rattle.t1_laws.proofs.Messages.{due-not, kept}
+use Rattle.t1_laws.proofs.Exactly.{wrong-ready, opens, wrong-opens, Askable}
 
 -- every field of x's fits y
 abbrev pub Roomy : State → State → Type 0

@@ -1,10 +1,9 @@
 -- An end that hears nothing valid soon sends nothing more: each invalid block brings out the same block once more, which is counted, or an
 -- R-block, after which it is. Then it has stopped, or it is a card that remains in receive mode, and stays so. Assumes nothing.
 use mathlib.Core.Path.{_≡_, refl, sym, ap, subst, _∙_}
-use mathlib.Core.Bool.{Bool, true, false, false≢true}
+use mathlib.Core.Bool.{true, false, false≢true}
 use mathlib.Core.List.{List, [], _∷_}
-use mathlib.Core.Logic.{⊎-elim}
-use Prim.Native.Nat.{ℕ, zero, suc, _+_, _-_, _<_, _≤_}
+use Prim.Native.Nat.{ℕ, _+_, _-_, _<_, _≤_}
 use native.Mathlib.Nat.{not-suc-le-zero}
 use native.Mathlib.Omega.{arith}
 use lib.ListN.{length, getD}
@@ -28,7 +27,7 @@ use Rattle.t1_state.specs.declared.Last.the-variants.{Nothing, Information, Rea
 use Rattle.t1_state.specs.declared.State.{State}
 use Rattle.t1_state.specs.declared.End.the-variants.{Limit}
 use Rattle.t1_state.specs.declared.Turn.{Turn}
-use Rattle.t1_again.specs.Again.{goesOut, endedBy, readyFor, asksSize, staysOpen, remains, exhausted, sameAgain, wrongAfter, wrong, forRole}
+use Rattle.t1_again.specs.Again.{endedBy, readyFor, asksSize, staysOpen, remains, exhausted, sameAgain, wrongAfter, wrong, forRole}
 use Rattle.t1_line.specs.Line.{onLine}
 use Rattle.t1_asking.specs.Asking.{askedInstead, onResponse, askedKind, onAsking}
 use Rattle.t1_turns.specs.Turns.{byPhase, onBlock}

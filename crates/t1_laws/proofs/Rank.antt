@@ -3,13 +3,13 @@
 -- R-blocks count and nothing but a piece that is kept starts them anew; and a piece that is kept leaves fewer bytes. Assumes nothing.
 use mathlib.Core.Path.{_≡_, refl, sym, ap, ap₂, subst, _∙_}
 use mathlib.Core.Bool.{Bool, true, false, not, false≢true}
-use mathlib.Core.List.{List, [], _∷_}
+use mathlib.Core.List.{List, []}
 use Prim.Native.Nat.{ℕ, _+_, _*_, _-_, _<_, _≤_}
 use native.Mathlib.Omega.{arith}
 use lib.ListN.{length, getD}
 use borrow.Author.Tests.{ltb-true}
 use Rattle.slices.specs.Choice.{pick}
-use Rattle.slices.proofs.Choice.{pick-yes, pick-no, picked, either}
+use Rattle.slices.proofs.Choice.{pick-yes, pick-no, picked}
 use Rattle.t1_block.specs.Blocks.{lenOf}
 use Rattle.t1_block.specs.Faults.{heardOf}
 use Rattle.t1_block.specs.declared.Heard.{Heard}
@@ -24,8 +24,7 @@ use Rattle.t1_state.specs.declared.Message.{Message}
 use Rattle.t1_state.specs.declared.State.{State}
 use Rattle.t1_state.specs.declared.End.{End}
 use Rattle.t1_state.specs.declared.End.the-variants.{Limit}
-use Rattle.t1_state.specs.declared.Act.{Act}
-use Rattle.t1_state.specs.declared.Act.the-variants.{Send, Keep, Value, Whole, Refuse, Nothing as Quiet, End as Ends}
+use Rattle.t1_state.specs.declared.Act.the-variants.{Send, Keep, Value}
 use Rattle.t1_state.specs.declared.Turn.{Turn}
 use Rattle.t1_again.specs.Again.{goesOut, endedBy, readyFor, exhausted, sameAgain, wrongAfter, wrong, staysOpen, remains}
 use Rattle.t1_line.specs.Line.{equal, sendsPiece, sendsNext, isSent, onReady, takesFields, keeps, onInformation, onKind, onLine}
@@ -36,13 +35,13 @@ use Rattle.t1_laws.specs.Lossy.{Arrives}
 use Rattle.t1_laws.specs.Talks.{Side, speaks}
 use Rattle.t1_laws.proofs.Rounds.{equal-same, not-not}
 use Rattle.t1_laws.proofs.Stopping.{same-limit}
-use Rattle.t1_laws.proofs.Still.{plain, Says, Still, Passes, again-passes, passes}
+use Rattle.t1_laws.proofs.Still.{plain, Says, Passes, again-passes, passes}
 use Rattle.t1_laws.proofs.Hearing.{Out, info, ready, answer, bad, arrived, equal-not}
-use Rattle.t1_laws.proofs.Pieces.{piece-low, piece-inside}
+use Rattle.t1_laws.proofs.Pieces.{piece-low}
 use Rattle.t1_laws.proofs.Lossy.{Both, Inv, before, behind, whole, sent-more, information-passes, on-line-is}
 use Rattle.t1_laws.proofs.Manner.{Listened, says, replies, takes, stops, listened, Asked, asks, settles, remains as stands, asked}
 use Rattle.t1_laws.proofs.Manner.{whole as has-whole, stops as stops-asking}
-use Rattle.t1_laws.proofs.Meeting.{Way, empty, there, here, Level, Going, Flies, to-y, to-x, Met, idle, asking, sending}
+use Rattle.t1_laws.proofs.Meeting.{Way, empty, there, here, Going, Flies, to-y, to-x, Met, idle, asking, sending}
 use Rattle.t1_laws.proofs.Meeting.{takes-listens, yAfter, xAfter, yTurn, xTurn, yWay, xWay}
 use Rattle.t1_laws.proofs.Messages.{due-not}
 

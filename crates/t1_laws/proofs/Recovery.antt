@@ -2,14 +2,13 @@
 -- Assumes nothing.
 use mathlib.Core.Path.{_≡_, refl, sym, ap, subst, _∙_}
 use mathlib.Core.Bool.{Bool, true, false, not, false≢true}
-use mathlib.Core.List.{List, [], _∷_, _++_}
-use Prim.Native.Nat.{ℕ, _+_, _≤_}
+use mathlib.Core.List.{List}
+use Prim.Native.Nat.{ℕ, _≤_}
 use native.Mathlib.Omega.{arith}
 use lib.ListN.{length}
 use borrow.Author.Tests.{leb-true}
-use Rattle.slices.specs.Choice.{pick}
 use Rattle.slices.specs.Tests.{between}
-use Rattle.slices.proofs.Choice.{pick-yes, pick-no, picked, either}
+use Rattle.slices.proofs.Choice.{pick-yes, pick-no, either}
 use Rattle.slices.proofs.Tests.{first-held}
 use Rattle.t1_block.specs.Faults.{fieldFault, heardOf}
 use Rattle.t1_block.specs.declared.What.{What}
@@ -17,37 +16,29 @@ use Rattle.t1_block.specs.declared.What.the-variants.{Resynch, Ifs, Abort, Wtx}
 use Rattle.t1_block.specs.declared.Kind.the-variants.{Response as Answers}
 use Rattle.t1_block.specs.declared.Fault.the-variants.{Sound}
 use Rattle.t1_state.specs.Limits.{messageMost, room, moreOf}
-use Rattle.t1_state.specs.Changes.{atPhase}
-use Rattle.t1_state.specs.declared.Phase.{Phase}
-use Rattle.t1_state.specs.declared.Phase.the-variants.{Asking, Due, Sent, Receiving}
-use Rattle.t1_state.specs.declared.Last.{Last}
-use Rattle.t1_state.specs.declared.Last.the-variants.{Nothing, Information, Ready, Request, Response}
-use Rattle.t1_state.specs.declared.Role.{Role}
-use Rattle.t1_state.specs.declared.Role.the-variants.{Terminal}
+use Rattle.t1_state.specs.declared.Phase.the-variants.{Asking}
+use Rattle.t1_state.specs.declared.Last.the-variants.{Information, Ready, Request, Response}
 use Rattle.t1_state.specs.declared.Numbers.{Numbers}
-use Rattle.t1_state.specs.declared.Sizes.{Sizes}
 use Rattle.t1_state.specs.declared.State.{State}
-use Rattle.t1_state.specs.declared.Act.{Act}
-use Rattle.t1_state.specs.declared.Act.the-variants.{Send, Keep, Value, Whole, Nothing as Quiet}
+use Rattle.t1_state.specs.declared.Act.the-variants.{Send, Keep, Value, Nothing as Quiet}
 use Rattle.t1_state.specs.declared.Turn.{Turn}
-use Rattle.t1_again.specs.Again.{goesOut, readyFor, wrong}
-use Rattle.t1_line.specs.Line.{isIfs, answers, sendsPiece, sendsNext, takesFields, keeps}
+use Rattle.t1_again.specs.Again.{readyFor}
+use Rattle.t1_line.specs.Line.{isIfs, answers, sendsPiece, sendsNext, keeps}
 use Rattle.t1_asking.specs.Asking.{settled}
 use Rattle.t1.specs.Steps.{blockOf}
 use Rattle.t1_laws.specs.Stopping.{isBad}
 use Rattle.t1_laws.specs.Conduct.{fits}
-use Rattle.t1_laws.specs.Lossy.{Arrives, intact, spoiled}
+use Rattle.t1_laws.specs.Lossy.{intact, spoiled}
 use Rattle.t1_laws.specs.Talks.{Side, speaks}
 use Rattle.t1_laws.proofs.Rounds.{not-not, taken}
 use Rattle.t1_laws.proofs.Delivery.{every-size}
-use Rattle.t1_laws.proofs.Still.{Says}
 use Rattle.t1_laws.proofs.Manner.{Unmoved}
-use Rattle.t1_laws.proofs.Meeting.{Way, empty, there, here, Level, Going, calm, keepsNone, yAfter, xAfter, yTurn, xTurn, yWay, xWay}
+use Rattle.t1_laws.proofs.Meeting.{Level, Going, calm, keepsNone, yAfter, xAfter, yTurn, xTurn, yWay, xWay}
 use Rattle.t1_laws.proofs.Meeting.{y-level, x-level, is-request}
 use Rattle.t1_laws.proofs.Messages.{spoken, kept, complete, answered}
-use Rattle.t1_laws.proofs.Exactly.{repeated, resent, opens, wrong-opens, Askable, a-size, some-time, resized}
+use Rattle.t1_laws.proofs.Exactly.{repeated, opens, wrong-opens, Askable, a-size, some-time, resized}
 use Rattle.t1_laws.proofs.Exactly.{request-heard, response-heard, next-asked, again-asked, request-asked, ready-asked}
-use Rattle.t1_laws.proofs.Exactly.{code, bad-line, bad-sent, bad-asking}
+use Rattle.t1_laws.proofs.Exactly.{bad-line, bad-sent, bad-asking}
 use Rattle.t1_laws.proofs.Moods.{Roomy, Fresh, Mood, rests, asks, replies, doubts, pieces, wants, again, repeats}
 use Rattle.t1_laws.proofs.Moods.{Then, goes-on, changes, says-x, says-y, step-is, round, Spoke, spoke, roomy-x, roomy-y}
 

@@ -1,46 +1,23 @@
 -- Over any schedule two fresh ends stand at each moment in one of the places below, and so what each has is a beginning of what the other
 -- was given, and exactly one thing is due: a block is to come, an end is to move, or the conversation is over. Assumes nothing.
-use mathlib.Core.Path.{_≡_, refl, sym, ap, ap₂, subst, _∙_}
-use mathlib.Core.Bool.{Bool, true, false, not, false≢true}
-use mathlib.Core.List.{List, [], _∷_, _++_, append-nil}
-use Prim.Native.Nat.{ℕ, _≤_}
+use mathlib.Core.Path.{_≡_, refl, sym, ap, subst, _∙_}
+use mathlib.Core.Bool.{true, false, false≢true}
+use mathlib.Core.List.{List}
+use Prim.Native.Nat.{ℕ}
 use native.Mathlib.Omega.{arith}
-use lib.ListN.{length, drop}
-use borrow.Author.Tests.{leb-true}
-use Rattle.slices.specs.Choice.{pick}
-use Rattle.slices.specs.Tests.{between}
-use Rattle.slices.specs.Writing.{zeros}
-use Rattle.slices.proofs.Choice.{pick-yes, pick-no, pick-ap, picked, either}
-use Rattle.slices.proofs.Tests.{first-held}
-use Rattle.t1_block.specs.Faults.{heardOf}
-use Rattle.t1_block.specs.declared.What.{What}
-use Rattle.t1_block.specs.declared.What.the-variants.{Ifs}
-use Rattle.t1_state.specs.Limits.{messageMost, moreOf}
-use Rattle.t1_state.specs.declared.Role.{Role}
+use Rattle.slices.proofs.Choice.{pick-ap}
 use Rattle.t1_state.specs.declared.Role.the-variants.{Terminal, Card}
-use Rattle.t1_state.specs.declared.Phase.{Phase}
-use Rattle.t1_state.specs.declared.Phase.the-variants.{Start, Asking, Due, Sent, Receiving, Over}
-use Rattle.t1_state.specs.declared.State.{State}
-use Rattle.t1_state.specs.declared.Turn.{Turn}
-use Rattle.t1_again.specs.Again.{goesOut, refusedAs}
-use Rattle.t1_line.specs.Line.{sendsPiece, takesFields}
-use Rattle.t1_turns.specs.Turns.{onBlock, onSilence, silentIn, onHello, onAsk, onSend, asksFor, messageOf}
-use Rattle.t1.specs.Steps.{block, silence, hello, ask, send, turnOf, blockOf, freshEnd}
-use Rattle.t1_laws.specs.Stopping.{isBad, awaits}
-use Rattle.t1_laws.specs.Conduct.{listens, fits}
-use Rattle.t1_laws.specs.Lossy.{Arrives, intact, spoiled}
-use Rattle.t1_laws.specs.Talks.{Side, Line, clear, forth, back, Talk, Happens, command, answer, comes, lost, speaks, carrying}
-use Rattle.t1_laws.specs.Talks.{hello as greets, asks as requests, spoiled as spoils-it, moved, handed, heard, toCard, toTerminal}
-use Rattle.t1_laws.specs.Talks.{arrives, spoils, happens, isOver, talk, begun, Ordered, isMute}
-use Rattle.t1_laws.proofs.Rounds.{not-not}
-use Rattle.t1_laws.proofs.Still.{Says}
-use Rattle.t1_laws.proofs.Lossy.{Inv}
-use Rattle.t1_laws.proofs.Arriving.{holds-first}
-use Rattle.t1_laws.proofs.Cases.{every-hello, every-ask, every-send}
-use Rattle.t1_laws.proofs.Sendings.{Orderly, event-sound, fresh-orderly}
-use Rattle.t1_laws.proofs.Meeting.{Way, empty, there, here, Level, Going, Flies, to-y, to-x, Met, idle, asking, sending, Apart}
+use Rattle.t1_state.specs.declared.Phase.the-variants.{Start, Over}
+use Rattle.t1.specs.Steps.{block, turnOf, blockOf}
+use Rattle.t1_laws.specs.Stopping.{awaits}
+use Rattle.t1_laws.specs.Lossy.{Arrives}
+use Rattle.t1_laws.specs.Talks.{Side, Line, clear, forth, back, Talk, speaks}
+use Rattle.t1_laws.specs.Talks.{toCard, toTerminal}
+use Rattle.t1_laws.specs.Talks.{isOver, isMute}
+use Rattle.t1_laws.proofs.Orderly.{Orderly, event-sound}
+use Rattle.t1_laws.proofs.Meeting.{Way, empty, there, here, Level, to-y, to-x, Met, idle, asking, sending, Apart}
 use Rattle.t1_laws.proofs.Meeting.{Left, goes-on, changes, x-stops, y-stops, x-mute, level-order, going-order, begun-part}
-use Rattle.t1_laws.proofs.Meeting.{takes-awaits, yTurn, xTurn, yAfter, xAfter, yWay, xWay, request-comes, reply-comes}
+use Rattle.t1_laws.proofs.Meeting.{yTurn, xTurn, yAfter, xAfter, yWay, xWay, request-comes, reply-comes}
 use Rattle.t1_laws.proofs.Messages.{piece-comes, response-comes}
 
 -- the line as each end sees it

@@ -1,7 +1,7 @@
 -- Two ends joined by a line without faults: a block goes over, and the block that answers it comes back.
 -- Assumes nothing.
 use mathlib.Core.Bool.{Bool, true, false}
-use mathlib.Core.List.{List, [], _++_}
+use mathlib.Core.List.{List, _++_}
 use Prim.Native.Nat.{ℕ, zero, suc}
 use Rattle.slices.specs.Choice.{pick}
 use Rattle.t1_block.specs.Blocks.{infOf}

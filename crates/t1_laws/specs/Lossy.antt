@@ -2,10 +2,9 @@
 -- bytes that are no valid block.
 -- Assumes nothing.
 use mathlib.Core.Path.{_≡_}
-use mathlib.Core.Bool.{Bool, true, false}
+use mathlib.Core.Bool.{true}
 use mathlib.Core.List.{List, [], _∷_, _++_}
 use Prim.Native.Nat.{ℕ}
-use Rattle.slices.specs.Choice.{pick}
 use Rattle.t1_block.specs.Blocks.{infOf}
 use Rattle.t1_block.specs.Faults.{heardOf}
 use Rattle.t1_state.specs.declared.State.{State}

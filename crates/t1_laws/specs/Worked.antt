@@ -7,7 +7,7 @@ use Prim.Native.Nat.{ℕ}
 use lib.ListN.{replicate}
 use Rattle.t1_block.specs.declared.What.the-variants.{Ifs, Wtx}
 use Rattle.t1_state.specs.declared.Phase.the-variants.{Due}
-use Rattle.t1_laws.specs.Talks.{Line, clear, Talk, Happens, hello, command, answer, asks, comes, spoiled, talk, begun}
+use Rattle.t1_laws.specs.Talks.{clear, Talk, Happens, hello, command, answer, asks, comes, spoiled}
 
 abbrev pub firstCommand : List ℕ
 firstCommand = 0x00 ∷ 0xA4 ∷ 0x04 ∷ 0x00 ∷ 0x0E ∷ (replicate 14 0x41 ++ (0x00 ∷ []))
