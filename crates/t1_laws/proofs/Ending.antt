@@ -14,7 +14,7 @@ use Rattle.t1_laws.proofs.Meeting.{x-stops, y-stops, x-mute, yAfter, xA
 use Rattle.t1_laws.proofs.Messages.{piece-comes, response-comes}
 use Rattle.t1_laws.proofs.Talking.{fromTerminal, fromCard, Holds, clear-terminal, clear-card}
 use Rattle.t1_laws.proofs.Rank.{askWay, sendWay, rankOf}
-use Rattle.t1_laws.proofs.Rank.{request-rank, reply-rank, piece-rank, response-rank}
+use Rattle.t1_laws.proofs.Nearer.{request-rank, reply-rank, piece-rank, response-rank}
 
 -- at most so many blocks can still come of what is under way
 pub data Ranked (n : ℕ) (t : Talk) : Type 0 where

@@ -28,5 +28,6 @@ pub mod Recovery
 pub mod Well
 pub mod OneFault
 pub mod Rank
+pub mod Nearer
 pub mod Ending
 pub mod Bound
