@@ -2,12 +2,13 @@
 """Sessions for crates/exchange_t1: writes its stdin, and the stdout that it must give. Run this in the repository's root.
 
 The vectors of crates/exchange_t1/t1.jsonl come from outside: blocks with what is wrong with them, messages cut into blocks, and events
-at one end of a line with what it does after each. Here they are only put into the words of the program.
+at one end of a line with what it does after each. Those of crates/exchange_t1/asking.jsonl are sessions that reference/ made (seed 20261119): cards
+that have asked three times for a size, and remain in receive mode. Here they are only put into the words of the program.
 """
 import json
 
 FOLDER = "crates/exchange_t1/"
-STORED = FOLDER + "t1.jsonl"
+STORED = (FOLDER + "t1.jsonl", FOLDER + "asking.jsonl")
 
 
 def block(case):
@@ -65,8 +66,11 @@ def lines(cases):
 
 
 def main():
-    with open(STORED) as stored:
-        told, said = lines(json.loads(line) for line in stored)
+    cases = []
+    for name in STORED:
+        with open(name) as stored:
+            cases += [json.loads(line) for line in stored]
+    told, said = lines(cases)
     for name, rows in (("stdin", told), ("stdout", said)):
         with open(FOLDER + name, "w") as out:
             out.write("".join(row + "\n" for row in rows))

@@ -107,6 +107,23 @@ class Run(Trial):
             self.assertEqual(done.returncode, 0, done)
             self.assertEqual(tape.read_bytes(), (SAMPLES / "online-approved.tape").read_bytes())
 
+    def test_what_a_layer_hands_on(self):
+        """An answer of 514 bytes ends the session with reason 1; where the layer refuses, or waits for a byte that never comes, there is silence."""
+        start = (SAMPLES / "online-over-t0.card").read_text().splitlines()[0]
+        long_answer = "A4" + 2 * ("6100C0" + bytes(range(256)).hex().upper()) + "9000"
+        for card, last, line in (
+            (long_answer, b"DECISION 030100000000000000", "PASS 4 0 0"),
+            ("A4FF", b"CLOSED", "INCONCLUSIVE 3 0 0"),
+            ("A461", b"CLOSED", "INCONCLUSIVE 3 0 0"),
+        ):
+            with self.subTest(card=card[:8]):
+                script, tape = self.folder / "a.card", self.folder / "a.tape"
+                script.write_text(f"{start}\nCARD {card}\n")
+                tape.unlink(missing_ok=True)
+                done = subprocess.run([ROOT / "tools" / "play-t0", script, tape, "7"], capture_output=True)
+                self.assertEqual((done.returncode, done.stdout.splitlines()[-1].strip()), (0, last))
+                self.check(self.bin("judge", str(tape)), 0 if line.startswith("PASS") else 1, out=line)
+
 
 class Start(Trial):
     def samples(self):
