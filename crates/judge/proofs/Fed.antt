@@ -96,21 +96,21 @@ reader-on u p = refl
 
 -- ---- pieces in a row
 
-abbrev Bytes : List (List ℕ) → Type 0
+abbrev pub Bytes : List (List ℕ) → Type 0
 Bytes [] = Unit {0}
 Bytes (p ∷ ps) = (areBytes p ≡ true) × Bytes ps
 
-cut-bytes : (n : ℕ) (t : List ℕ) → areBytes t ≡ true → Bytes (cut n t)
+pub cut-bytes : (n : ℕ) (t : List ℕ) → areBytes t ≡ true → Bytes (cut n t)
 unfolding cut
 cut-bytes zero t b = tt
 cut-bytes (suc n) t b = (bytes-take blockSize t b, cut-bytes n (drop blockSize t) (bytes-drop blockSize t b))
 
-reader-after : (ps : List (List ℕ)) (u : UnderWay) → fedAll u ps .reader ≡ readerAfter (u .reader) ps
+pub reader-after : (ps : List (List ℕ)) (u : UnderWay) → fedAll u ps .reader ≡ readerAfter (u .reader) ps
 unfolding fedAll readerAfter
 reader-after [] u = refl
 reader-after (p ∷ ps) u = reader-after ps (fed u p) ∙ ap (λ (r : Reader). readerAfter r ps) (reader-on u p)
 
-along-all : (ps : List (List ℕ)) (u : UnderWay) (es : List Entry) → Bytes ps → Along u es
+pub along-all : (ps : List (List ℕ)) (u : UnderWay) (es : List Entry) → Bytes ps → Along u es
     → Along (fedAll u ps) (es ++ entriesRead (u .reader) ps)
 unfolding fedAll entriesRead
 along-all [] u es b a = subst (Along u) (sym (append-nil es)) a
@@ -131,7 +131,7 @@ along-all (p ∷ ps) u es b a =
     in
     subst (Along (fedAll v ps)) more (along-all ps v es (b .1) (along-other u p es (b .0) a n)))
 
-along-begun : Along begun []
+pub along-begun : Along begun []
 unfolding readsAll zerosFrom
 along-begun = record { tracks = tracks-begun; step = λ z. refl }
 

@@ -3,13 +3,13 @@
 -- Assumes nothing.
 use mathlib.Core.Path.{_≡_, refl, sym, ap, _∙_}
 use mathlib.Core.List.{List, [], _∷_}
-use mathlib.Core.Logic.{_⊎_, ⊎-elim}
+use mathlib.Core.Logic.{_⊎_, inl, inr, ⊎-elim}
 use mathlib.Core.Option.{Option, none, some}
 use Prim.Native.Nat.{ℕ}
 use native.Mathlib.Omega.{arith}
 use Rattle.tape_read.specs.Entries.{Entry}
-use Rattle.rulebook.specs.Phase.{Asked, Phase, opens, asks, hears, decides, commandOf, decisionOf}
-use Rattle.rulebook.specs.Session.{Beginning, AwaitsCard}
+use Rattle.rulebook.specs.Phase.{Asked, Phase, opens, asks, hears, decides}
+use Rattle.rulebook.specs.Session.{Beginning, AwaitsCard, Open, Lawful}
 use Rattle.rulebook.specs.Machine.{Machine, at, owes, done, run}
 use Rattle.rulebook.proofs.Running.{no-state, run-session}
 use Rattle.rulebook.proofs.Reading.{beginning-run, awaits-run, not-both}
@@ -88,6 +88,11 @@ module _ (es : List Entry) where
   pub none-due : (Beginning es → ⊥) → dueAfter es ≡ nothing
   unfolding dueAfter
   none-due never = over never (run es (at opens)) refl
+
+  -- nor where the rules are broken
+  pub unlawful-due : (Lawful es → ⊥) → dueAfter es ≡ nothing
+  unfolding Lawful Open
+  unlawful-due never = none-due (λ b. never (inr (inl b)))
 
   -- and what the sessions say is found
   pub only : (d : Due) → DueAfter es d → dueAfter es ≡ d

@@ -2,16 +2,14 @@
 -- what is due in the machine's state.
 -- Assumes nothing.
 use mathlib.Core.Path.{_≡_, refl, sym, ap, _∙_, subst}
-use mathlib.Core.Bool.{true}
 use mathlib.Core.List.{List, [], _∷_, _++_, append-assoc}
 use mathlib.Core.Logic.{_⊎_, inl, inr, ⊎-elim}
 use mathlib.Core.Option.{Option, none, some}
 use Prim.Native.Nat.{ℕ}
-use native.Mathlib.Omega.{arith}
 use Rattle.slices.specs.Tests.{alike}
 use Rattle.slices.proofs.Comparing.{alike-same}
 use Rattle.tape_read.specs.Entries.{Entry, entry, command, answer, silence, decision}
-use Rattle.rulebook.specs.Phase.{Asked, Heard, Phase, opens, asks, hears, decides, commandOf, dueKind, decisionOf}
+use Rattle.rulebook.specs.Phase.{opens, asks, hears, decides, commandOf, dueKind, decisionOf}
 use Rattle.rulebook.specs.Turn.{turn, after}
 use Rattle.rulebook.specs.Session.{isPayload, Session, Beginning, Closed, Open, Lawful}
 use Rattle.rulebook.specs.Machine.{Machine, at, owes, done, due, sayable, next, run}
@@ -20,7 +18,7 @@ use Rattle.rulebook.proofs.Running.{takes-command, takes-answer, takes-heard, t
 use Rattle.rulebook.proofs.Reading.{run-append, beginning-run, awaits-run}
 use Rattle.rulebook.proofs.States.{state-lawful, silence-closes, state-next}
 use Rattle.rulebook.proofs.Trichotomy.{snoc-same}
-use Rattle.rulebook_due.specs.Due.{Due, asking, answering, saying, deciding, nothing, Fits}
+use Rattle.rulebook_due.specs.Due.{Due, Fits}
 use Rattle.rulebook_due.specs.After.{dueAt, dueIn, dueAfter}
 use Rattle.rulebook_due.specs.Theorem.{with-one}
 

@@ -2,9 +2,9 @@
 -- rulebook says that the rules are broken.
 -- Assumes nothing.
 use mathlib.Core.Path.{_≡_, refl, sym, subst}
-use mathlib.Core.List.{List, [], _∷_, _++_}
+use mathlib.Core.List.{List, _∷_, _++_}
 use Prim.Native.Nat.{ℕ, _+_}
-use lib.ListN.{length, take}
+use lib.ListN.{length}
 use lib.Seq.{take-append-add}
 use Rattle.tape_read.specs.Entries.{Entry, entry, command, decision}
 use Rattle.rulebook.specs.Session.{Lawful, BreaksAt}
@@ -13,7 +13,7 @@ use Rattle.rulebook.proofs.Reading.{not-both, not-begun}
 use Rattle.rulebook.proofs.Breaks.{break-here}
 use Rattle.rulebook_due.specs.Due.{Due, asking, deciding, Fits}
 use Rattle.rulebook_due.specs.After.{dueAt, dueIn, dueAfter}
-use Rattle.rulebook_due.specs.Theorem.{with-one, OnlyOne, MayFollow}
+use Rattle.rulebook_due.specs.Theorem.{OnlyOne, MayFollow}
 use Rattle.rulebook_due.proofs.After.{found, only, none-due}
 use Rattle.rulebook_due.proofs.Following.{may-fits, fits-follows, something}
 
