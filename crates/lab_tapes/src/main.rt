@@ -1,18 +1,28 @@
 // Many tapes, by name, a line each. In:
 //
 //     JUDGE name                        a file's name, to the end of the line
+//     DUE name                          the same, and what was due at each entry
 //
 // Out, at once for each line, before the next is read:
 //
+//     DUE index KIND bytes              what was due at an entry, as far as the tape can be followed: START, COMMAND with its bytes,
+//                                       ANSWER, RESULTS with their number, HOST, DECISION with its bytes, or NOTHING. The last of these
+//                                       is that of the verdict's place. An unreadable tape has none
 //     verdict place code zeros name     what `judge_tape` says of the file's bytes, and the name as it came
-//     ERROR why name                    no verdict: `opening` or `reading` the file failed
+//     ERROR why name                    no verdict: `opening` or `reading` the file failed, or it was `changed` between the two readings
+//                                       that DUE needs
 //     ERROR word line                   the line asks for nothing
 //     ERROR length                      the line is longer than any name
 //
 // A single block of a tape is held in memory. Where a line cannot be written, standard error says so, and nothing more is read.
+mod follow;
+mod say;
+
+use follow::Followed;
+use follow::follow_file;
 use judge_reading::Judged;
 use judge_reading::judge_file;
-use libc::STDOUT_FILENO;
+use say::say;
 use slices::alike;
 use slices::part;
 use text_input::Line;
@@ -54,13 +64,16 @@ fn answer_next(asked: &mut [u8]) -> bool {
 
 fn answer(asked: &[u8]) -> bool {
     if alike(part(asked, 0, 6), b"JUDGE ") {
-        judge_named(after_word(asked))
-    } else {
-        say(b"ERROR word", b" ", asked)
+        return judge_named(after_word(asked), false);
     }
+    if alike(part(asked, 0, 4), b"DUE ") {
+        return judge_named(after_word(asked), true);
+    }
+    say(b"ERROR word", b" ", asked)
 }
 
-fn judge_named(name: &[u8]) -> bool {
+// A tape is judged before it is followed, since one that is unreadable is not.
+fn judge_named(name: &[u8], follow: bool) -> bool {
     let file = os::open_read(name);
     if file < 0 {
         return say(b"ERROR opening", b" ", name);
@@ -68,8 +81,44 @@ fn judge_named(name: &[u8]) -> bool {
     let judged = judge_file(file);
     libc::close(file);
     match judged {
-        Judged::Found(found) => tell(found, name),
+        Judged::Found(found) => tell_found(found, name, follow),
         Judged::Failed => say(b"ERROR reading", b" ", name),
+    }
+}
+
+fn tell_found(found: Finding, name: &[u8], follow: bool) -> bool {
+    let answer = found.answer;
+    if follow && answer.code == 0 {
+        follow_named(found, answer.place, name)
+    } else {
+        tell(found, name)
+    }
+}
+
+fn follow_named(found: Finding, place: usize, name: &[u8]) -> bool {
+    let file = os::open_read(name);
+    if file < 0 {
+        return say(b"ERROR opening", b" ", name);
+    }
+    let followed = follow_file(file, place);
+    libc::close(file);
+    match followed {
+        Followed::Found(again) => tell_again(found, again, name),
+        Followed::Failed => say(b"ERROR reading", b" ", name),
+        Followed::Unsaid => false,
+    }
+}
+
+// The verdict of both readings; none where they are not of the same tape.
+fn tell_again(found: Finding, again: Finding, name: &[u8]) -> bool {
+    let mut out = [0u8; verdict_line::LONGEST];
+    let mut other = [0u8; verdict_line::LONGEST];
+    line(found, &mut out);
+    line(again, &mut other);
+    if alike(&out, &other) {
+        tell(again, name)
+    } else {
+        say(b"ERROR changed", b" ", name)
     }
 }
 
@@ -78,16 +127,4 @@ fn tell(found: Finding, name: &[u8]) -> bool {
     let mut out = [0u8; verdict_line::LONGEST];
     line(found, &mut out);
     say(part(&out, 0, line_end(&out, 0)), b" ", name)
-}
-
-fn say(first: &[u8], between: &[u8], second: &[u8]) -> bool {
-    let a = io::write_all(STDOUT_FILENO, first);
-    let b = io::write_all(STDOUT_FILENO, between);
-    let c = io::write_all(STDOUT_FILENO, second);
-    let d = io::write_all(STDOUT_FILENO, b"\n");
-    if a & b & c & d {
-        return true;
-    }
-    os::fail(b"lab_tapes: a line could not be written");
-    false
 }
