@@ -1,6 +1,6 @@
 -- `word` meets its contract: both numbers are those of what the session waits for.
 -- Assumes nothing.
-use mathlib.Core.Path.{_≡_, _∙_}
+use mathlib.Core.Path.{_∙_}
 use borrow.Author.Needs.{needs}
 use Rattle.judge_due.specs.Telling.{numbers}
 use Rattle.judge_due.specs.Standing.{wordDue}
