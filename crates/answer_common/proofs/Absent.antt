@@ -1,14 +1,14 @@
 -- Of the two forms an answer has one: where it is not the object with a tag, nothing stands there under any name.
 -- Assumes nothing.
 use mathlib.Core.Path.{_≡_, refl, sym, ap, _∙_}
-use mathlib.Core.Bool.{Bool, true, false, false≢true}
+use mathlib.Core.Bool.{true, false}
 use mathlib.Core.List.{List, []}
 use mathlib.Core.Option.{Option, none, some, Option·getD}
 use Prim.Native.Nat.{ℕ}
 use lib.Dec.{eqb}
 use borrow.Author.Tests.{eqb-true, ne-eqb}
 use Rattle.slices.specs.Choice.{pick}
-use Rattle.slices.proofs.Choice.{pick-yes, pick-no, pick-same}
+use Rattle.slices.proofs.Choice.{pick-no}
 use Rattle.tlv_list.specs.Objects.{Object, objects}
 use Rattle.tlv_list.specs.Lookup.{absent, lookup}
 use Rattle.tlv_list.proofs.Objects.{objects-empty}

@@ -4,16 +4,16 @@
 use mathlib.Core.Path.{_≡_, refl, sym, ap, _∙_}
 use mathlib.Core.Bool.{Bool, true, false, not, _||_, false≢true}
 use mathlib.Core.List.{List, [], _∷_, map}
-use Prim.Native.Nat.{ℕ, _-_, _≤_}
+use Prim.Native.Nat.{ℕ, _-_}
 use lib.Dec.{eqb}
-use lib.ListN.{length, getD}
+use lib.ListN.{length}
 use borrow.Author.Tests.{eqb-true, eqb-false, eq-eqb, ne-eqb, not-false, le-ltb}
 use Rattle.slices.specs.Choice.{pick, firstOf}
 use Rattle.slices.proofs.Choice.{pick-yes, pick-no, either}
 use Rattle.tlv_list.specs.Lookup.{Lookup, absent, once, twice}
 use Rattle.slices.specs.Tables.{anyOf}
 use Rattle.answer_common.specs.Content.{rightValue}
-use Rattle.answer_common.specs.Answer.{sizeBad, statusBad, isOne, outerBad, frame}
+use Rattle.answer_common.specs.Answer.{sizeBad, statusBad, outerBad, frame}
 use Rattle.answer_common.specs.Named.{listed, times, wrongValue, anyTimes, anyWrong}
 use Rattle.answer_common.specs.Right.{Framed}
 use Rattle.slices.proofs.Tables.{or-no}

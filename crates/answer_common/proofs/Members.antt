@@ -2,7 +2,7 @@
 -- object, its value, or nothing in its stead, is a list again. Values have room for no more than the answer has bytes.
 -- Assumes nothing.
 use mathlib.Core.Path.{_≡_, refl, sym, ap, subst, fun-ext, _∙_}
-use mathlib.Core.Bool.{Bool, true, false, false≢true}
+use mathlib.Core.Bool.{true, false, false≢true}
 use mathlib.Core.List.{List, [], _∷_}
 use mathlib.Core.Option.{Option, none, some, Option·getD}
 use Prim.Native.Nat.{ℕ, _+_, _-_, _≤_, _<_}
@@ -11,7 +11,7 @@ use lib.Dec.{eqb}
 use lib.ListN.{length, drop, length-take, length-drop}
 use borrow.Author.Tests.{eqb-true}
 use Rattle.slices.specs.Choice.{pick}
-use Rattle.slices.proofs.Choice.{pick-yes, pick-no, picked}
+use Rattle.slices.proofs.Choice.{pick-yes, picked}
 use Rattle.slices.proofs.Shorter.{by-length}
 use Rattle.tlv_head.specs.Head.{constructed}
 use Rattle.slices.specs.Tests.{isSome}

@@ -13,7 +13,6 @@ use Rattle.tlv_list.specs.Place.{dataField}
 use Rattle.tlv_list.specs.Lookup.{Lookup, met, lookup}
 use Rattle.answer_afl.specs.Entries.{wholeEntries}
 use Rattle.slices.specs.Tables.{anyOf, beside}
-use Rattle.answer_common.specs.CardNumber.{halves, digits, onlyF, cardNumber}
 use Rattle.answer_common.specs.Content.{meets, rules, ruleFor, rightValue}
 use Rattle.answer_common.specs.Answer.{sizeBad, statusBad, only, outer, tagged, valueUnder, isOne, inside, outerBad, frame}
 use Rattle.answer_common.specs.Named.{membersIn, among, direct, times, told, valueOf, wrongValue, anyTimes, anyWrong}

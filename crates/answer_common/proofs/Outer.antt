@@ -2,12 +2,12 @@
 -- there is none. An answer whose size is right has at most 256 bytes of data, so no list in it is too long to be read.
 -- Assumes nothing.
 use mathlib.Core.Path.{_≡_, refl, sym, ap, _∙_}
-use mathlib.Core.Bool.{Bool, true, false, not, false≢true}
-use mathlib.Core.List.{List, [], _∷_}
+use mathlib.Core.Bool.{true, false, not, false≢true}
+use mathlib.Core.List.{List}
 use mathlib.Core.Option.{Option, none, some}
-use Prim.Native.Nat.{ℕ, _-_, _≤_, _<_}
+use Prim.Native.Nat.{ℕ, _-_, _≤_}
 use native.Mathlib.Omega.{arith}
-use lib.Dec.{ltb, eqb}
+use lib.Dec.{ltb}
 use lib.ListN.{length, drop, length-take}
 use borrow.Author.Tests.{ltb-false, le-ltb, not-true, not-false}
 use Rattle.slices.specs.Choice.{pick, firstOf}
@@ -18,7 +18,7 @@ use Rattle.tlv_list.specs.Place.{nextAt, dataField}
 use Rattle.tlv_head.specs.declared.Next.{Next}
 use Rattle.tlv_head.specs.declared.Next.the-variants.{Member, End, Broken}
 use Rattle.tlv_list.proofs.Reading.{following, objects-next}
-use Rattle.answer_common.specs.Answer.{sizeBad, only, outer, theOne, tagged, valueUnder, isOne, inside}
+use Rattle.answer_common.specs.Answer.{sizeBad, only, outer, theOne}
 use Rattle.slices.proofs.Tables.{or-yes, or-no}
 
 none-of : (o : Option (List Object)) → isSome o ≡ false → o ≡ none

@@ -3,15 +3,14 @@
 use mathlib.Core.Path.{_≡_, refl}
 use mathlib.Core.Bool.{Bool, true, false}
 use mathlib.Core.List.{List, [], _∷_, _++_, map}
-use mathlib.Core.Option.{Option, none, some}
 use Prim.Native.Nat.{ℕ}
-use lib.ListN.{length, replicate}
+use lib.ListN.{replicate}
 use Rattle.slices.specs.Choice.{pick, firstOf}
 use Rattle.slices.specs.Shorter.{counted, shorter}
 use Rattle.tlv_head.specs.Head.{firstByte, constructed, twoBytes, tagSize, tagOf, tagRight, lengthByte}
 use Rattle.tlv_head.specs.Head.{lengthForm, lengthSize, lengthOf, valueStart, valueEnd, whole}
 use Rattle.slices.specs.Tests.{isSome, every, between}
-use Rattle.tlv_list.specs.Objects.{Object, between as part, firstObject, before, rightInside, listed, objects}
+use Rattle.tlv_list.specs.Objects.{between as part, firstObject, before, rightInside, listed, objects}
 use Rattle.tlv_list.specs.Place.{dataField}
 use Rattle.tlv_list.specs.Lookup.{Lookup, absent, once, twice, met, lookup}
 use Rattle.decimal_dates.specs.Decimal.{digitsOnly, decimalByte}
@@ -21,7 +20,7 @@ use Rattle.slices.specs.Tables.{anyOf, beside}
 use Rattle.answer_common.specs.CardNumber.{halves, digits, onlyF, cardNumber}
 use Rattle.answer_common.specs.Content.{meets, rules, ruleFor, rightValue}
 use Rattle.answer_common.specs.Answer.{sizeBad, statusBad, only, outer, tagged, valueUnder, isOne, inside, outerBad, frame}
-use Rattle.answer_common.specs.Named.{membersIn, among, direct, times, told, valueOf, wrongValue, anyTimes, anyWrong}
+use Rattle.answer_common.specs.Named.{membersIn, among, direct, times, wrongValue, anyTimes, anyWrong}
 
 -- reason 1
 sizes : map (λ n. sizeBad (replicate n 0)) (0 ∷ 1 ∷ 2 ∷ 258 ∷ 259 ∷ 496 ∷ []) ≡ true ∷ true ∷ false ∷ false ∷ true ∷ true ∷ []

@@ -1,7 +1,7 @@
 -- An answer as a whole: its size, its status, and the one object that its data is. 01, "What the card must answer", reasons
 -- 1 to 3.
 -- Assumes nothing.
-use mathlib.Core.Bool.{Bool, true, false, not, _||_}
+use mathlib.Core.Bool.{Bool, false, not, _||_}
 use mathlib.Core.List.{List, [], _∷_, map}
 use mathlib.Core.Option.{Option, none, some}
 use Prim.Native.Nat.{ℕ, _-_}

@@ -1,7 +1,7 @@
 -- Named objects: what stands under each name directly in an answer's one object, how often, and whether its value is right.
 -- 01, "What the card must answer", reasons 4, 5 and 8. Objects that are not named are passed over by every look-up.
 -- Assumes nothing.
-use mathlib.Core.Bool.{Bool, true, false, not}
+use mathlib.Core.Bool.{Bool, false, not}
 use mathlib.Core.List.{List, [], _∷_, map}
 use mathlib.Core.Option.{Option, none, some, Option·getD}
 use Prim.Native.Nat.{ℕ}

@@ -4,7 +4,6 @@
 use mathlib.Core.Path.{_≡_, refl}
 use mathlib.Core.List.{List, [], _∷_, _++_, map}
 use Prim.Native.Nat.{ℕ}
-use lib.ListN.{replicate}
 use Rattle.answer_afl.specs.Entries.{firstEntry, entries, sfi, records, fileRight, entryRight}
 use Rattle.answer_afl.specs.Entries.{entriesRight, recordsOf, recordCount, tooMany}
 use Rattle.answer_common.specs.Forms.{lacks}

@@ -1,8 +1,8 @@
 -- Every reason is a small number, so that it fits the decision's byte: none of the lines that give one has a greater.
 -- Assumes nothing.
-use mathlib.Core.Path.{_≡_, refl, sym, ap, _∙_}
-use mathlib.Core.Bool.{Bool, true, false, not}
-use mathlib.Core.List.{List, [], _∷_, _++_, map}
+use mathlib.Core.Path.{_≡_, refl, sym, _∙_}
+use mathlib.Core.Bool.{Bool, true, false}
+use mathlib.Core.List.{List, [], _∷_, map}
 use mathlib.Core.Option.{Option}
 use Prim.Native.Nat.{ℕ, _<_}
 use native.Mathlib.Omega.{arith}
@@ -15,7 +15,7 @@ use Rattle.answer_common.specs.Answer.{frame}
 use Rattle.slices.specs.Tables.{anyOf}
 use Rattle.answer_select.specs.Select.{selectLines, selectReason}
 use Rattle.answer_gpo.specs.Options.{optionsLines, optionsReason}
-use Rattle.answer_record.specs.Records.{recordLines, recordReason, incomplete, completeReason, afterRecords}
+use Rattle.answer_record.specs.Records.{recordLines, recordReason, completeReason, afterRecords}
 use Rattle.decide_cryptogram.specs.declared.Given.{Given}
 use Rattle.answer_cryptogram.specs.Cryptogram.{cryptogramLines, cryptogramReason}
 

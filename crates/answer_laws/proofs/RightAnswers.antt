@@ -8,7 +8,7 @@ use mathlib.Core.Logic.{inl, inr, _↔_}
 use Prim.Native.Nat.{ℕ}
 use Rattle.slices.specs.Choice.{pick, firstOf}
 use Rattle.slices.specs.Shorter.{counted, shorter}
-use Rattle.tlv_list.specs.Lookup.{Lookup, once}
+use Rattle.tlv_list.specs.Lookup.{Lookup}
 use Rattle.start_fields.specs.Reading.{Terminal}
 use Rattle.dol_wanted.specs.Wanted.{wantedStep, entriesOf, total, fits, fillable}
 use Rattle.slices.specs.Tables.{anyOf, beside}
@@ -20,7 +20,7 @@ use Rattle.slices.proofs.Tables.{or-no, and-no}
 use Rattle.answer_common.proofs.Sizes.{sized}
 use Rattle.answer_common.proofs.Accepted.{AllClear, no-reason, or-clear, any-none, frame-right}
 use Rattle.answer_common.proofs.Present.{of-size, there-so, may-be-so, may-be, none-twice, none-wrong, none-missing, by-name}
-use Rattle.answer_select.specs.Select.{selectTag, selectNames, innerNames, inner, pdolOf, begins}
+use Rattle.answer_select.specs.Select.{selectTag, selectNames, innerNames, inner, pdolOf}
 use Rattle.answer_select.specs.Select.{nameWrong, selectTwice, selectWrong, selectLines, selectReason}
 use Rattle.answer_record.specs.Records.{again, anyAgain, recordTwice, recordLines, recordReason, valueIn, incomplete, completeReason}
 use Rattle.answer_laws.specs.RightAnswers.{RightSelect, RightRecord, RightRecords}

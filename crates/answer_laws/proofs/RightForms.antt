@@ -6,13 +6,13 @@ use mathlib.Core.Path.{_≡_, refl, sym, ap, _∙_}
 use mathlib.Core.Bool.{Bool, true, false, not}
 use mathlib.Core.List.{List}
 use mathlib.Core.Logic.{_⊎_, inl, inr, _↔_}
-use Prim.Native.Nat.{ℕ, _-_, _≤_}
+use Prim.Native.Nat.{ℕ, _-_}
 use native.Mathlib.Omega.{arith}
 use lib.ListN.{length, length-drop}
 use borrow.Author.Tests.{not-false, le-ltb}
 use Rattle.slices.specs.Choice.{pick}
 use Rattle.slices.proofs.Choice.{pick-yes, either}
-use Rattle.answer_afl.specs.Entries.{entriesRight, mostRecords, recordCount, tooMany}
+use Rattle.answer_afl.specs.Entries.{mostRecords, tooMany}
 use Rattle.answer_afl.proofs.Counting.{whole-exactly}
 use Rattle.slices.specs.Tables.{anyOf, beside}
 use Rattle.answer_common.specs.Content.{meets, rules, ruleFor, rightValue}
@@ -27,7 +27,7 @@ use Rattle.answer_common.proofs.Present.{of-size, there-so, may-be-so, must-be,
 use Rattle.answer_common.specs.Forms.{template, joined, bothForms, lacks}
 use Rattle.answer_gpo.specs.Options.{optionNames, locatorOf, optionsWrong, optionsLines, optionsReason}
 use Rattle.decide_cryptogram.specs.declared.Given.{Given}
-use Rattle.answer_cryptogram.specs.Cryptogram.{mandatoryNames, cryptogramNames, cryptogramOf}
+use Rattle.answer_cryptogram.specs.Cryptogram.{mandatoryNames, cryptogramNames}
 use Rattle.answer_cryptogram.specs.Cryptogram.{cryptogramWrong, cryptogramLines, cryptogramReason}
 use Rattle.answer_common.proofs.Absent.{not-direct, one-form}
 use Rattle.answer_laws.specs.RightForms.{OptionsApart, OptionsJoined, RightOptions}

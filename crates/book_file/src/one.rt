@@ -5,7 +5,6 @@ use book::Book;
 use book_block::Entry;
 use book_line::entry_said;
 use slices::byte;
-use slices::part;
 use tape_read::block_at;
 use text_lines::line_end;
 

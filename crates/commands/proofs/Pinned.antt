@@ -1,7 +1,7 @@
 -- Worked commands that hold the definitions to document 01, each by computation.
 -- Assumes nothing.
 use mathlib.Core.Path.{_≡_, refl}
-use mathlib.Core.List.{List, [], _∷_}
+use mathlib.Core.List.{[], _∷_}
 use Rattle.slices.specs.Choice.{pick}
 use Rattle.tlv_write.specs.Written.{written, tagBytes, lengthBytes}
 use Rattle.commands.specs.Commands.{selectCommand, optionsCommand, recordCommand, cryptogramCommand, withLength, sizeIn}

@@ -1,20 +1,20 @@
 -- How long the data of a command is, and writing a command in pieces, each where the last ended.
 -- Assumes nothing.
-use mathlib.Core.Path.{_≡_, refl, sym, ap, _∙_}
+use mathlib.Core.Path.{_≡_, sym, ap, _∙_}
 use mathlib.Core.Bool.{true, false}
-use mathlib.Core.List.{List, [], _∷_, _++_}
+use mathlib.Core.List.{List, [], _++_}
 use Prim.Native.Nat.{ℕ, _+_, _≤_, _<_}
 use native.Mathlib.Nat.{zero-add}
 use native.Mathlib.Omega.{arith}
 use lib.Dec.{leb}
-use lib.ListN.{length, length-append}
+use lib.ListN.{length}
 use borrow.Author.Tests.{le-leb, lt-leb, leb-true, leb-false}
 use Rattle.slices.specs.Choice.{pick}
 use Rattle.slices.specs.Writing.{put, laid}
 use Rattle.slices.proofs.Choice.{pick-yes, pick-no, pick-ap, either}
 use Rattle.slices.proofs.Writing.{put-length, put-step, laid-fits, laid-short}
 use Rattle.start_fields.specs.Reading.{Terminal}
-use Rattle.dol_wanted.specs.Wanted.{tally, fillable, totalOf, most}
+use Rattle.dol_wanted.specs.Wanted.{tally, fillable, most}
 use Rattle.dol_fill.specs.Filled.{filling, filledList}
 use Rattle.session_records.specs.Slots.{Facts}
 use Rattle.dol_wanted.proofs.Entries.{tally-fillable}

@@ -1,7 +1,7 @@
 -- What holds whatever results are handed in: no bit is cleared, of the TVR only byte 3 is touched and of that only b8 to b3, the TSI gets
 -- its one bit, neither changes its length, and their bytes stay bytes. Each follows from their being joined to what stood there.
 -- Assumes nothing.
-use mathlib.Core.Path.{_≡_, refl, sym, ap, _∙_}
+use mathlib.Core.Path.{_≡_, refl, ap, _∙_}
 use mathlib.Core.List.{List, [], _∷_}
 use mathlib.Core.Option.{Option·getD}
 use Prim.Native.Nat.{ℕ, zero, suc, _/_, _%_, _≤_, _<_}

@@ -1,10 +1,10 @@
 -- START's dates are those of the calendar: a year has as many as it should, none that 01 refused is among them, and with the years of
 -- R-2 a leap year is every fourth. 02, R-5.
 -- Assumes nothing.
-use mathlib.Core.Path.{_≡_, refl, sym, ap, _∙_}
-use mathlib.Core.Bool.{Bool, true, false, not, _&&_, _||_}
+use mathlib.Core.Path.{_≡_, refl, _∙_}
+use mathlib.Core.Bool.{Bool, true, false, _&&_}
 use mathlib.Core.List.{List, [], _∷_, map}
-use Prim.Native.Nat.{ℕ, _+_, _*_, _≤_, _%_}
+use Prim.Native.Nat.{ℕ, _≤_, _%_}
 use native.Mathlib.Omega.{arith}
 use lib.Dec.{eqb, leb}
 use borrow.Author.Tests.{eqb-true, leb-true, le-leb}
@@ -13,7 +13,7 @@ use Rattle.slices.specs.Tests.{every, between}
 use Rattle.slices.proofs.Choice.{either, picked}
 use Rattle.slices.proofs.Tests.{held, last, first-held}
 use Rattle.decimal_dates.specs.Dates.{year, month, day, wholeYear, monthAndDay, leapYear, thirtyDays, daysIn, validStartDate}
-use Rattle.decimal_dates.specs.Calendar.{goodDays, goodDates}
+use Rattle.decimal_dates.specs.Calendar.{goodDates}
 
 -- of all that two digits can name: a common year, a leap year, and 2000, which is one too
 pub counted : map (λ y. goodDates y 100) (0x23 ∷ 0x24 ∷ 0x00 ∷ []) ≡ 365 ∷ 366 ∷ 366 ∷ []

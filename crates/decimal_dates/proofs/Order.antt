@@ -1,7 +1,7 @@
 -- The order of keys is the order of whole year, month and day: month and day of a decimal date have two digits each, so that neither
 -- reaches into the place of the one before it. 02, R-2.
 -- Assumes nothing.
-use mathlib.Core.Path.{_≡_, refl}
+use mathlib.Core.Path.{_≡_}
 use mathlib.Core.Bool.{true}
 use mathlib.Core.List.{List, [], _∷_}
 use mathlib.Core.Logic.{_⊎_, inl, inr, ⊎-elim}
@@ -9,7 +9,6 @@ use Prim.Native.Nat.{ℕ, _+_, _*_, _<_, _≤_}
 use native.Mathlib.Omega.{arith}
 use lib.Dec.{ltb}
 use borrow.Author.Tests.{ltb-true, ltb-false}
-use Rattle.slices.specs.Choice.{pick}
 use Rattle.slices.proofs.Choice.{either}
 use Rattle.slices.proofs.Tests.{first-held}
 use Rattle.decimal_dates.specs.Decimal.{decimalByte, digitsOnly}

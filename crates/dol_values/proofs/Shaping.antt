@@ -1,17 +1,16 @@
 -- A blank room with a value laid into it is the value shaped: what the value does not cover keeps the filler.
 -- Assumes nothing.
 use mathlib.Core.Path.{_≡_, refl, sym, ap, ap₂, _∙_}
-use mathlib.Core.List.{List, [], _∷_, _++_, append-nil}
+use mathlib.Core.List.{List, [], _++_, append-nil}
 use Prim.Native.Nat.{ℕ, _+_, _-_, _≤_, _<_}
 use native.Mathlib.Nat.{le-refl}
 use native.Mathlib.Omega.{arith}
 use lib.ListN.{length, take, drop, replicate, length-replicate, length-take, length-drop, replicate-append-replicate}
-use lib.Seq.{take-at, drop-at, take-all, take-length}
+use lib.Seq.{take-at, drop-at, take-all}
 use Rattle.slices.specs.Writing.{put, laid, zeros}
 use Rattle.slices.proofs.Writing.{laid-fits, put-start}
 use Rattle.dol_values.specs.Shape.{shaped}
-use Rattle.answer_common.specs.declared.content.Format.{Format}
-use Rattle.answer_common.specs.declared.content.Format.the-variants.{Numeric, CardNumber, Other}
+use Rattle.answer_common.specs.declared.content.Format.the-variants.{Numeric}
 
 module _ (n k a : ℕ) (h : k ≤ n) where
   parted : replicate n a ≡ replicate k a ++ replicate (n - k) a

@@ -1,7 +1,7 @@
 -- What the terminal can supply for an object list: its own data, what the session has come to, and what the card has told.
 -- 01, "The commands". Whatever is not here, or not yet there, is not supplied, which is another thing than a value of zeros.
 -- Assumes nothing.
-use mathlib.Core.List.{List, [], _∷_, map}
+use mathlib.Core.List.{List, map}
 use mathlib.Core.Option.{Option, none, some}
 use Prim.Native.Nat.{ℕ}
 use Rattle.slices.specs.Choice.{unlessEmpty}

@@ -1,20 +1,20 @@
 -- An object list, an entry at a time: what it asks for and how much go by the entry at the front and the rest.
 -- Assumes nothing.
-use mathlib.Core.Path.{_≡_, refl, sym, ap, ap₂, _∙_}
+use mathlib.Core.Path.{_≡_, refl, sym, ap, _∙_}
 use mathlib.Core.Bool.{true, false, false≢true}
-use mathlib.Core.List.{List, [], _∷_, _++_}
+use mathlib.Core.List.{List, []}
 use mathlib.Core.Option.{Option, none, some}
-use Prim.Native.Nat.{ℕ, _+_, _-_, _≤_, _<_, min}
-use native.Mathlib.Nat.{add-assoc, zero-add, add-zero, not-suc-le-zero}
+use Prim.Native.Nat.{ℕ, _+_, _-_, _≤_, _<_}
+use native.Mathlib.Nat.{add-assoc, zero-add, add-zero}
 use native.Mathlib.Omega.{arith}
 use lib.Dec.{eqb, leb}
 use lib.ListN.{length, drop, length-drop}
-use borrow.Author.Tests.{eqb-false, ne-eqb, leb-true, le-leb, lt-leb}
+use borrow.Author.Tests.{ne-eqb, leb-true, le-leb, lt-leb}
 use Rattle.slices.specs.Choice.{pick}
 use Rattle.slices.specs.Shorter.{Asks}
-use Rattle.slices.proofs.Choice.{pick-yes, pick-no, pick-cong, picked, either, and-left, and-right}
+use Rattle.slices.proofs.Choice.{pick-yes, pick-no, pick-cong, either, and-right}
 use Rattle.slices.proofs.Shorter.{equation}
-use Rattle.tlv_head.specs.Head.{tagOf, tagRight, tagSize}
+use Rattle.tlv_head.specs.Head.{tagRight, tagSize}
 use Rattle.slices.specs.Tests.{isSome}
 use Rattle.dol_wanted.specs.Wanted.{Wanted, andThen, sizeAt, firstWanted, asks, wantedStep}
 use Rattle.dol_wanted.specs.Wanted.{entriesOf, total, totalBy, totalOf, most, fits, fillable, tally}

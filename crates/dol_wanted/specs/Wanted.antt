@@ -1,7 +1,7 @@
 -- What an object list asks for: tags, by the rule of data objects, each with one length byte. 01, "The commands";
 -- 000, II-1.4.
 -- Assumes nothing.
-use mathlib.Core.Bool.{Bool, true, false, _&&_}
+use mathlib.Core.Bool.{Bool, false, _&&_}
 use mathlib.Core.List.{List, [], _∷_}
 use mathlib.Core.Option.{Option, none, some}
 use Prim.Native.Nat.{ℕ, _+_}

@@ -2,9 +2,9 @@
 -- read so far (judge_follow), and those are in the end the entries that the tape reads as (tape_feed).
 -- Assumes nothing.
 use mathlib.Core.Path.{_≡_, refl, sym, ap, _∙_, subst, transport}
-use mathlib.Core.Bool.{Bool, true, false}
+use mathlib.Core.Bool.{true, false}
 use mathlib.Core.List.{List, [], _∷_, _++_, append-nil, append-assoc}
-use Prim.Native.Nat.{ℕ, zero, suc, _+_, _*_, _-_, _/_, _%_, _^_, _≤_, _<_}
+use Prim.Native.Nat.{ℕ, zero, suc, _+_, _*_, _-_, _/_, _^_, _≤_, _<_}
 use native.Mathlib.Nat.{mod-eq-of-lt}
 use native.Mathlib.Omega.{arith}
 use lib.Dec.{eqb}
@@ -16,7 +16,7 @@ use Rattle.slices.proofs.Choice.{pick-yes, pick-no, picked, either}
 use Rattle.tape_crc.proofs.Bytes.{bytes-take, bytes-drop}
 use Rattle.tape_read.specs.Entries.{Entry, entry, blockSize}
 use Rattle.tape_read.specs.Blocks.{kindIn, payloadIn, entryIn}
-use Rattle.tape_read.specs.Tapes.{Reading, entries, unreadable, blockAt, cut, readTape}
+use Rattle.tape_read.specs.Tapes.{entries, unreadable, blockAt, cut, readTape}
 use Rattle.tape_read.proofs.Steps.{rest-next}
 use Rattle.tape_feed.specs.declared.Reader.{Reader}
 use Rattle.tape_feed.specs.declared.Taken.{Taken}
@@ -24,7 +24,6 @@ use Rattle.tape_feed.specs.declared.Damage.{Damage}
 use Rattle.tape_feed.specs.Feeding.{next, damageOf, readerAfter, entriesRead, readingOf, piecesOf, begun as unread}
 use Rattle.tape_feed.proofs.Turns.{InStep, Steps, next-steps, none-bad}
 use Rattle.tape_feed.proofs.Whole.{fed-reading}
-use Rattle.rulebook.specs.Session.{isPayload}
 use Rattle.rulebook_zeros.specs.Summing.{zerosFrom, zerosOf}
 use Rattle.rulebook_zeros.proofs.Most.{zeros-most}
 use Rattle.verdict.specs.Saying.{says, finds}
@@ -32,13 +31,13 @@ use Rattle.verdict.specs.declared.Verdict.the-variants.{Unreadable}
 use Rattle.verdict.specs.declared.Finding.{Finding}
 use Rattle.verdict_judged.specs.Judged.{Judged}
 use Rattle.verdict_judged.specs.Zeroed.{Zeroed}
-use Rattle.verdict_judged.specs.Progress.{Progress, begun as opened, reads, readsAll, newBy, progressOf, concluded, finally, verdictOf}
+use Rattle.verdict_judged.specs.Progress.{begun as opened, readsAll, progressOf, finally, verdictOf}
 use Rattle.verdict_judged.proofs.Meaning.{progress-more, verdict-right, right-verdict}
 use Rattle.verdict_judged.proofs.Zeroing.{zeros-more, zerosIn, zeroed-right, zeroed-once}
-use Rattle.verdict_judged.proofs.Blockwise.{block-payload, block-entry}
+use Rattle.verdict_judged.proofs.Blockwise.{block-payload}
 use Rattle.judge_stages.specs.Stages.{saidAt}
 use Rattle.judge_follow.specs.declared.Judgement.{Judgement}
-use Rattle.judge_follow.specs.Following.{fed as follows, led, begun as fresh}
+use Rattle.judge_follow.specs.Following.{fed as follows, led}
 use Rattle.judge_follow.proofs.Tracking.{Tracks, tracks-begun, fed-tracks, said}
 use Rattle.judge.specs.declared.UnderWay.{UnderWay}
 use Rattle.judge.specs.Feeding.{begun, fedBy, fed, fedAll, closedBy, closed}

@@ -13,7 +13,6 @@ use Rattle.tape_feed.specs.Feeding.{next, damageOf}
 use Rattle.verdict.specs.Saying.{says, finds}
 use Rattle.verdict.specs.declared.Verdict.the-variants.{Unreadable}
 use Rattle.verdict.specs.declared.Answer.{Answer}
-use Rattle.verdict.specs.declared.Finding.{Finding}
 use Rattle.judge_stages.specs.Stages.{saidAt}
 use Rattle.judge_follow.specs.declared.Judgement.{Judgement}
 use Rattle.judge_follow.specs.Following.{led}

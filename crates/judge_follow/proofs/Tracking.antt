@@ -1,8 +1,8 @@
 -- The judge stands where the rulebook's machine stands: what it expects next is the machine's, and so each entry leads both on alike.
 -- Assumes nothing.
 use mathlib.Core.Path.{_≡_, refl, sym, ap, ap₂, _∙_, subst}
-use mathlib.Core.Bool.{Bool, true, false}
-use mathlib.Core.List.{List, [], _∷_, _++_}
+use mathlib.Core.Bool.{true, false}
+use mathlib.Core.List.{List, _∷_, _++_}
 use Prim.Native.Nat.{ℕ, _+_, _%_, _^_, _≤_}
 use native.Mathlib.Nat.{add-zero}
 use native.Mathlib.Omega.{arith}
@@ -26,12 +26,9 @@ use Rattle.dol_fill.specs.Filled.{summed}
 use Rattle.rulebook_zeros.specs.Zeros.{unsuppliedIn}
 use Rattle.rulebook_zeros.specs.Summing.{newIn}
 use Rattle.session_phase.specs.Waiting.{kindOf, outcomeOf, reasonOf}
-use Rattle.session_phase.specs.declared.Speaker.{Speaker}
 use Rattle.session_phase.specs.declared.Waiting.{Waiting}
-use Rattle.session_state.specs.Reading.{heardBy}
 use Rattle.session_state.specs.Results.{decisionIn}
-use Rattle.session_state.specs.declared.State.{State}
-use Rattle.session_moves.specs.Moves.{Moved, speakerOf, keptAs, replyIn, bufferIn}
+use Rattle.session_moves.specs.Moves.{Moved, speakerOf, keptAs, replyIn}
 use Rattle.session_phase.specs.Saying.{allowedBy}
 use Rattle.session_events.specs.Events.{step}
 use Rattle.session_laws.specs.Agreeing.{StandsAt}

@@ -9,7 +9,6 @@ use session_phase::Speaker;
 use session_phase::Waiting;
 use session_phase::is_allowed;
 use session_phase::kind_of;
-use session_state::State;
 use session_state::change::fresh;
 use session_state::result::decision;
 use slices::alike;

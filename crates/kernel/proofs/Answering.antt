@@ -1,6 +1,6 @@
 -- A call is turned away, with nothing changed, or taken: then it closes the session, or is the session's step.
 -- Assumes nothing.
-use mathlib.Core.Path.{_≡_, refl, sym, ap, _∙_}
+use mathlib.Core.Path.{_≡_, sym, ap, _∙_}
 use mathlib.Core.List.{List}
 use Prim.Native.Nat.{ℕ}
 use lib.Dec.{eqb}
@@ -10,13 +10,13 @@ use Rattle.slices.proofs.Choice.{pick-yes, pick-no}
 use Rattle.tape_read.specs.Entries.{Entry, silence}
 use Rattle.session_phase.specs.declared.Reply.the-variants.{Refused, Closed as ClosedReply}
 use Rattle.dol_fill.specs.Filled.{summed}
-use Rattle.session_moves.specs.Moves.{Moved, played}
+use Rattle.session_moves.specs.Moves.{played}
 use Rattle.session_moves.specs.declared.Step.{Step as Move}
 use Rattle.session_events.specs.Events.{step}
 use Rattle.kernel_refusals.specs.Refusals.{callRefusal}
 use Rattle.kernel.specs.declared.Session.{Session}
 use Rattle.kernel.specs.declared.Step.{Step}
-use Rattle.kernel.specs.Calls.{Called, called, refused, accepted, closedState, closedAfter, taken, unless, call}
+use Rattle.kernel.specs.Calls.{called, refused, accepted, closedState, closedAfter, taken, unless, call}
 
 module _ (s : Session) (e : Entry) (buf : List ℕ) {why : ℕ} (told : why ≡ callRefusal (s .state .waiting) e buf) (r : Step) where
   pub away : (why ≡ 0 → ⊥) → (r .session ≡ s) × (r .reply ≡ Refused why) → called r buf ≡ call s e buf

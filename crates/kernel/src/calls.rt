@@ -17,7 +17,7 @@ use tape_read::RESULTS;
 use tape_read::SILENCE;
 use tape_read::START;
 ghost use mathlib.Core.Path.{_≡_};
-ghost use mathlib.Core.List.{List, []};
+ghost use mathlib.Core.List.{[]};
 ghost use Rattle.tape_read.specs.Entries.{entry, start as startKind, answer as answerKind};
 ghost use Rattle.tape_read.specs.Entries.{silence as silenceKind, host as hostKind, results as resultsKind};
 ghost use Rattle.session_phase.specs.Waiting.{resultsIn};

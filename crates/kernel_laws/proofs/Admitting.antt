@@ -1,7 +1,7 @@
 -- When a call is taken: the buffer has room, the session waits for the event, and the event passes its own line.
 -- Assumes nothing.
 use mathlib.Core.Path.{_≡_, refl, sym, ap, _∙_}
-use mathlib.Core.Bool.{Bool, true, false, not, false≢true}
+use mathlib.Core.Bool.{true, false, not}
 use mathlib.Core.List.{List}
 use Prim.Native.Nat.{ℕ, _≤_}
 use native.Mathlib.Omega.{arith}
@@ -9,7 +9,7 @@ use lib.Dec.{eqb}
 use lib.ListN.{length}
 use borrow.Author.Tests.{eq-eqb, ne-eqb, le-ltb}
 use Rattle.slices.specs.Choice.{firstOf}
-use Rattle.slices.proofs.Choice.{pick-no, either}
+use Rattle.slices.proofs.Choice.{pick-no}
 use Rattle.slices.proofs.Lines.{line-no}
 use Rattle.tape_read.specs.Entries.{Entry, entry, answer, silence, payloadMost}
 use Rattle.commands.specs.Commands.{longest}

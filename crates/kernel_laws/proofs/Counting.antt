@@ -6,7 +6,7 @@ use mathlib.Core.Path.{_≡_, refl, sym, ap, _∙_, subst}
 use mathlib.Core.Bool.{true}
 use mathlib.Core.List.{List, [], _∷_, _++_, append-nil}
 use mathlib.Core.Option.{some}
-use Prim.Native.Nat.{ℕ, _+_, _*_, _%_, _^_, _≤_, _<_}
+use Prim.Native.Nat.{ℕ, _+_, _^_, _<_}
 use native.Mathlib.Nat.{mod-eq-of-lt, add-zero}
 use native.Mathlib.Omega.{arith}
 use lib.Dec.{eqb}
@@ -20,7 +20,7 @@ use Rattle.rulebook.specs.Machine.{Machine, at, owes, next, run}
 use Rattle.rulebook.proofs.Running.{takes-command, takes-decision}
 use Rattle.rulebook.proofs.Reading.{awaits-run}
 use Rattle.rulebook.proofs.Trichotomy.{snoc-same}
-use Rattle.rulebook_zeros.specs.Zeros.{mostEntries, unsuppliedIn, Zeros}
+use Rattle.rulebook_zeros.specs.Zeros.{unsuppliedIn, Zeros}
 use Rattle.rulebook_zeros.specs.Summing.{newIn, countOn, zerosFrom, zerosOf}
 use Rattle.rulebook_zeros.proofs.Summing.{zeros-on, zeros-stop, silence-stops, zeros-found}
 use Rattle.rulebook_zeros.proofs.Most.{zeros-most}
@@ -31,7 +31,6 @@ use Rattle.kernel_refusals.specs.Refusals.{callRefusal}
 use Rattle.kernel.specs.declared.Session.{Session}
 use Rattle.kernel.specs.Calls.{Called, refused, accepted, closedAfter, call, freshSession}
 use Rattle.kernel_laws.specs.Log.{Call, made, logged, loggedBy, Played, after, playsFrom, plays, allBytes}
-use Rattle.kernel_laws.specs.Saying.{Silenced}
 use Rattle.kernel_laws.proofs.Turning.{zero-or, call-taken, call-refused, taken-silence, taken-step, passed}
 use Rattle.kernel_laws.proofs.Taking.{Taken, taken-event, taken-logged, silence-alone, silence-taken}
 use Rattle.kernel_laws.proofs.Lasting.{Stands, going, shut, not-closed, stands-call}

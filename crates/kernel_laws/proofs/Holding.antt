@@ -1,7 +1,7 @@
 -- No call clears a bit of TVR or TSI: on every session that has the bits of the word it waits for. Every session that waits for the card
 -- or for the issuer does, and one that waits for START does where both are zeros, as from fresh on.
 -- Assumes nothing.
-use mathlib.Core.Path.{_≡_, refl, sym, ap, _∙_, subst}
+use mathlib.Core.Path.{_≡_, sym, _∙_, subst}
 use mathlib.Core.Bool.{true, false}
 use mathlib.Core.List.{List, [], _∷_, _++_}
 use Prim.Native.Nat.{ℕ}
@@ -12,7 +12,6 @@ use borrow.Author.Tests.{eqb-true, eqb-false}
 use Rattle.slices.proofs.Choice.{either, and-left, and-right}
 use Rattle.tape_read.specs.Entries.{Entry, silence}
 use Rattle.decide_tvr.proofs.Rows.{joined-self, kept-on}
-use Rattle.session_phase.specs.declared.Speaker.{Speaker}
 use Rattle.session_phase.specs.declared.Waiting.the-variants.{ForWord, Closed}
 use Rattle.session_state.specs.Keeping.{changed}
 use Rattle.session_state.specs.declared.State.{State}

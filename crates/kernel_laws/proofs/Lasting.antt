@@ -1,7 +1,7 @@
 -- After any calls from fresh the session stands where its log has led the rulebook's machine, or it was closed by the silence that
 -- ends its log: a call that is turned away changes neither, a silence closes, and any other that is taken is a step of the machine.
 -- Assumes nothing.
-use mathlib.Core.Path.{_≡_, refl, sym, ap, _∙_, subst}
+use mathlib.Core.Path.{_≡_, sym, ap, _∙_, subst}
 use mathlib.Core.Bool.{true, false, false≢true}
 use mathlib.Core.List.{List, [], _∷_, _++_, append-nil}
 use Prim.Native.Nat.{ℕ}
@@ -9,7 +9,7 @@ use lib.Dec.{eqb}
 use lib.Pow.{areBytes}
 use borrow.Author.Tests.{eqb-true, eqb-false}
 use Rattle.slices.proofs.Choice.{either, and-left, and-right}
-use Rattle.tape_read.specs.Entries.{Entry, entry, silence}
+use Rattle.tape_read.specs.Entries.{Entry, silence}
 use Rattle.rulebook.specs.Session.{Closed as ClosedLog}
 use Rattle.session_phase.specs.Waiting.{awaited, isOver}
 use Rattle.session_phase.specs.declared.Waiting.the-variants.{Closed}
@@ -21,7 +21,7 @@ use Rattle.kernel.specs.declared.Session.{Session}
 use Rattle.kernel.specs.Calls.{Called, refused, accepted, closedAfter, call, freshSession}
 use Rattle.kernel_laws.specs.Log.{Call, made, logged, loggedBy, Played, after, playsFrom, plays, allBytes}
 use Rattle.kernel_laws.specs.Saying.{Silenced}
-use Rattle.kernel_laws.proofs.Turning.{zero-or, Passed, call-taken, call-refused, taken-silence, taken-step, passed}
+use Rattle.kernel_laws.proofs.Turning.{zero-or, call-taken, call-refused, taken-silence, taken-step, passed}
 use Rattle.kernel_laws.proofs.Taking.{taken-event, silence-alone, silence-taken, taken-reached}
 
 pub data Stands (s : Session) (es : List Entry) : Type 0 where

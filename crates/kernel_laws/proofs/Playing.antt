@@ -3,7 +3,7 @@
 -- whose START the kernel takes is the log of a kernel session.
 -- Assumes nothing.
 use mathlib.Core.Path.{_≡_, refl, sym, ap, _∙_, subst}
-use mathlib.Core.Bool.{Bool, true, false}
+use mathlib.Core.Bool.{true, false}
 use mathlib.Core.List.{List, [], _∷_, _++_, append-assoc, append-nil}
 use mathlib.Core.Option.{Option, some}
 use Prim.Native.Nat.{ℕ, _≤_}
@@ -25,8 +25,6 @@ use Rattle.rulebook.specs.Roles.{given, begins}
 use Rattle.rulebook.proofs.Passing.{Holds, anything-lasts, turn-holds, after-holds}
 use Rattle.rulebook.proofs.Payloads.{payload-most}
 use Rattle.rulebook.proofs.Running.{due-entry, due-test, said-allowed, said-payload, chosen, taken, no-state, session-run}
-use Rattle.session_phase.specs.Waiting.{kindOf}
-use Rattle.session_phase.specs.declared.Speaker.{Speaker}
 use Rattle.dol_fill.specs.Filled.{summed}
 use Rattle.session_moves.specs.Moves.{Moved, questionOf, speakerOf, keptAs}
 use Rattle.session_events.specs.Events.{step}

@@ -2,7 +2,7 @@
 -- the machine waits for it, with a payload that a tape can hold.
 -- Assumes nothing.
 use mathlib.Core.Path.{_≡_, refl, sym, ap, _∙_, subst}
-use mathlib.Core.Bool.{Bool, true, false, _&&_, false≢true}
+use mathlib.Core.Bool.{true, false, _&&_, false≢true}
 use mathlib.Core.List.{List, [], _∷_, _++_}
 use mathlib.Core.Option.{some}
 use Prim.Native.Nat.{ℕ, _≤_}
@@ -16,7 +16,7 @@ use Rattle.slices.proofs.Choice.{pick-yes, pick-no, and-left, and-right}
 use Rattle.slices.proofs.Cutting.{none-left}
 use Rattle.tape_read.specs.Entries.{Entry, entry, answer, silence, payloadMost}
 use Rattle.commands.specs.Commands.{longest}
-use Rattle.rulebook.specs.Phase.{Asked, Phase, opens, asks, hears, dueKind, tvrOf, tsiOf}
+use Rattle.rulebook.specs.Phase.{Phase, opens, hears, dueKind, tvrOf, tsiOf}
 use Rattle.rulebook.specs.Turn.{turn, allowed, after}
 use Rattle.rulebook.proofs.Payloads.{payload}
 use Rattle.rulebook.specs.Machine.{Machine, at, owes, run}
@@ -30,8 +30,7 @@ use Rattle.session_phase.specs.declared.Speaker.{Speaker}
 use Rattle.session_phase.specs.declared.Waiting.{Waiting}
 use Rattle.session_phase.specs.declared.Waiting.the-variants.{ForCard, ForWord, Decided, Closed}
 use Rattle.session_state.specs.Keeping.{changed}
-use Rattle.session_state.specs.declared.State.{State}
-use Rattle.session_moves.specs.Moves.{Moved, speakerOf}
+use Rattle.session_moves.specs.Moves.{Moved}
 use Rattle.session_phase.specs.Saying.{allowedBy}
 use Rattle.session_events.specs.Events.{step}
 use Rattle.session_laws.specs.Agreeing.{StandsAt}

@@ -1,7 +1,7 @@
 -- What is said after any calls from fresh is what the rulebook's phase for the log names, and so is what the last call gave: the
 -- session stands at that phase, and the call was a step to it.
 -- Assumes nothing.
-use mathlib.Core.Path.{_≡_, refl, sym, ap, _∙_, subst}
+use mathlib.Core.Path.{_≡_, sym, ap, _∙_, subst}
 use mathlib.Core.Bool.{true, false}
 use mathlib.Core.List.{List, [], _∷_, _++_}
 use Prim.Native.Nat.{ℕ}

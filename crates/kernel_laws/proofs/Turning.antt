@@ -1,7 +1,7 @@
 -- A call is turned away, and then nothing is changed, or it is taken; and what a call that is taken has passed.
 -- Assumes nothing.
-use mathlib.Core.Path.{_≡_, refl, sym, ap, _∙_}
-use mathlib.Core.Bool.{Bool, true, false, not, false≢true}
+use mathlib.Core.Path.{_≡_, sym, _∙_}
+use mathlib.Core.Bool.{true, false, not, false≢true}
 use mathlib.Core.List.{List}
 use Prim.Native.Nat.{ℕ, _≤_}
 use native.Mathlib.Omega.{arith}
@@ -17,7 +17,7 @@ use Rattle.session_phase.specs.Waiting.{isOver}
 use Rattle.session_events.specs.Events.{step}
 use Rattle.kernel_refusals.specs.Refusals.{isDue, startBad, answerBad, wordLines, refusalLines, callRefusal}
 use Rattle.kernel.specs.declared.Session.{Session}
-use Rattle.kernel.specs.Calls.{Called, refused, accepted, closedAfter, taken, unless, call}
+use Rattle.kernel.specs.Calls.{refused, accepted, closedAfter, taken, unless, call}
 
 -- by cases of whether a number is 0
 pub zero-or : {P : Type 0} (n : ℕ) → (n ≡ 0 → P) → ((n ≡ 0 → ⊥) → P) → P

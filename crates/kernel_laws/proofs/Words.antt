@@ -1,7 +1,7 @@
 -- The lines of 01's table at each word: a word that the kernel takes passes them, and one that passes them is taken; and what is taken
 -- may be said.
 -- Assumes nothing.
-use mathlib.Core.Path.{_≡_, refl, sym, ap, _∙_}
+use mathlib.Core.Path.{_≡_, refl, sym, ap}
 use mathlib.Core.Bool.{Bool, true, false, not}
 use mathlib.Core.List.{List, []}
 use Prim.Native.Nat.{ℕ}

@@ -3,12 +3,11 @@
 use mathlib.Core.Path.{_≡_}
 use mathlib.Core.Bool.{true, false}
 use mathlib.Core.List.{List, [], _∷_, _++_}
-use mathlib.Core.Option.{some}
 use Prim.Native.Nat.{ℕ}
 use lib.ListN.{length, take, drop}
 use Rattle.tape_read.specs.Entries.{Entry, entry, silence}
 use Rattle.rulebook.specs.Situation.{Situation}
-use Rattle.rulebook.specs.Phase.{Asked, Phase, opens, asks, hears, decides, situationOf, commandOf, dueKind, decisionOf, tvrOf, tsiOf}
+use Rattle.rulebook.specs.Phase.{Asked, Phase, asks, hears, decides, situationOf, commandOf, dueKind, decisionOf, tvrOf, tsiOf}
 use Rattle.rulebook.specs.Session.{Session as WholeSession, AwaitsCard, Open, LeadsTo}
 use Rattle.session_phase.specs.Waiting.{isDecided}
 use Rattle.session_phase.specs.declared.Waiting.the-variants.{Closed}

@@ -2,16 +2,16 @@
 -- call is turned away, writer and tape are as they were.
 -- Assumes nothing.
 use mathlib.Core.Path.{_≡_, refl, sym, ap, ap₂, _∙_}
-use mathlib.Core.List.{List, [], _∷_, _++_, append-assoc, append-nil}
-use Prim.Native.Nat.{ℕ, _+_, _*_, _≤_}
+use mathlib.Core.List.{List, [], _∷_, append-nil}
+use Prim.Native.Nat.{ℕ, _+_, _*_}
 use native.Mathlib.Omega.{arith}
 use lib.Dec.{eqb}
-use lib.ListN.{length, length-append}
+use lib.ListN.{length}
 use borrow.Author.Tests.{eq-eqb, ne-eqb, eqb-true, eqb-false}
 use Rattle.slices.specs.Writing.{put}
 use Rattle.slices.proofs.Choice.{pick-yes, pick-no, either}
 use Rattle.slices.proofs.Writing.{put-length, put-step, put-nothing}
-use Rattle.tape_read.specs.Entries.{Entry, blockSize, blocksMost}
+use Rattle.tape_read.specs.Entries.{Entry, blockSize}
 use Rattle.tape_read.specs.Blocks.{block}
 use Rattle.tape_read.specs.Tapes.{written}
 use Rattle.tape_read.proofs.Parts.{block-length}
@@ -20,7 +20,7 @@ use Rattle.tape_write.specs.declared.Writer.{Writer}
 use Rattle.tape_write.specs.declared.Appended.{Appended}
 use Rattle.tape_write.proofs.Refusals.{taken}
 use Rattle.tape_write.proofs.Growing.{refused-answer, taken-answer, refused-tape, taken-tape}
-use Rattle.kernel_record.specs.Recording.{Kept, kept, grown, keptAll, tapeRefusal}
+use Rattle.kernel_record.specs.Recording.{kept, grown, keptAll, tapeRefusal}
 use Rattle.kernel_record.proofs.Refusing.{Fitting, none-rest, call-fits, fits-call, fits-one, one-refusal}
 
 -- so many blocks further

@@ -3,22 +3,21 @@
 -- Assumes nothing.
 use mathlib.Core.Path.{_≡_, refl, sym, ap, _∙_, subst}
 use mathlib.Core.Bool.{Bool, true, false, not, _&&_, false≢true}
-use mathlib.Core.List.{List, [], _∷_}
+use mathlib.Core.List.{List}
 use Prim.Native.Nat.{ℕ, _<_}
 use native.Mathlib.Omega.{arith}
 use lib.Dec.{eqb}
 use lib.ListN.{length}
 use borrow.Author.Tests.{eqb-true, eqb-false, ne-eqb, not-true, not-false}
 use Rattle.slices.specs.Choice.{pick, firstOf}
-use Rattle.slices.proofs.Choice.{pick-yes, pick-no, picked, either, and-left}
+use Rattle.slices.proofs.Choice.{pick-yes, pick-no, picked, either}
 use Rattle.tape_read.specs.Entries.{Entry, answer, silence}
 use Rattle.words.specs.Words.{wordKind, wordRefusal}
 use Rattle.words.specs.declared.Word.{Word}
 use Rattle.words.specs.declared.Word.the-variants.{Host, Results}
 use Rattle.words.proofs.Laws.{other-kind}
-use Rattle.session_phase.specs.Waiting.{kindOf, awaited, isOver}
+use Rattle.session_phase.specs.Waiting.{kindOf, awaited}
 use Rattle.session_phase.specs.Saying.{allowedBy, refusalBy}
-use Rattle.session_phase.specs.declared.Speaker.{Speaker}
 use Rattle.session_phase.specs.declared.Speaker.the-variants.{Terminal, Says}
 use Rattle.session_phase.specs.declared.Waiting.{Waiting}
 use Rattle.session_phase.specs.declared.Waiting.the-variants.{ForCard, ForWord, Decided, Closed}

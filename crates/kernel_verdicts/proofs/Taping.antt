@@ -22,7 +22,7 @@ use Rattle.session_phase.specs.declared.Reply.{Reply}
 use Rattle.session_phase.specs.declared.Reply.the-variants.{Command, Due, Decided, Closed, Refused}
 use Rattle.kernel.specs.Calls.{Called, freshSession}
 use Rattle.kernel_laws.specs.Log.{Call, made, logged, loggedBy, Played, after, playsFrom, plays}
-use Rattle.kernel_record.specs.Recording.{Kept, kept, grown, keptAll, recorded, tapeRefusal}
+use Rattle.kernel_record.specs.Recording.{Kept, kept, grown, keptAll, recorded}
 use Rattle.kernel_record.proofs.Refusing.{Fitting, none-wrong, fits-call}
 use Rattle.kernel_record.proofs.Keeping.{further, all-kept}
 use Rattle.kernel_verdicts.specs.Taping.{Taped, tapedBy, taped, tapedFrom, recordedAll, tapeOf}

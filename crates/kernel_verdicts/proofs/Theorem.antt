@@ -6,16 +6,16 @@
 use mathlib.Core.Path.{_≡_, refl, sym, ap, _∙_, subst}
 use mathlib.Core.Bool.{true, false}
 use mathlib.Core.List.{List, [], _∷_, _++_}
-use mathlib.Core.Logic.{_⊎_, inl, inr}
+use mathlib.Core.Logic.{inl, inr}
 use Prim.Native.Nat.{ℕ, _+_, _*_, _^_, _<_, _≤_}
 use native.Mathlib.Omega.{arith}
 use lib.ListN.{length, take, drop, length-append}
 use lib.Seq.{length-take-le}
 use Rattle.slices.proofs.Choice.{either}
-use Rattle.tape_read.specs.Entries.{Entry, entry, silence, storable, allStorable, blockSize, blocksMost, tapeMost}
+use Rattle.tape_read.specs.Entries.{Entry, entry, silence, storable, blockSize, blocksMost, tapeMost}
 use Rattle.tape_read.specs.Tapes.{written}
 use Rattle.tape_read.proofs.Roundtrip.{tape-back, cut-back}
-use Rattle.rulebook.specs.Session.{Session, Beginning, AwaitsCard, Closed, Open, Lawful}
+use Rattle.rulebook.specs.Session.{Beginning, AwaitsCard, Closed, Open, Lawful}
 use Rattle.rulebook.proofs.Bound.{session-bound}
 use Rattle.rulebook.proofs.Breaks.{part-begins}
 use Rattle.verdict.specs.Saying.{says}

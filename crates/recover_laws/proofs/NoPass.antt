@@ -12,7 +12,6 @@ use Rattle.tape_read.specs.Entries.{Entry, blockSize}
 use Rattle.tape_read.specs.Blocks.{checkBad, codeOf}
 use Rattle.tape_read.specs.Tapes.{entries, blockAt, sessionOf, readTape}
 use Rattle.tape_read.proofs.Codes.{code-check}
-use Rattle.verdict.specs.Saying.{says}
 use Rattle.verdict.specs.declared.Verdict.the-variants.{Pass, Unreadable}
 use Rattle.verdict.specs.declared.Answer.{Answer}
 use Rattle.verdict_judged.specs.Judged.{Judged, readable, damaged}

@@ -3,14 +3,14 @@
 -- Assumes nothing.
 use mathlib.Core.Path.{_≡_, refl}
 use mathlib.Core.Bool.{true}
-use mathlib.Core.List.{List, [], _∷_}
+use mathlib.Core.List.{[], _∷_}
 use Prim.Native.Nat.{ℕ, zero, suc, _≤_}
 use native.Mathlib.Omega.{arith}
-use Rattle.tape_read.specs.Entries.{Entry, entry, command, answer, decision}
+use Rattle.tape_read.specs.Entries.{entry, command, answer, decision}
 use Rattle.rulebook.specs.Phase.{Phase, asks, hears, decides, commandOf, dueKind, decisionOf}
 use Rattle.rulebook.specs.Turn.{turn, after}
 use Rattle.rulebook.specs.Stated.{Finished}
-use Rattle.rulebook.specs.Session.{isPayload, Plays, exchanged, heard, decided}
+use Rattle.rulebook.specs.Session.{isPayload, exchanged, heard, decided}
 use Rattle.rulebook.proofs.Said.{can-say}
 use Rattle.rulebook.proofs.Bound.{toCome, some-come, turn-fewer, after-fewer}
 

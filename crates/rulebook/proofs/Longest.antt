@@ -17,7 +17,7 @@ use Rattle.slices.specs.Tests.{isSome}
 use Rattle.tlv_list.specs.Lookup.{Lookup, absent}
 use Rattle.tape_read.specs.Entries.{Entry, entry, start, host, results}
 use Rattle.start_fields.specs.Reading.{readingOf}
-use Rattle.answer_afl.specs.Entries.{mostRecords, recordCount, toRead}
+use Rattle.answer_afl.specs.Entries.{mostRecords, toRead}
 use Rattle.answer_afl.proofs.Counting.{read-length}
 use Rattle.answer_common.specs.Answer.{frame}
 use Rattle.answer_common.proofs.Accepted.{any-none}

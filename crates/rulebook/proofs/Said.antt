@@ -19,7 +19,7 @@ use Rattle.session_records.specs.Slots.{Facts}
 use Rattle.decide_verification.proofs.Laws.{wanted-few}
 use Rattle.words.specs.declared.Word.{Word}
 use Rattle.words.specs.declared.Word.the-variants.{Host, Results}
-use Rattle.words.proofs.Laws.{OtherKind, other-kind, can-say as can-say-word, said-short}
+use Rattle.words.proofs.Laws.{OtherKind, other-kind, can-say as can-say-word}
 use Rattle.rulebook.specs.Phase.{Heard, terminal, says, dueKind}
 use Rattle.rulebook.specs.Turn.{wantedIn, allowed}
 use Rattle.rulebook.specs.Session.{isPayload}

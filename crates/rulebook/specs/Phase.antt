@@ -1,7 +1,7 @@
 -- Where a session stands: what is due next, and what was asked for. 01, "What the kernel plays and who decides"; 02, R-7.
 -- Assumes nothing.
-use mathlib.Core.List.{List, [], _∷_, _++_}
-use mathlib.Core.Option.{Option, none, some}
+use mathlib.Core.List.{List, _∷_, _++_}
+use mathlib.Core.Option.{none, some}
 use Prim.Native.Nat.{ℕ}
 use Rattle.slices.specs.Writing.{zeros}
 use Rattle.dol_fill.specs.Filled.{filling}

@@ -1,6 +1,6 @@
 -- Each case holds by computation.
 -- Assumes nothing.
-use mathlib.Core.Path.{_≡_, refl}
+use mathlib.Core.Path.{refl}
 use Rattle.slices.specs.Choice.{pick, firstOf, unlessEmpty}
 use Rattle.slices.specs.Shorter.{counted, shorter}
 use Rattle.slices.specs.Writing.{zeros}

@@ -2,12 +2,12 @@
 -- place, fill, the commands, options_reason, selected and first_request answer.
 -- Assumes nothing.
 use mathlib.Core.Path.{_≡_}
-use mathlib.Core.Bool.{Bool, true, false}
+use mathlib.Core.Bool.{true, false}
 use mathlib.Core.List.{List, [], _∷_, _++_}
-use mathlib.Core.Option.{Option, none, some}
+use mathlib.Core.Option.{some}
 use Prim.Native.Nat.{ℕ, _+_}
 use lib.ListN.{length}
-use Rattle.tlv_list.specs.Objects.{Object, objects, readRefusal}
+use Rattle.tlv_list.specs.Objects.{objects, readRefusal}
 use Rattle.session_records.specs.Slots.{Facts}
 use Rattle.dol_fill.specs.Filled.{filling}
 use Rattle.slices.specs.Writing.{zeros}
@@ -18,7 +18,6 @@ use Rattle.answer_afl.specs.Entries.{toRead, recordCount}
 use Rattle.answer_gpo.specs.Options.{optionsReason}
 use Rattle.decide_tvr.specs.Selection.{selected}
 use Rattle.decide_requests.specs.Requests.{firstRequest}
-use Rattle.decide_cryptogram.specs.declared.Cryptogram.{Cryptogram}
 use Rattle.decide_cryptogram.specs.declared.Cryptogram.the-variants.{Tc, Arqc}
 
 -- a terminal of a type whose action codes are all zero, and an issuer's codes that are

@@ -1,15 +1,13 @@
 -- The sum stays small: each of the three lists has at most 252 bytes, for it is a part of an answer, and each of its entries takes two or
 -- more. So no more than 126 entries of a list are ever counted, and what is still to be counted falls with each list that is.
 -- Assumes nothing.
-use mathlib.Core.Path.{_≡_, refl, sym, ap, _∙_, subst}
-use mathlib.Core.Bool.{Bool, true, false}
+use mathlib.Core.Path.{_≡_, refl, subst}
 use mathlib.Core.List.{List, [], _∷_}
 use mathlib.Core.Option.{Option, none, some, Option·getD}
-use Prim.Native.Nat.{ℕ, _+_, _*_, _≤_, _<_}
+use Prim.Native.Nat.{ℕ, _+_, _*_, _≤_}
 use native.Mathlib.Omega.{arith}
 use lib.Dec.{eqb}
 use lib.ListN.{length}
-use Rattle.slices.specs.Choice.{pick}
 use Rattle.slices.proofs.Choice.{picked}
 use Rattle.tape_read.specs.Entries.{Entry}
 use Rattle.answer_common.specs.Answer.{valueMost}
@@ -31,7 +29,7 @@ use Rattle.rulebook.specs.Phase.{terminal, says, Phase, opens, asks, hears, dec
 use Rattle.rulebook.specs.Turn.{goesOn, opened, selected, managed, requested, verifying, allRead, readOn}
 use Rattle.rulebook.specs.Turn.{withProfile, optioned, withRecord, recorded, answered, replied, online, byFirst}
 use Rattle.rulebook.specs.Turn.{firstAnswered, secondAnswered, turn, replyMade, heard, verifiedBy, after}
-use Rattle.rulebook.specs.Machine.{Machine, at, owes, done, due, sayable, next}
+use Rattle.rulebook.specs.Machine.{Machine, at, owes, done, next}
 use Rattle.rulebook.proofs.Running.{chosen, no-state}
 use Rattle.dol_wanted.specs.Wanted.{fillable}
 use Rattle.answer_gpo.specs.Options.{profileOf, locatorOf}

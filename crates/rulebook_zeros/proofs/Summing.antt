@@ -1,21 +1,21 @@
 -- The sum beside the machine is the fourth number of every list of entries, and the only one: over a session's beginning both add the
 -- same, entry by entry, and where the machine stops nothing more is added, as before the entry that breaks the rules.
 -- Assumes nothing.
-use mathlib.Core.Path.{_≡_, refl, sym, ap, ap₂, _∙_, subst}
+use mathlib.Core.Path.{_≡_, refl, sym, ap, _∙_, subst}
 use mathlib.Core.List.{List, [], _∷_, _++_, append-nil, append-assoc}
 use mathlib.Core.Logic.{_⊎_, inl, inr, ⊎-elim}
 use mathlib.Core.Option.{Option, none, some}
-use Prim.Native.Nat.{ℕ, zero, suc, _+_, _≤_, _<_}
-use native.Mathlib.Nat.{add-assoc, zero-add, add-zero}
+use Prim.Native.Nat.{ℕ, zero, suc, _+_, _≤_}
+use native.Mathlib.Nat.{add-assoc, zero-add}
 use native.Mathlib.Omega.{arith}
 use lib.ListN.{length, take, drop, getD}
 use lib.Seq.{split-at, take-suc}
 use Rattle.slices.proofs.Choice.{pick-no}
 use Rattle.tape_read.specs.Entries.{Entry, entry, command, answer, silence, decision}
-use Rattle.rulebook.specs.Phase.{Asked, Heard, Phase, opens, asks, hears, decides, commandOf, dueKind, decisionOf}
+use Rattle.rulebook.specs.Phase.{Asked, Phase, opens, asks, hears, decides}
 use Rattle.rulebook.specs.Turn.{turn, after}
 use Rattle.rulebook.specs.Session.{Plays, exchanged, heard, decided, Session, Beginning, AwaitsCard, Closed, Open, Lawful, BreaksAt}
-use Rattle.rulebook.specs.Machine.{Machine, at, owes, done, next, andOn, run}
+use Rattle.rulebook.specs.Machine.{Machine, at, owes, done, next, run}
 use Rattle.rulebook.proofs.Single.{head-same, tail-same}
 use Rattle.rulebook.proofs.Running.{taken, session-run, takes-command, takes-answer, takes-heard, takes-decision}
 use Rattle.rulebook.proofs.Reading.{awaits-run, beginning-run, other-kind}

@@ -2,7 +2,7 @@
 -- Assumes nothing.
 use mathlib.Core.Path.{_≡_, refl}
 use mathlib.Core.List.{List, [], _∷_}
-use mathlib.Core.Option.{none, some, Option·getD}
+use mathlib.Core.Option.{none, some}
 use Prim.Native.Nat.{ℕ}
 use Rattle.slices.specs.Choice.{pick, unlessEmpty}
 use Rattle.slices.specs.Shorter.{counted, shorter}
@@ -18,7 +18,7 @@ use Rattle.dol_values.specs.Known.{ownField, valueBy, valueFor, withFormat, sup
 use Rattle.dol_fill.specs.Filled.{missing, missingIn, missingBy, unsupplied}
 use Rattle.decide_cryptogram.specs.declared.Cryptogram.{Cryptogram}
 use Rattle.rulebook.specs.Situation.{Situation, knownIn, listIn}
-use Rattle.rulebook.specs.Phase.{selecting, optioning, reading, first, second}
+use Rattle.rulebook.specs.Phase.{optioning, first, second}
 use Rattle.rulebook_zeros.specs.Zeros.{unsuppliedAsking}
 
 module _ (t : Terminal) (request : Cryptogram) where

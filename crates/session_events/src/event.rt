@@ -15,7 +15,6 @@ use session_state::change::begun;
 use session_verification::on_results;
 use words::Word;
 ghost use mathlib.Core.Path.{_≡_};
-ghost use mathlib.Core.List.{List};
 ghost use Rattle.start_fields.specs.Reading.{readingOf};
 ghost use Rattle.decide_requests.specs.Replies.{replyOf};
 ghost use Rattle.rulebook.specs.Phase.{says};

@@ -1,17 +1,16 @@
 -- No step clears a bit of TVR or TSI, whatever the state: what was asked, or whose word is due, is read off the state itself, and from
 -- there on it is the rulebook's law. Before START both are zeros.
 -- Assumes nothing.
-use mathlib.Core.Path.{_≡_, refl, sym, ap, _∙_}
+use mathlib.Core.Path.{_≡_, refl, ap, _∙_}
 use mathlib.Core.List.{List}
 use Prim.Native.Nat.{ℕ}
 use Rattle.decide_tvr.specs.Bits.{joined}
 use Rattle.decide_tvr.proofs.Rows.{joined-self}
-use Rattle.rulebook.specs.Phase.{Phase, hears, situationOf, tvrOf, tsiOf}
+use Rattle.rulebook.specs.Phase.{Phase, tvrOf, tsiOf}
 use Rattle.rulebook.specs.Turn.{turn, after}
 use Rattle.rulebook.proofs.Growing.{turn-kept, after-grows}
 use Rattle.session_phase.specs.declared.Waiting.{Waiting}
 use Rattle.session_phase.specs.declared.Waiting.the-variants.{ForCard, ForWord, Decided, Closed}
-use Rattle.session_phase.specs.declared.Speaker.{Speaker}
 use Rattle.session_state.specs.Reading.{askedBy, heardBy}
 use Rattle.session_state.specs.Keeping.{changed}
 use Rattle.session_state.specs.declared.State.{State}

@@ -1,7 +1,7 @@
 -- What a state that stands at a phase knows: the situation of what was asked is the state's own reading, and what the state does not
 -- keep has no part in the turn.
 -- Assumes nothing.
-use mathlib.Core.Path.{_≡_, refl, sym, ap, _∙_, subst}
+use mathlib.Core.Path.{_≡_, refl, sym, ap, _∙_}
 use mathlib.Core.List.{List, [], _∷_, _++_}
 use Prim.Native.Nat.{ℕ}
 use Rattle.start_fields.specs.Reading.{readingOf}

@@ -4,13 +4,13 @@
 use mathlib.Core.Path.{_≡_, refl, sym, ap, _∙_, subst}
 use mathlib.Core.Bool.{true}
 use mathlib.Core.List.{List, [], _∷_, _++_}
-use mathlib.Core.Option.{Option, some}
+use mathlib.Core.Option.{some}
 use Prim.Native.Nat.{ℕ}
 use Rattle.tape_read.specs.Entries.{Entry, entry, answer}
 use Rattle.rulebook.specs.Phase.{Asked, Heard, Phase, opens, asks, hears, decides, dueKind, tvrOf, tsiOf}
 use Rattle.rulebook.specs.Turn.{turn, allowed, after}
 use Rattle.rulebook.specs.Session.{isPayload}
-use Rattle.rulebook.specs.Machine.{Machine, at, owes, done, next, run, andOn}
+use Rattle.rulebook.specs.Machine.{Machine, at, owes, next, run, andOn}
 use Rattle.rulebook.proofs.Running.{takes-command, takes-answer, takes-heard, takes-decision}
 use Rattle.rulebook.proofs.Reading.{run-append}
 use Rattle.session_phase.specs.Waiting.{isDecided}
@@ -18,7 +18,7 @@ use Rattle.session_phase.specs.declared.Waiting.{Waiting}
 use Rattle.session_state.specs.Reading.{askedBy, heardBy}
 use Rattle.session_state.specs.Keeping.{stateAt, fresh}
 use Rattle.session_state.specs.declared.State.{State}
-use Rattle.session_moves.specs.Moves.{Moved, questionOf, speakerOf, keptAs, standing, moved}
+use Rattle.session_moves.specs.Moves.{Moved, questionOf, speakerOf, keptAs, moved}
 use Rattle.session_answers.specs.Keeping.{keeping}
 use Rattle.session_events.specs.Events.{answerStep, keepingWord, wordStep, stepAt, step}
 use Rattle.session_laws.specs.Agreeing.{forgets, Knows, StandsAt, Agrees}

@@ -1,6 +1,6 @@
 -- From the state back to the rulebook: what the state waits for tells which phase of the rulebook it stands at.
 -- Assumes nothing.
-use mathlib.Core.Path.{_≡_, refl, sym, ap, _∙_}
+use mathlib.Core.Path.{_≡_, refl, sym, _∙_}
 use Prim.Native.Nat.{ℕ}
 use native.Mathlib.Omega.{arith}
 use Rattle.rulebook.specs.Situation.{Situation}
@@ -8,10 +8,9 @@ use Rattle.rulebook.specs.Phase.{Asked, Heard, Phase, asks, hears, decides}
 use Rattle.session_phase.specs.declared.Question.{Question}
 use Rattle.session_phase.specs.declared.Speaker.{Speaker}
 use Rattle.session_phase.specs.declared.Waiting.the-variants.{ForCard, ForWord, Decided, Closed}
-use Rattle.session_state.specs.Reading.{askedBy, heardBy}
 use Rattle.session_state.specs.declared.State.{State}
 use Rattle.session_moves.specs.Moves.{questionOf, speakerOf, keptAs}
-use Rattle.session_laws.specs.Agreeing.{forgets, Knows, StandsAt}
+use Rattle.session_laws.specs.Agreeing.{StandsAt}
 
 module _ (s : State) where
   pub asked-at : (p : Phase) (question : Question) → StandsAt s p → s .waiting ≡ ForCard question → (w : Asked) × (p ≡ asks w)

@@ -2,7 +2,7 @@
 -- empty until something is kept there.
 -- Assumes nothing.
 use mathlib.Core.Path.{_≡_, refl, sym, ap, ap₂, subst, fun-ext, _∙_}
-use mathlib.Core.Bool.{Bool, true, false}
+use mathlib.Core.Bool.{true, false}
 use mathlib.Core.List.{List, [], _∷_, _++_, append-nil}
 use mathlib.Core.Option.{Option, none, some}
 use Prim.Native.Nat.{ℕ, _+_, _-_, _≤_, _<_}
@@ -14,9 +14,9 @@ use borrow.Author.Tests.{eqb-true, eqb-false}
 use Rattle.slices.specs.Choice.{pick, unlessEmpty}
 use Rattle.slices.specs.Tables.{beside}
 use Rattle.slices.specs.Writing.{put, laid, zeros}
-use Rattle.slices.proofs.Choice.{pick-yes, pick-no, either}
+use Rattle.slices.proofs.Choice.{pick-no, either}
 use Rattle.slices.proofs.Writing.{zeros-length, laid-fits}
-use Rattle.session_records.specs.Slots.{Facts, end, toldFrom, nowhere, placed, recordSlot}
+use Rattle.session_records.specs.Slots.{Facts, end, toldFrom, placed, recordSlot}
 use Rattle.session_records.specs.Slots.{slotFor, cellIn, read, toldIn, keptIn, full, told}
 use Rattle.session_records.proofs.Apart.{told-begins, slot-told}
 use Rattle.session_records.proofs.Keeping.{keep-same, keep-other, keep-all, full-length}

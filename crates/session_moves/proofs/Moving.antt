@@ -1,8 +1,7 @@
 -- How a step of the code is the step of the definition: the state waits for what the phase says, and the command is the phase's.
 -- Assumes nothing.
-use mathlib.Core.Path.{_≡_, refl, sym, ap, _∙_}
-use mathlib.Core.Bool.{Bool, true, false}
-use mathlib.Core.List.{List, [], _∷_}
+use mathlib.Core.Path.{_≡_, sym, ap, _∙_}
+use mathlib.Core.List.{List}
 use Prim.Native.Nat.{ℕ, _≤_, _<_, _%_}
 use native.Mathlib.Nat.{mod-eq-of-lt}
 use native.Mathlib.Omega.{arith}
@@ -27,7 +26,7 @@ use Rattle.session_state.specs.declared.State.{State}
 use Rattle.session_phase.specs.declared.Waiting.the-variants.{ForCard, ForWord, Decided}
 use Rattle.session_phase.specs.declared.Reply.the-variants.{Command, Due, Decided as DecidedReply, Refused}
 use Rattle.session_moves.specs.declared.Step.{Step}
-use Rattle.session_moves.specs.Moves.{Moved, played, questionOf, speakerOf, keptAs, cursorAsking, cursorAfter}
+use Rattle.session_moves.specs.Moves.{played, questionOf, speakerOf, keptAs, cursorAsking, cursorAfter}
 use Rattle.session_moves.specs.Moves.{standing, replyIn, bufferIn, moved, unmoved, waitingFor, askedFor}
 
 -- the bytes of a run, as the code cuts them out

@@ -1,7 +1,7 @@
 -- The slots of two names do not meet, and all of them lie within the array: each begins where the one before it ends.
 -- Assumes nothing.
-use mathlib.Core.Path.{_≡_, refl, sym, ap, subst, _∙_}
-use mathlib.Core.Bool.{Bool, true, false, false≢true}
+use mathlib.Core.Path.{_≡_, refl, sym, ap, _∙_}
+use mathlib.Core.Bool.{true, false, false≢true}
 use mathlib.Core.List.{List, [], _∷_, _++_, map}
 use mathlib.Core.Option.{none, some, Option·getD}
 use Prim.Native.Nat.{ℕ, _+_, _-_, _≤_}

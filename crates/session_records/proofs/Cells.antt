@@ -3,19 +3,18 @@
 use mathlib.Core.Path.{_≡_, refl, sym, ap, _∙_}
 use mathlib.Core.Bool.{Bool, true, false, not}
 use mathlib.Core.List.{List, [], _∷_, _++_, append-assoc}
-use mathlib.Core.Option.{Option, none, some, Option·getD}
-use Prim.Native.Nat.{ℕ, suc, _+_, _-_, _≤_, _<_}
+use mathlib.Core.Option.{none, some}
+use Prim.Native.Nat.{ℕ, _+_, _-_, _≤_, _<_}
 use native.Mathlib.Omega.{arith}
-use native.Mathlib.Numerals.{add-one}
 use lib.Dec.{eqb, ltb, leb}
-use lib.ListN.{length, getD, take, drop, length-append, length-take, length-drop, take-append-drop}
-use lib.Seq.{length-take-le, take-at, drop-at, take-append-le, drop-append-le, take-append-add}
-use lib.Seq.{drop-append-add, drop-drop, take-append-seam, take-length, take-take}
+use lib.ListN.{length, getD, take, drop, length-append, length-drop, take-append-drop}
+use lib.Seq.{length-take-le, drop-at, take-append-le, drop-append-le, take-append-add}
+use lib.Seq.{drop-drop, take-append-seam}
 use borrow.Author.Tests.{eq-eqb, ne-eqb, lt-ltb, leb-true}
 use Rattle.slices.specs.Choice.{pick}
 use Rattle.slices.specs.Writing.{put, laid}
-use Rattle.slices.proofs.Choice.{pick-yes, pick-no, picked, either}
-use Rattle.slices.proofs.Writing.{put-length, put-step, put-take, laid-fits}
+use Rattle.slices.proofs.Choice.{pick-yes, pick-no, picked}
+use Rattle.slices.proofs.Writing.{put-length, put-step, laid-fits}
 use Rattle.slices.specs.Tests.{isSome}
 use Rattle.session_records.specs.Slots.{read, cellIn, keptAt}
 use Rattle.session_records.specs.declared.Slot.{Slot}

@@ -1,7 +1,6 @@
 -- The slot of each name, and how an array of slots is read and written. Each name of the table of what records name has one, and
 -- so has what the session itself comes to, for object lists (01, "The commands").
 -- Assumes nothing.
-use mathlib.Core.Bool.{Bool, true, false}
 use mathlib.Core.List.{List, [], _∷_, _++_, map}
 use mathlib.Core.Option.{Option, none, some}
 use Prim.Native.Nat.{ℕ, _+_, _-_}

@@ -1,20 +1,14 @@
 -- A state that took START, the answer to GPO or a record is read as the rulebook's situation after it.
 -- Assumes nothing.
-use mathlib.Core.Path.{_≡_, refl, sym, ap, _∙_}
-use mathlib.Core.Bool.{Bool, true, false}
-use mathlib.Core.List.{List, [], _∷_, map}
-use mathlib.Core.Option.{Option, none, some, Option·getD}
+use mathlib.Core.Path.{_≡_, ap, _∙_}
+use mathlib.Core.List.{List, []}
+use mathlib.Core.Option.{Option, Option·getD}
 use Prim.Native.Nat.{ℕ, _≤_}
-use native.Mathlib.Omega.{arith}
-use lib.Dec.{eqb}
 use lib.ListN.{length}
 use Rattle.slices.specs.Tests.{isSome}
-use Rattle.slices.specs.Choice.{pick}
 use Rattle.slices.specs.Writing.{zeros}
-use Rattle.slices.proofs.Choice.{pick-same}
 use Rattle.start_fields.specs.Layout.{fullLength}
 use Rattle.start_fields.specs.Reading.{readingOf}
-use Rattle.slices.specs.Tables.{beside}
 use Rattle.answer_afl.specs.Entries.{toRead}
 use Rattle.answer_afl.specs.Cursor.{start, remaining}
 use Rattle.answer_afl.proofs.Walking.{all-remain}

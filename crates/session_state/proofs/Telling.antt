@@ -1,10 +1,10 @@
 -- What is kept of a good record is read as the facts with the same told: each value has room in its slot, and no name is told twice.
 -- Assumes nothing.
 use mathlib.Core.Path.{_≡_, refl, sym, ap, fun-ext, _∙_}
-use mathlib.Core.Bool.{Bool, true, false, false≢true}
-use mathlib.Core.List.{List, [], map}
-use mathlib.Core.Option.{Option, none, some, Option·getD}
-use Prim.Native.Nat.{ℕ, _≤_, _<_}
+use mathlib.Core.Bool.{true, false, false≢true}
+use mathlib.Core.List.{List, map}
+use mathlib.Core.Option.{Option, none, some}
+use Prim.Native.Nat.{ℕ}
 use native.Mathlib.Omega.{arith}
 use lib.Dec.{eqb}
 use lib.ListN.{length}
@@ -12,7 +12,7 @@ use Rattle.slices.specs.Choice.{pick}
 use Rattle.slices.proofs.Choice.{pick-yes, pick-no, either}
 use Rattle.slices.specs.Tests.{isSome}
 use Rattle.tlv_list.specs.Place.{objectAt, placesFrom}
-use Rattle.tlv_list.specs.Lookup.{Lookup, once, twice, lookup}
+use Rattle.tlv_list.specs.Lookup.{twice}
 use Rattle.tlv_list.proofs.Walking.{places-members}
 use Rattle.tlv_head.specs.Head.{constructed, firstByte}
 use Rattle.start_fields.specs.Reading.{Terminal}

@@ -1,7 +1,7 @@
 -- A list of tests with a number each, read from the top (`firstOf`): a line whose test holds is the answer, one whose test fails leaves it
 -- to the lines below. In two lists, one after the other, the first decides unless none of its lines applies.
 -- Assumes nothing.
-use mathlib.Core.Path.{_≡_, refl, sym, ap, ap₂, _∙_}
+use mathlib.Core.Path.{_≡_, refl, sym, ap₂, _∙_}
 use mathlib.Core.Bool.{Bool, true, false}
 use mathlib.Core.List.{List, [], _∷_, _++_}
 use Prim.Native.Nat.{ℕ}

@@ -1,9 +1,9 @@
 -- The recursion on shorter lists: the function that a step describes is the step applied to the function itself. However
 -- many steps are granted beyond the list's length, the answer is the same, since each asks only of shorter lists.
 -- Assumes nothing.
-use mathlib.Core.Path.{_≡_, refl, ap}
+use mathlib.Core.Path.{_≡_, refl}
 use mathlib.Core.List.{List}
-use Prim.Native.Nat.{ℕ, zero, suc, _<_, _≤_}
+use Prim.Native.Nat.{ℕ, zero, suc, _<_}
 use native.Mathlib.Nat.{le-refl, not-suc-le-zero}
 use native.Mathlib.Omega.{arith}
 use lib.ListN.{length}

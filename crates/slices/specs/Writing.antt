@@ -1,6 +1,6 @@
 -- Bytes written into a buffer, and the two ways in which that can end.
 -- Assumes nothing.
-use mathlib.Core.List.{List, [], _∷_, _++_}
+use mathlib.Core.List.{List, _++_}
 use Prim.Native.Nat.{ℕ, _+_}
 use lib.Dec.{leb}
 use lib.ListN.{length, take, drop, replicate}

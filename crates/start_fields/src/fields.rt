@@ -2,7 +2,7 @@
 // bytes, and read as 0 in a field of one byte.
 ghost use mathlib.Core.Path.{_≡_};
 ghost use Prim.Native.Nat.{_<_, _≤_};
-ghost use lib.ListN.{length, take, drop};
+ghost use lib.ListN.{length, drop};
 ghost use Rattle.start_fields.specs.Layout.{beginOf, sizeOf, octetAt, isLength};
 ghost use Rattle.start_fields.specs.Reading.{readingOf, bytesOf, octetOf, amountOf, otherAmountOf};
 ghost use Rattle.start_fields.specs.Reading.{floorLimitOf, thresholdOf, digitsIn, aidLengthIn, aidRoomIn};

@@ -2,7 +2,7 @@
 -- has its length, and every number is in its range. Each fact is one of the tests that the START passed. A START that begins a session
 -- is a valid one of the longest.
 -- Assumes nothing.
-use mathlib.Core.Path.{_≡_, refl, subst}
+use mathlib.Core.Path.{_≡_, subst}
 use mathlib.Core.Bool.{true, false}
 use mathlib.Core.List.{List, [], _∷_}
 use mathlib.Core.Logic.{_⊎_, inl, inr}

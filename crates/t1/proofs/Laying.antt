@@ -9,7 +9,6 @@ use Rattle.t1_state.specs.declared.Phase.the-variants.{Start, Asking, Due, Sent
 use Rattle.t1_state.specs.declared.Last.{Last}
 use Rattle.t1_state.specs.declared.State.{State}
 use Rattle.t1_state.specs.declared.Act.{Act}
-use Rattle.t1_state.specs.declared.Turn.{Turn}
 use Rattle.t1_turns.specs.Turns.{silentIn, onSilence}
 use Rattle.t1.specs.Steps.{blockFor, blockOf, sentBy, keptBy}
 

@@ -1,6 +1,6 @@
 -- One event at one end: the end afterwards, its reply, the block to send, and what belongs to the message that comes in.
 -- Assumes nothing.
-use mathlib.Core.Bool.{Bool, true, false, not}
+use mathlib.Core.Bool.{true, false, not}
 use mathlib.Core.List.{List, [], _∷_}
 use Prim.Native.Nat.{ℕ}
 use lib.ListN.{length, take, drop}
@@ -14,7 +14,6 @@ use Rattle.t1_state.specs.declared.Phase.{Phase}
 use Rattle.t1_state.specs.declared.Phase.the-variants.{Start, Receiving}
 use Rattle.t1_state.specs.declared.Last.{Last}
 use Rattle.t1_state.specs.declared.Last.the-variants.{Nothing, Information, Ready, Request, Response}
-use Rattle.t1_state.specs.declared.Message.{Message}
 use Rattle.t1_state.specs.declared.State.{State}
 use Rattle.t1_state.specs.declared.Act.{Act}
 use Rattle.t1_state.specs.declared.Act.the-variants.{Send, Keep, Value, Whole, Refuse, Nothing as Quiet, End as Ends}

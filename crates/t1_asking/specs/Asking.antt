@@ -1,6 +1,6 @@
 -- A block where a request of our own is open: its response, or the request goes out again. 000, I-5.2.4.3 and I-5.2.5.1.
 -- Assumes nothing.
-use mathlib.Core.Bool.{Bool, true, false}
+use mathlib.Core.Bool.{Bool, false}
 use Prim.Native.Nat.{ℕ}
 use lib.Dec.{eqb}
 use Rattle.slices.specs.Choice.{pick}

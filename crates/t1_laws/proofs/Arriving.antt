@@ -2,8 +2,8 @@
 -- it says so. Assumes nothing.
 use mathlib.Core.Path.{_≡_, refl, sym, ap, subst, _∙_}
 use mathlib.Core.Bool.{Bool, true, false, not, false≢true}
-use mathlib.Core.List.{List, [], _∷_, _++_}
-use Prim.Native.Nat.{ℕ, _+_, _-_, _<_, _≤_, min}
+use mathlib.Core.List.{List, [], _∷_}
+use Prim.Native.Nat.{ℕ, _+_, _-_, _≤_, min}
 use native.Mathlib.Omega.{arith}
 use lib.ListN.{length, getD, take, drop}
 use lib.Seq.{take-all}
@@ -11,24 +11,21 @@ use borrow.Author.Tests.{ltb-true}
 use Rattle.slices.specs.Choice.{pick}
 use Rattle.slices.specs.Writing.{zeros}
 use Rattle.slices.proofs.Choice.{pick-yes, pick-no}
-use Rattle.t1_block.specs.Blocks.{lenOf, kindOf}
+use Rattle.t1_block.specs.Blocks.{lenOf}
 use Rattle.t1_block.specs.Faults.{heardOf}
 use Rattle.t1_block.specs.declared.Heard.{Heard}
-use Rattle.t1_block.specs.declared.Kind.the-variants.{Ready as R}
 use Rattle.t1_state.specs.Limits.{messageMost, room, moreOf}
 use Rattle.t1_state.specs.declared.Phase.{Phase}
 use Rattle.t1_state.specs.declared.Phase.the-variants.{Due, Sent, Over}
-use Rattle.t1_state.specs.declared.Last.the-variants.{Information, Ready}
 use Rattle.t1_state.specs.declared.State.{State}
 use Rattle.t1_state.specs.declared.Turn.{Turn}
-use Rattle.t1_again.specs.Again.{goesOut, refusedAs}
 use Rattle.t1_line.specs.Line.{equal, sendsPiece, sendsNext, takesFields, isSent, onReady, onKind, onLine}
 use Rattle.t1_turns.specs.Turns.{byPhase, onBlock, messageOf, onSend}
 use Rattle.t1.specs.Steps.{blockOf}
 use Rattle.t1_laws.specs.Lossy.{Line, forth, back, Arrives, Arrival, there, here, arrive, Possible, arriveAll, AllPossible}
 use Rattle.t1_laws.proofs.Rounds.{equal-same, not-not}
 use Rattle.t1_laws.proofs.Delivery.{begun, bytes-are}
-use Rattle.t1_laws.proofs.Still.{Says, Stays, on, over, Still, Passes, again-passes, passes}
+use Rattle.t1_laws.proofs.Still.{Says, Stays, on, over, Passes, again-passes, passes}
 use Rattle.t1_laws.proofs.Hearing.{Out, info, ready, answer, bad, arrived, equal-not}
 use Rattle.t1_laws.proofs.Lossy.{Sends, Ear, ready-to, shut, Both, Inv, before, behind}
 use Rattle.t1_laws.proofs.Lossy.{whole, sender-still, information-passes, comes-forth}

@@ -1,13 +1,13 @@
 -- A message cut into chained blocks and received by the rules is the same message, whatever size the blocks have; and so is the answer
 -- that goes back. Each round keeps one piece; the last one makes the message whole. Assumes nothing.
 use mathlib.Core.Path.{_≡_, refl, sym, ap, ap₂, _∙_, subst}
-use mathlib.Core.Bool.{Bool, true, false, not, false≢true}
-use mathlib.Core.List.{List, [], _∷_, _++_}
-use Prim.Native.Nat.{ℕ, zero, suc, _+_, _-_, _<_, _≤_, min}
+use mathlib.Core.Bool.{Bool, true, false, not}
+use mathlib.Core.List.{List, [], _++_}
+use Prim.Native.Nat.{ℕ, zero, suc, _+_, _-_, _≤_}
 use native.Mathlib.Omega.{arith}
 use lib.ListN.{length, take, drop}
 use lib.Seq.{take-all}
-use borrow.Author.Tests.{eq-eqb, ne-eqb, le-leb}
+use borrow.Author.Tests.{ne-eqb, le-leb}
 use Rattle.slices.specs.Choice.{pick}
 use Rattle.slices.specs.Tests.{between}
 use Rattle.slices.specs.Writing.{laid, put, zeros}
@@ -17,7 +17,7 @@ use Rattle.slices.proofs.Writing.{laid-fits, put-start, zeros-length}
 use Rattle.t1_block.specs.Blocks.{infOf}
 use Rattle.t1_state.specs.Limits.{messageMost, room, moreOf}
 use Rattle.t1_state.specs.declared.Phase.{Phase}
-use Rattle.t1_state.specs.declared.Phase.the-variants.{Due, Sent}
+use Rattle.t1_state.specs.declared.Phase.the-variants.{Due}
 use Rattle.t1_state.specs.declared.Sizes.{Sizes}
 use Rattle.t1_state.specs.declared.State.{State}
 use Rattle.t1_state.specs.declared.Act.{Act}
@@ -25,10 +25,10 @@ use Rattle.t1_state.specs.declared.Act.the-variants.{Nothing, Keep, Whole}
 use Rattle.t1_state.specs.declared.Turn.{Turn}
 use Rattle.t1_again.specs.Again.{goesOut, readyFor}
 use Rattle.t1_line.specs.Line.{sendsPiece, sendsNext, takesFields, keeps}
-use Rattle.t1_turns.specs.Turns.{onBlock, messageOf, sendsMessage, sendIn, onSend}
+use Rattle.t1_turns.specs.Turns.{messageOf, sendsMessage, sendIn, onSend}
 use Rattle.t1.specs.Steps.{blockOf, keptBy}
 use Rattle.t1_laws.specs.Joined.{Pair, isWhole, answered, round, rounds}
-use Rattle.t1_laws.proofs.Rounds.{Going, taken, field-kept, returned, goes-on, ends, n-low, n-inside, next-is, not-not}
+use Rattle.t1_laws.proofs.Rounds.{Going, taken, field-kept, returned, goes-on, ends, n-low, next-is, not-not}
 
 -- two ends after a message went from s to r: it is whole and the same, and both are ready for the next one the other way
 pub record Delivered (m : List ℕ) (s r : State) (p : Pair) : Type 0 where

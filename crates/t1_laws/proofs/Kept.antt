@@ -27,10 +27,9 @@ use Rattle.t1_state.specs.declared.Turn.{Turn}
 use Rattle.t1_again.specs.Again.{readyFor, exhausted, sameAgain, informationAgain, wrongAfter, wrong, forRole}
 use Rattle.t1_line.specs.Line.{answers, onRequest, sendsPiece, sendsNext, equal, onReady, keeps, onInformation, onKind, onLine}
 use Rattle.t1_asking.specs.Asking.{settled, askedInstead, onResponse, askedKind, onAsking}
-use Rattle.t1_turns.specs.Turns.{byPhase, onBlock, silentIn, onSilence, asksFor, helloIn}
-use Rattle.t1_turns.specs.Turns.{onHello, cardAsks, askIn, onAsk, sendsMessage, sendIn, onSend}
-use Rattle.t1.specs.Steps.{Event, block, silence, hello, ask, send, turnOf}
-use Rattle.t1_laws.specs.Keeping.{isKept, carriesIn, carries}
+use Rattle.t1_turns.specs.Turns.{byPhase, onBlock}
+use Rattle.t1.specs.Steps.{block}
+use Rattle.t1_laws.specs.Keeping.{isKept, carries}
 
 -- a turn that keeps nothing, and expects what was expected
 record Quiet (s : State) (t : Turn) : Type 0 where

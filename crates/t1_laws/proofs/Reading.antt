@@ -1,27 +1,25 @@
 -- A block that was written reads back: its field, its kind, and no fault but what its kind and the length of its field give.
 -- Assumes nothing.
-use mathlib.Core.Path.{_≡_, refl, sym, ap, ap₂, _∙_}
+use mathlib.Core.Path.{_≡_, refl, sym, ap, _∙_}
 use mathlib.Core.Bool.{Bool, true, false}
-use mathlib.Core.List.{List, [], _∷_, _++_}
-use Prim.Native.Nat.{ℕ, _+_, _≤_, _<_}
+use mathlib.Core.List.{List, []}
+use Prim.Native.Nat.{ℕ, _+_, _≤_}
 use native.Mathlib.Omega.{arith}
 use lib.Dec.{eqb}
-use lib.ListN.{length, getD, take, drop, length-append}
+use lib.ListN.{length, getD, take}
 use lib.Seq.{take-at, getD-at, take-append-seam}
 use borrow.Author.Tests.{eq-eqb, ne-eqb, le-ltb}
 use Rattle.slices.specs.Choice.{pick}
 use Rattle.slices.specs.Tables.{beside}
 use Rattle.slices.proofs.Choice.{pick-yes, pick-no}
-use Rattle.t1_block.specs.Blocks.{pcbOf, lenOf, infOf, lrcOf, infMost, kindOf, pcbOfI, pcbOfR, pcbOfS, bodyOf, framed, written}
+use Rattle.t1_block.specs.Blocks.{lenOf, infOf, lrcOf, infMost, kindOf, pcbOfI, pcbOfR, pcbOfS, bodyOf, framed}
 use Rattle.t1_block.specs.Faults.{fieldFault, frameFault, faultOf, codeOf, heardOf}
-use Rattle.t1_block.proofs.Framing.{framed-length, not-too-long}
+use Rattle.t1_block.proofs.Framing.{framed-length}
 use Rattle.t1_block.specs.declared.What.{What}
 use Rattle.t1_block.specs.declared.What.the-variants.{Resynch, Ifs, Abort, Wtx}
 use Rattle.t1_block.specs.declared.Kind.{Kind}
 use Rattle.t1_block.specs.declared.Kind.the-variants.{Information, Ready, Request, Response}
-use Rattle.t1_block.specs.declared.Fault.{Fault}
 use Rattle.t1_block.specs.declared.Fault.the-variants.{Sound}
-use Rattle.t1_block.specs.declared.Heard.{Heard}
 use Rattle.t1_block.specs.declared.Heard.the-variants.{Valid}
 
 module _ (pcb : ℕ) (inf : List ℕ) where

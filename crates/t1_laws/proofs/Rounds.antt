@@ -1,29 +1,27 @@
 -- One round of two joined ends: the receiver keeps the piece that is out, and the sender brings out the next. Assumes nothing.
 use mathlib.Core.Path.{_≡_, refl, sym, ap, ap₂, _∙_}
 use mathlib.Core.Bool.{Bool, true, false, not}
-use mathlib.Core.List.{List, [], _∷_, _++_}
-use Prim.Native.Nat.{ℕ, zero, suc, _+_, _-_, _<_, _≤_, min}
+use mathlib.Core.List.{List, [], _++_}
+use Prim.Native.Nat.{ℕ, _+_, _-_, _<_, _≤_, min}
 use native.Mathlib.Omega.{arith}
 use lib.Dec.{eqb, leb, ltb}
-use lib.ListN.{length, getD, take, drop, length-append, length-take, length-drop}
-use lib.Seq.{length-take-le, take-append-le, drop-append-le, take-add}
-use borrow.Author.Tests.{eq-eqb, ne-eqb, le-leb, le-ltb, lt-ltb, ltb-true, ltb-false, leb-true}
+use lib.ListN.{length, getD, take, drop}
+use lib.Seq.{take-add}
+use borrow.Author.Tests.{eq-eqb, ne-eqb, le-leb, le-ltb, ltb-true, ltb-false}
 use Rattle.slices.specs.Choice.{pick}
-use Rattle.slices.proofs.Choice.{pick-yes, pick-no, picked, either}
-use Rattle.t1_block.specs.Blocks.{lenOf, infOf, infMost, pcbOfI, pcbOfR, framed, written}
+use Rattle.slices.proofs.Choice.{pick-yes, pick-no}
+use Rattle.t1_block.specs.Blocks.{lenOf, infOf, pcbOfI, pcbOfR, framed}
 use Rattle.t1_block.specs.Faults.{fieldFault, heardOf}
 use Rattle.t1_block.proofs.Framing.{not-too-long}
 use Rattle.t1_block.specs.declared.Heard.{Heard}
 use Rattle.t1_block.specs.declared.Heard.the-variants.{Valid}
 use Rattle.t1_block.specs.declared.Kind.the-variants.{Information as I, Ready as R}
-use Rattle.t1_block.specs.declared.Fault.the-variants.{Sound}
-use Rattle.t1_state.specs.Limits.{messageMost, room, pieceAt, moreOf}
+use Rattle.t1_state.specs.Limits.{messageMost, room, moreOf}
 use Rattle.t1_state.specs.declared.Phase.{Phase}
 use Rattle.t1_state.specs.declared.Phase.the-variants.{Start, Asking, Due, Sent, Receiving, Over}
 use Rattle.t1_state.specs.declared.Last.{Last}
-use Rattle.t1_state.specs.declared.Last.the-variants.{Information, Ready}
+use Rattle.t1_state.specs.declared.Last.the-variants.{Information}
 use Rattle.t1_state.specs.declared.State.{State}
-use Rattle.t1_state.specs.declared.Turn.{Turn}
 use Rattle.t1_again.specs.Again.{goesOut, readyFor}
 use Rattle.t1_line.specs.Line.{equal, sendsPiece, sendsNext, takesFields, isSent, onReady, keeps, onInformation, onKind, onLine}
 use Rattle.t1_turns.specs.Turns.{byPhase, onBlock}

@@ -1,15 +1,14 @@
 -- Turns that move nothing but counts, the block that is out, and the end: what follows a block that is not taken. Assumes nothing.
-use mathlib.Core.Path.{_≡_, refl, sym, ap, _∙_}
-use mathlib.Core.Bool.{Bool, true, false, false≢true}
+use mathlib.Core.Path.{_≡_, refl, ap, _∙_}
+use mathlib.Core.Bool.{Bool, true, false}
 use mathlib.Core.List.{List, []}
-use Prim.Native.Nat.{ℕ, _+_, _*_, _/_, _%_, _<_}
+use Prim.Native.Nat.{ℕ, _+_, _/_, _%_}
 use native.Mathlib.Omega.{arith}
 use lib.Dec.{eqb}
 use borrow.Author.Tests.{eq-eqb, ne-eqb}
 use Rattle.slices.specs.Choice.{pick}
 use Rattle.slices.proofs.Choice.{pick-yes, pick-no, picked}
 use Rattle.t1_block.specs.Blocks.{kindOf, pcbOfR}
-use Rattle.t1_block.specs.declared.Kind.{Kind}
 use Rattle.t1_block.specs.declared.Kind.the-variants.{Ready as R}
 use Rattle.t1_state.specs.declared.Phase.{Phase}
 use Rattle.t1_state.specs.declared.Phase.the-variants.{Over}

@@ -1,13 +1,12 @@
 -- No block goes out a fourth time, whatever happens: each sending is counted, and none goes out where the count is at its limit.
 -- Assumes nothing.
-use mathlib.Core.Path.{_≡_, refl, sym, ap, subst, _∙_}
-use mathlib.Core.Bool.{Bool, true, false, false≢true}
+use mathlib.Core.Path.{_≡_, refl, sym, subst}
+use mathlib.Core.Bool.{Bool, true}
 use mathlib.Core.List.{List, [], _∷_}
-use mathlib.Core.Logic.{⊎-elim}
-use Prim.Native.Nat.{ℕ, zero, suc, _+_, _-_, _<_, _≤_}
+use Prim.Native.Nat.{ℕ, _-_, _≤_}
 use native.Mathlib.Omega.{arith}
-use lib.ListN.{length, getD}
-use borrow.Author.Tests.{ltb-true, ltb-false}
+use lib.ListN.{getD}
+use borrow.Author.Tests.{ltb-true}
 use Rattle.slices.proofs.Choice.{picked}
 use Rattle.t1_block.specs.Blocks.{lenOf}
 use Rattle.t1_block.specs.Faults.{heardOf}

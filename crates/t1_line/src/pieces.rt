@@ -15,7 +15,7 @@ use t1_state::change::with_numbers;
 use t1_state::limits::more_of;
 use t1_state::limits::piece_at;
 ghost use mathlib.Core.Path.{_≡_};
-ghost use mathlib.Core.Bool.{true, false, not};
+ghost use mathlib.Core.Bool.{true, false};
 ghost use Prim.Native.Nat.{_+_};
 ghost use Rattle.t1_state.specs.Limits.{moreOf};
 ghost use Rattle.t1_line.specs.Line.{isSent, equal, sendsPiece, sendsNext, onReady};

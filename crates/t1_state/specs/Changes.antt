@@ -4,8 +4,6 @@ use mathlib.Core.Bool.{Bool}
 use Prim.Native.Nat.{ℕ}
 use Rattle.t1_state.specs.declared.Phase.{Phase}
 use Rattle.t1_state.specs.declared.Last.{Last}
-use Rattle.t1_state.specs.declared.Numbers.{Numbers}
-use Rattle.t1_state.specs.declared.Sizes.{Sizes}
 use Rattle.t1_state.specs.declared.Counts.{Counts}
 use Rattle.t1_state.specs.declared.Message.{Message}
 use Rattle.t1_state.specs.declared.State.{State}

@@ -3,7 +3,6 @@
 use mathlib.Core.Bool.{Bool, true, false}
 use mathlib.Core.List.{List}
 use Prim.Native.Nat.{ℕ}
-use lib.Dec.{eqb, leb}
 use lib.ListN.{length, getD}
 use Rattle.slices.specs.Choice.{pick}
 use Rattle.slices.specs.Tests.{between}
@@ -15,7 +14,6 @@ use Rattle.t1_block.specs.declared.What.the-variants.{Resynch, Ifs, Abort, Wtx}
 use Rattle.t1_block.specs.declared.Heard.{Heard}
 use Rattle.t1_state.specs.Limits.{messageMost, pieceAt}
 use Rattle.t1_state.specs.Changes.{atPhase, sending}
-use Rattle.t1_state.specs.declared.Role.{Role}
 use Rattle.t1_state.specs.declared.Phase.{Phase}
 use Rattle.t1_state.specs.declared.Phase.the-variants.{Start, Asking, Due, Sent, Receiving, Over}
 use Rattle.t1_state.specs.declared.Last.the-variants.{Request}

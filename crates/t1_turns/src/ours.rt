@@ -17,7 +17,6 @@ use t1_state::change::at_phase;
 use t1_state::change::sends;
 use t1_state::limits::piece_at;
 ghost use mathlib.Core.Path.{_≡_};
-ghost use Prim.Native.Nat.{_≤_};
 ghost use lib.ListN.{length};
 ghost use Rattle.t1_turns.specs.Turns.{asksFor, onHello, mayAsk, cardAsks, askIn, onAsk, messageOf, sendsMessage, onSend};
 

@@ -1,7 +1,7 @@
 -- Two parts side by side. The check is linear: after two parts the register is what the second leaves from nothing, joined with what the
 -- first left, past as many zeros as the second has bytes. Such zeros only shift, so they are passed bit by bit: a bit of the register
 -- leaves what the one above it leaves, shifted once more. Assumes nothing.
-use mathlib.Core.Path.{_≡_, sym, ap, ap₂, subst, _∙_}
+use mathlib.Core.Path.{_≡_, sym, ap, subst, _∙_}
 use mathlib.Core.Bool.{true}
 use mathlib.Core.List.{List, _++_, append-assoc}
 use Prim.Native.Nat.{ℕ, zero, suc, _+_, _*_, _-_, _/_, _%_, _^_, _≤_, _<_}

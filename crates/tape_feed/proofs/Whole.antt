@@ -2,18 +2,18 @@
 -- one the entries are those of the rest of the tape.
 -- Assumes nothing.
 use mathlib.Core.Path.{_≡_, refl, sym, ap, _∙_, subst}
-use mathlib.Core.Bool.{Bool, true, false}
+use mathlib.Core.Bool.{true, false}
 use mathlib.Core.List.{List, [], _∷_}
-use Prim.Native.Nat.{ℕ, zero, suc, _+_, _*_, _/_, _%_, _≤_, _<_}
+use Prim.Native.Nat.{ℕ, zero, suc, _+_, _/_, _%_, _≤_, _<_}
 use native.Mathlib.Omega.{arith}
 use lib.Dec.{eqb, ltb}
 use lib.ListN.{length, take, drop, length-take, length-drop}
 use borrow.Author.Tests.{lt-ltb, le-ltb, eq-eqb, ne-eqb, eqb-true, eqb-false, ltb-true, ltb-false}
 use Rattle.slices.specs.Choice.{pick}
-use Rattle.slices.proofs.Choice.{pick-yes, pick-no, picked, either}
+use Rattle.slices.proofs.Choice.{pick-yes, pick-no, either}
 use Rattle.tape_read.specs.Entries.{Entry, blockSize, blocksMost, tapeMost}
-use Rattle.tape_read.specs.Blocks.{sessionIn, codeOf, entryIn}
-use Rattle.tape_read.specs.Tapes.{Reading, entries, unreadable, preceded, blockAt, cut, readFrom, sessionOf, readTape}
+use Rattle.tape_read.specs.Blocks.{codeOf, entryIn}
+use Rattle.tape_read.specs.Tapes.{entries, unreadable, preceded, blockAt, cut, readFrom, sessionOf, readTape}
 use Rattle.tape_read.proofs.Steps.{read-end, read-bad, read-good, tape-long, tape-ragged, tape-blocks}
 use Rattle.tape_feed.specs.declared.Reader.{Reader}
 use Rattle.tape_feed.specs.declared.Taken.{Taken}

@@ -1,16 +1,16 @@
 -- Where the parts of a whole object lie: at least two bytes of head, then the value, within the bytes. No object begins with '00'.
 -- Assumes nothing.
-use mathlib.Core.Path.{_≡_, refl, sym, ap, _∙_, subst}
-use mathlib.Core.Bool.{Bool, true, false, not, _&&_}
+use mathlib.Core.Path.{_≡_}
+use mathlib.Core.Bool.{true, false, not}
 use mathlib.Core.List.{List}
-use Prim.Native.Nat.{ℕ, _+_, _≤_, _<_}
-use native.Mathlib.Nat.{le-refl, le-add-right}
+use Prim.Native.Nat.{ℕ, _≤_}
+use native.Mathlib.Nat.{le-add-right}
 use native.Mathlib.Omega.{arith}
 use lib.Dec.{leb, eqb}
 use lib.ListN.{length, getD}
 use borrow.Author.Tests.{leb-true, eqb-false, eq-eqb, not-true}
 use Rattle.slices.proofs.Choice.{pick-yes, picked, and-left, and-right}
-use Rattle.tlv_head.specs.Head.{twoBytes, tagSize, tagRight, lengthSize, lengthOf, valueStart, valueEnd, whole}
+use Rattle.tlv_head.specs.Head.{twoBytes, tagSize, tagRight, lengthSize, valueStart, valueEnd, whole}
 
 pub record Within (start end size : ℕ) : Type 0 where
   pub head : 2 ≤ start

@@ -5,15 +5,15 @@ use mathlib.Core.Path.{_≡_, refl, sym, ap, ap₂, _∙_}
 use mathlib.Core.Bool.{Bool, true, false, not, _&&_}
 use mathlib.Core.List.{List, [], _∷_, _++_}
 use mathlib.Core.Option.{Option, none, some}
-use Prim.Native.Nat.{ℕ, _+_, _*_, _-_, _≤_, _<_}
-use native.Mathlib.Nat.{le-trans, le-refl, not-suc-le-zero}
+use Prim.Native.Nat.{ℕ, _+_, _*_, _-_, _<_}
+use native.Mathlib.Nat.{le-refl}
 use native.Mathlib.Omega.{arith}
 use lib.Dec.{ltb, leb, eqb}
 use lib.ListN.{length, getD, take, drop, length-append, length-drop, List·getD-append}
 use lib.Seq.{take-append-le, drop-append-le}
-use borrow.Author.Tests.{le-leb, leb-true, eqb-false, eqb-true, not-true}
+use borrow.Author.Tests.{le-leb, eqb-false, eqb-true, not-true}
 use Rattle.slices.specs.Choice.{pick}
-use Rattle.slices.proofs.Choice.{pick-yes, pick-no, pick-cong, picked, either, and-left, and-right}
+use Rattle.slices.proofs.Choice.{pick-yes, pick-no, pick-cong, either, and-left, and-right}
 use Rattle.slices.proofs.Shorter.{by-length}
 use Rattle.tlv_head.specs.Head.{twoBytes, tagSize, tagOf, tagRight, lengthByte, lengthForm}
 use Rattle.tlv_head.specs.Head.{lengthSize, lengthOf, valueStart, valueEnd, whole}

@@ -1,7 +1,7 @@
 -- The list of objects, one step at a time. `listed` asks only of shorter lists, so `objects` is what it describes; each
 -- case of that step is a law of its own.
 -- Assumes nothing.
-use mathlib.Core.Path.{_≡_, refl, sym, ap, ap₂, _∙_}
+use mathlib.Core.Path.{_≡_, refl, ap, _∙_}
 use mathlib.Core.Bool.{Bool, true, false, _&&_}
 use mathlib.Core.List.{List, [], _∷_}
 use mathlib.Core.Option.{Option, none, some}
@@ -12,7 +12,7 @@ use lib.ListN.{length, getD, take, drop, length-take, length-drop}
 use borrow.Author.Tests.{eqb-false, ne-eqb}
 use Rattle.slices.specs.Choice.{pick}
 use Rattle.slices.specs.Shorter.{Asks}
-use Rattle.slices.proofs.Choice.{pick-yes, pick-no, pick-cong, and-left, and-cong, and-both}
+use Rattle.slices.proofs.Choice.{pick-yes, pick-no, pick-cong, and-left, and-cong}
 use Rattle.slices.proofs.Shorter.{equation}
 use Rattle.tlv_head.specs.Head.{constructed, tagOf, valueStart, valueEnd, whole}
 use Rattle.slices.specs.Tests.{isSome}

@@ -1,27 +1,26 @@
 -- The reader by place and the members of a list: from any place the objects are the one that the reader finds there, and
 -- then those from where it goes on. '00' bytes that it passes over mean nothing to the list either.
 -- Assumes nothing.
-use mathlib.Core.Path.{_≡_, refl, sym, ap, _∙_}
-use mathlib.Core.Bool.{Bool, true, false}
+use mathlib.Core.Path.{_≡_, refl, ap, _∙_}
+use mathlib.Core.Bool.{true, false}
 use mathlib.Core.List.{List, [], _∷_}
 use mathlib.Core.Option.{Option, none, some}
 use Prim.Native.Nat.{ℕ, zero, suc, _+_, _-_, _≤_, _<_}
 use native.Mathlib.Nat.{not-suc-le-zero, le-add-right}
 use native.Mathlib.Omega.{arith}
 use lib.Dec.{eqb, leb}
-use lib.ListN.{length, getD, take, drop, length-drop, drop-of-length-le}
+use lib.ListN.{length, getD, drop, length-drop, drop-of-length-le}
 use lib.Seq.{drop-drop}
 use borrow.Author.Tests.{eqb-true, leb-true, leb-false, le-leb}
 use Rattle.slices.specs.Choice.{pick}
-use Rattle.slices.proofs.Choice.{pick-yes, pick-no, picked}
+use Rattle.slices.proofs.Choice.{pick-yes, picked}
 use Rattle.tlv_head.specs.Head.{tagOf, valueStart, valueEnd, whole}
-use Rattle.slices.specs.Tests.{isSome}
-use Rattle.tlv_list.specs.Objects.{Object, between, firstObject, before, rightInside, objects, isList}
+use Rattle.tlv_list.specs.Objects.{Object, between, firstObject, before, rightInside, objects}
 use Rattle.tlv_list.specs.Place.{fillers, nextAt}
 use Rattle.tlv_head.specs.Member.{memberAt}
 use Rattle.tlv_head.specs.declared.Next.{Next}
 use Rattle.tlv_head.specs.declared.Next.the-variants.{Member, End, Broken}
-use Rattle.tlv_head.proofs.Parts.{Within, whole-within}
+use Rattle.tlv_head.proofs.Parts.{whole-within}
 use Rattle.tlv_list.proofs.Objects.{objects-empty, objects-filler, objects-member, objects-broken}
 
 -- '00' bytes at the front change nothing

@@ -1,11 +1,10 @@
 -- The walk by place finds exactly the members of a list, in order, and a look-up by place finds what a look-up among the
 -- members finds. Each step of the walk goes ahead, so as many steps as there are bytes reach the end.
 -- Assumes nothing.
-use mathlib.Core.Path.{_≡_, refl, sym, ap, ap₂, _∙_}
-use mathlib.Core.Bool.{Bool, true, false}
+use mathlib.Core.Path.{_≡_, refl, sym, ap, _∙_}
 use mathlib.Core.List.{List, [], _∷_, map}
 use mathlib.Core.Option.{Option, none, some}
-use Prim.Native.Nat.{ℕ, zero, suc, _+_, _-_, _≤_, _<_}
+use Prim.Native.Nat.{ℕ, zero, suc, _+_, _-_, _≤_}
 use native.Mathlib.Omega.{arith}
 use lib.Dec.{eqb}
 use lib.ListN.{length, drop, drop-of-length-le}
@@ -18,7 +17,6 @@ use Rattle.tlv_list.specs.Lookup.{firstFrom, unless, alone, findInChecke
 use Rattle.tlv_head.specs.declared.Next.{Next}
 use Rattle.tlv_head.specs.declared.Next.the-variants.{Member, End, Broken}
 use Rattle.tlv_list.specs.declared.Found.{Found}
-use Rattle.tlv_list.specs.declared.Found.the-variants.{Absent, Once, Twice}
 use Rattle.tlv_list.proofs.Objects.{objects-empty}
 use Rattle.tlv_list.proofs.Reading.{following, objects-next, next-end, next-ahead}
 

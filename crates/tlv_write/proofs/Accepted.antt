@@ -4,7 +4,7 @@
 use mathlib.Core.Path.{_≡_, sym, ap, ap₂, _∙_}
 use mathlib.Core.List.{List, [], _∷_}
 use mathlib.Core.Option.{some}
-use Prim.Native.Nat.{ℕ, _≤_, _<_}
+use Prim.Native.Nat.{ℕ}
 use native.Mathlib.Omega.{arith}
 use lib.ListN.{length, take, drop}
 use lib.Seq.{take-append-seam}
@@ -13,7 +13,7 @@ use Rattle.tlv_list.specs.Objects.{Object, objects}
 use Rattle.tlv_write.specs.Written.{written, writeRefusal, refusalOf, sizeOf}
 use Rattle.tlv_write.specs.Writes.{Writes}
 use Rattle.tlv_write.specs.declared.Wrote.{Wrote}
-use Rattle.tlv_write.proofs.Refusals.{Accepted, not-refused, accepted-size, accepted-buffer, written-length}
+use Rattle.tlv_write.proofs.Refusals.{not-refused, accepted-size, accepted-buffer, written-length}
 use Rattle.tlv_write.proofs.ReadBack.{Writable, written-back}
 
 abbrev object : ℕ → List ℕ → Object

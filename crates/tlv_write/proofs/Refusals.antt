@@ -1,7 +1,7 @@
 -- The writer's refusals, a line of the list at a time, and what an accepted object is known to be.
 -- Assumes nothing.
 use mathlib.Core.Path.{_≡_, refl, sym, ap, _∙_}
-use mathlib.Core.Bool.{Bool, true, false, not}
+use mathlib.Core.Bool.{true, false, not}
 use mathlib.Core.List.{List, _++_}
 use Prim.Native.Nat.{ℕ, _+_, _≤_, _<_}
 use native.Mathlib.Nat.{add-assoc, zero-add}
@@ -13,7 +13,6 @@ use Rattle.slices.specs.Choice.{pick, firstOf}
 use Rattle.slices.specs.Writing.{put, laid}
 use Rattle.slices.proofs.Writing.{put-length, put-step, laid-fits}
 use Rattle.slices.proofs.Choice.{pick-yes, pick-no, pick-same, picked, either, and-left}
-use Rattle.tlv_head.specs.Head.{twoBytes}
 use Rattle.tlv_write.specs.Written.{isTag, tagBytes, lengthBytes, written, fitsTag}
 use Rattle.tlv_write.specs.Written.{writeRefusal, sizeWritten, bufferAfter, refusalOf, sizeOf}
 use Rattle.tlv_write.specs.declared.Wrote.{Wrote}

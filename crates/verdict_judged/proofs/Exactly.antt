@@ -5,7 +5,6 @@ use mathlib.Core.Path.{_≡_, refl, sym, ap, subst}
 use mathlib.Core.List.{List}
 use Prim.Native.Nat.{ℕ}
 use native.Mathlib.Omega.{arith}
-use lib.ListN.{length}
 use Rattle.tape_read.specs.Entries.{Entry}
 use Rattle.tape_read.specs.Tapes.{entries, unreadable, readTape}
 use Rattle.rulebook.specs.Session.{Session, Open, BreaksAt}

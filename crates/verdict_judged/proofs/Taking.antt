@@ -4,25 +4,22 @@
 use mathlib.Core.Path.{_≡_, refl, ap, ap₂, _∙_}
 use mathlib.Core.Bool.{Bool, true, false, _&&_}
 use mathlib.Core.List.{List, [], _∷_}
-use mathlib.Core.Option.{Option, none, some}
+use mathlib.Core.Option.{none, some}
 use Prim.Native.Nat.{ℕ, _+_}
 use native.Mathlib.Omega.{arith}
 use lib.Dec.{eqb}
 use borrow.Author.Tests.{ne-eqb}
 use Rattle.slices.specs.Choice.{pick}
 use Rattle.slices.proofs.Choice.{pick-yes, pick-no, either, and-both}
-use Rattle.start_valid.specs.Start.{validStart}
-use Rattle.decide_requests.specs.Replies.{replyOf, isReply}
-use Rattle.tape_read.specs.Entries.{Entry, entry, start, command, answer, silence, host, decision}
+use Rattle.tape_read.specs.Entries.{Entry, entry, command, answer, silence, decision}
 use Rattle.rulebook.specs.Situation.{Situation}
-use Rattle.rulebook.specs.Phase.{Asked, Heard, terminal, opens, asks, hears, decides, commandOf, dueKind, decisionOf}
-use Rattle.rulebook.specs.Turn.{opened, turn, allowed, heard, after}
+use Rattle.rulebook.specs.Phase.{Asked, Heard, asks, hears, decides, commandOf, dueKind, decisionOf}
+use Rattle.rulebook.specs.Turn.{turn, allowed, heard, after}
 use Rattle.rulebook.specs.Session.{isPayload}
 use Rattle.slices.specs.Tests.{alike}
 use Rattle.slices.proofs.Comparing.{alike-same}
 use Rattle.rulebook.specs.Machine.{Machine, at, owes, done, due, sayable, next}
 use Rattle.rulebook.proofs.Running.{takes-command, takes-answer, takes-heard, takes-decision}
-use Rattle.rulebook.proofs.Named.{takes-reply}
 use Rattle.rulebook.proofs.Reading.{other-kind}
 use Rattle.verdict_judged.specs.Progress.{reached, closed, broken, empty, closes, onward, reads}
 

@@ -2,13 +2,12 @@
 -- no other.
 -- Assumes nothing.
 use mathlib.Core.Path.{_≡_, refl, sym, ap, _∙_, subst}
-use mathlib.Core.Bool.{true, false}
 use mathlib.Core.List.{List, [], _∷_, _++_}
 use mathlib.Core.Option.{Option, none, some}
-use Prim.Native.Nat.{ℕ, _+_, _≤_, _<_}
+use Prim.Native.Nat.{ℕ, _+_}
 use native.Mathlib.Nat.{add-zero}
 use native.Mathlib.Omega.{arith}
-use lib.ListN.{length, take}
+use lib.ListN.{take}
 use lib.Seq.{take-append-le}
 use Rattle.slices.proofs.Choice.{picked}
 use Rattle.tape_read.specs.Entries.{Entry}
@@ -17,7 +16,6 @@ use Rattle.rulebook.specs.Phase.{opens}
 use Rattle.rulebook.specs.Session.{BreaksAt}
 use Rattle.rulebook.specs.Machine.{Machine, at, next}
 use Rattle.rulebook.proofs.Breaks.{break-within, break-stays}
-use Rattle.rulebook_zeros.specs.Zeros.{Zeros}
 use Rattle.rulebook_zeros.specs.Summing.{newIn, countOn, zerosFrom, zerosOf}
 use Rattle.rulebook_zeros.proofs.Summing.{zeros-on, after-closed, break-zeros, zeros-found, zeros-is}
 use Rattle.verdict_judged.specs.Zeroed.{Zeroed, readable, damaged}

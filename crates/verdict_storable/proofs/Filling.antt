@@ -2,7 +2,7 @@
 -- zeros or 'FF'.
 -- Assumes nothing.
 use mathlib.Core.Path.{_≡_, refl}
-use mathlib.Core.Bool.{Bool, true, _&&_}
+use mathlib.Core.Bool.{true}
 use mathlib.Core.List.{List, [], _∷_}
 use mathlib.Core.Option.{Option, none, some, Option·getD}
 use Prim.Native.Nat.{ℕ, zero, suc, _-_}
@@ -11,8 +11,8 @@ use lib.Dec.{eqb}
 use lib.ListN.{length, take, drop, replicate}
 use lib.Pow.{areBytes}
 use Rattle.slices.specs.Choice.{unlessEmpty}
-use Rattle.slices.specs.Writing.{put, zeros}
-use Rattle.slices.proofs.Choice.{picked, and-left, and-right, and-both}
+use Rattle.slices.specs.Writing.{zeros}
+use Rattle.slices.proofs.Choice.{picked}
 use Rattle.tape_crc.proofs.Bytes.{bytes-cons, bytes-append, bytes-take, bytes-drop}
 use Rattle.start_fields.specs.Reading.{Terminal, bytesOf}
 use Rattle.start_fields.specs.declared.fields.Field.{Field}

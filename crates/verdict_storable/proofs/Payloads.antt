@@ -2,16 +2,13 @@
 -- Assumes nothing.
 use mathlib.Core.Path.{_≡_, refl}
 use mathlib.Core.Bool.{true}
-use mathlib.Core.List.{List, [], _∷_, _++_}
+use mathlib.Core.List.{List, _∷_, _++_}
 use mathlib.Core.Option.{Option, none, some}
 use Prim.Native.Nat.{ℕ, _≤_, _<_}
 use native.Mathlib.Omega.{arith}
-use lib.Dec.{leb}
 use lib.ListN.{length, length-append}
 use lib.Pow.{areBytes}
-use Rattle.slices.proofs.Choice.{and-both}
 use Rattle.tape_crc.proofs.Bytes.{bytes-cons, bytes-append}
-use Rattle.tape_read.specs.Entries.{payloadMost}
 use Rattle.dol_wanted.specs.Wanted.{most}
 use Rattle.dol_fill.specs.Filled.{filling}
 use Rattle.commands.specs.Commands.{longest}

@@ -43,7 +43,6 @@ use Rattle.decide_verification.specs.Verification.{resultsDue}
 use Rattle.decide_verification.proofs.Laws.{results-length, results-bytes, performed-length, performed-bytes}
 use Rattle.rulebook.specs.Situation.{Situation, begun, listIn}
 use Rattle.rulebook.specs.Phase.{Asked, selecting, optioning, reading, first, second, Heard, terminal}
-use Rattle.words.specs.declared.Word.{Word}
 use Rattle.words.specs.declared.Word.the-variants.{Host, Results}
 use Rattle.rulebook.specs.Phase.{says, Phase, asks, hears, decides, decided, ended, terminated}
 use Rattle.rulebook.specs.Turn.{goesOn, opened, selected, managed, requested, verifying, allRead, readOn, withProfile}

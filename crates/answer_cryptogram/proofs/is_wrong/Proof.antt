@@ -7,7 +7,7 @@ use Prim.Native.Nat.{ℕ}
 use lib.ListN.{length}
 use borrow.Author.Needs.{needs}
 use Rattle.slices.specs.Tests.{between}
-use Rattle.answer_common.specs.Answer.{isOne, inside}
+use Rattle.answer_common.specs.Answer.{inside}
 use Rattle.answer_common.specs.Named.{direct, anyWrong}
 use Rattle.answer_cryptogram.specs.Cryptogram.{cryptogramNames, cryptogramWrong}
 use Rattle.answer_common.proofs.Limits.{below-out, above-out}

@@ -1,6 +1,6 @@
 -- `answer_gpo::locator` meets its contract: the joined bytes after the first two, or the value of 94.
 -- Assumes nothing.
-use mathlib.Core.Path.{_≡_, sym, ap, _∙_}
+use mathlib.Core.Path.{sym, ap, _∙_}
 use Prim.Native.Nat.{ℕ}
 use native.Mathlib.Omega.{arith}
 use lib.ListN.{length, drop}

@@ -3,7 +3,7 @@
 use mathlib.Core.Path.{_∙_}
 use borrow.Author.Needs.{needs}
 use Rattle.answer_common.specs.Forms.{bothForms}
-use Rattle.answer_gpo.specs.Options.{optionsLines, optionsReason}
+use Rattle.answer_gpo.specs.Options.{optionsReason}
 use Rattle.answer_common.proofs.Lines.{frame-decides, frame-clear}
 use Rattle.answer_gpo.proofs.options_reason.Statement.{statement}
 use Rattle.answer_gpo.proofs.options_reason.Tie as tie

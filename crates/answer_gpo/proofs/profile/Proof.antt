@@ -1,6 +1,6 @@
 -- `answer_gpo::profile` meets its contract: the first two of the joined bytes, or the value of 82.
 -- Assumes nothing.
-use mathlib.Core.Path.{_≡_, sym, ap, _∙_}
+use mathlib.Core.Path.{sym, ap, _∙_}
 use Prim.Native.Nat.{ℕ}
 use lib.ListN.{take}
 use borrow.Author.Needs.{needs}

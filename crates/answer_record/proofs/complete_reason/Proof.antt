@@ -1,6 +1,6 @@
 -- `answer_record::complete_reason` meets its contract: the two lines, one after the other.
 -- Assumes nothing.
-use mathlib.Core.Path.{_≡_, sym, ap, _∙_}
+use mathlib.Core.Path.{sym, ap, _∙_}
 use mathlib.Core.Bool.{not}
 use borrow.Author.Needs.{needs}
 use Rattle.answer_record.specs.Records.{incomplete, completeReason, afterRecords}

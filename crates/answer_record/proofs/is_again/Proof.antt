@@ -1,12 +1,10 @@
 -- `answer_record::is_again` meets its contract: the definition's two tests.
 -- Assumes nothing.
-use mathlib.Core.Path.{_≡_, sym, ap, _∙_}
+use mathlib.Core.Path.{sym, ap, _∙_}
 use mathlib.Core.Bool.{not}
 use Prim.Native.Nat.{ℕ}
 use lib.Dec.{eqb}
 use borrow.Author.Needs.{needs}
-use Rattle.slices.specs.Tests.{isSome}
-use Rattle.session_records.specs.Slots.{toldIn}
 use Rattle.slices.proofs.Tables.{and-yes, and-no}
 use Rattle.answer_record.specs.Records.{again}
 use Rattle.answer_record.proofs.is_again.Statement.{statement}

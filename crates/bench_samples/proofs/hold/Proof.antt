@@ -1,7 +1,6 @@
 -- `hold` is safe and ends: the blocks are counted down.
 -- Assumes nothing.
 use mathlib.Core.Path.{_≡_, refl}
-use native.Mathlib.Omega.{arith}
 use borrow.Author.Needs.{needs}
 use Rattle.bench_samples.proofs.hold.Statement.{statement}
 use Rattle.bench_samples.proofs.hold.Tie as tie

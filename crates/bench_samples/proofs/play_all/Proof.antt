@@ -1,7 +1,6 @@
 -- `play_all` is safe and ends: the lines are counted down.
 -- Assumes nothing.
 use mathlib.Core.Path.{_≡_}
-use native.Mathlib.Omega.{arith}
 use lib.ListN.{length}
 use borrow.Author.Needs.{needs}
 use Rattle.bench_samples.proofs.play_all.Statement.{statement}

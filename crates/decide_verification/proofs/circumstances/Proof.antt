@@ -1,8 +1,6 @@
 -- `circumstances` meets its contract: each field by its own function.
 -- Assumes nothing.
-use mathlib.Core.Path.{_≡_}
 use borrow.Author.Needs.{needs}
-use Rattle.cvm_rules.specs.declared.Circumstances.{Circumstances}
 use Rattle.decide_verification.specs.Verification.{circumstancesOf}
 use Rattle.decide_verification.proofs.circumstances.Statement.{statement}
 use Rattle.decide_verification.proofs.circumstances.Tie as tie

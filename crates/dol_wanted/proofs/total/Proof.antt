@@ -1,13 +1,13 @@
 -- `dol_wanted::total` meets its contract. The loop's invariant: the count so far, counted on over the rest, is the list's.
 -- Assumes nothing.
-use mathlib.Core.Path.{_≡_, refl, sym, ap, _∙_}
-use mathlib.Core.Bool.{true, false}
-use mathlib.Core.List.{List, []}
-use Prim.Native.Nat.{ℕ, _+_, _-_, _≤_, _<_}
-use lib.ListN.{length, take, drop, getD, length-take, length-drop}
+use mathlib.Core.Path.{_≡_, sym, ap, _∙_}
+use mathlib.Core.Bool.{true}
+use mathlib.Core.List.{List}
+use Prim.Native.Nat.{ℕ, _+_, _-_, _≤_}
+use lib.ListN.{length, take, drop, length-take, length-drop}
 use Rattle.tlv_head.specs.Head.{tagSize}
 use Rattle.slices.proofs.Cutting.{rest-part, none-left}
-use Rattle.dol_wanted.specs.Wanted.{sizeAt, asks, entriesOf, most, tally}
+use Rattle.dol_wanted.specs.Wanted.{asks, entriesOf, most, tally}
 use Rattle.dol_wanted.proofs.Entries.{countedOn, tally-counted, turn-counted, turn-malformed}
 use Rattle.dol_wanted.proofs.Entries.{counted-over, counted-end, entries-empty, entry-fits}
 use native.Mathlib.Omega.{arith}

@@ -1,16 +1,12 @@
 -- `judge` meets its contract: piece by piece it hands in the whole tape, and what that finds is right of it.
 -- Assumes nothing.
-use mathlib.Core.Path.{_≡_, refl, sym, ap, _∙_, subst}
-use mathlib.Core.Bool.{true}
-use mathlib.Core.List.{List}
-use Prim.Native.Nat.{ℕ, _+_, _-_, _/_, _≤_, _<_}
+use mathlib.Core.Path.{_≡_, sym, ap, _∙_, subst}
+use Prim.Native.Nat.{_+_, _-_, _/_, _≤_, _<_}
 use native.Mathlib.Omega.{arith}
 use lib.ListN.{length}
-use lib.Pow.{areBytes}
 use borrow.Author.Needs.{needs}
 use Rattle.tape_crc.proofs.Bytes.{bytes-each}
 use Rattle.tape_read.specs.Entries.{blockSize}
-use Rattle.tape_read.specs.Tapes.{blockAt}
 use Rattle.tape_feed.specs.Feeding.{piecesOf}
 use Rattle.verdict.specs.declared.Finding.{Finding}
 use Rattle.verdict_judged.specs.Judged.{Judged}

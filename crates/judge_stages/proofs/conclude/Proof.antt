@@ -1,6 +1,6 @@
 -- `judge_stages::conclude` meets its contract: each arm is the definition's at that stage.
 -- Assumes nothing.
-use mathlib.Core.Path.{_≡_, refl, sym, ap, _∙_}
+use mathlib.Core.Path.{sym, ap, _∙_}
 use borrow.Author.Needs.{needs}
 use Rattle.judge_stages.specs.declared.Stage.{Stage}
 use Rattle.judge_stages.specs.Stages.{saidAt}

@@ -1,6 +1,6 @@
 -- `has_room` meets its contract: the number of blocks is tested first, so that the sum of the bytes cannot wrap.
 -- Assumes nothing.
-use mathlib.Core.Path.{_≡_, sym}
+use mathlib.Core.Path.{sym}
 use native.Mathlib.Omega.{arith}
 use borrow.Author.Needs.{needs}
 use Rattle.kernel_record.specs.Recording.{blocksOfCall}

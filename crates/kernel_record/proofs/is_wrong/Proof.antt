@@ -1,6 +1,6 @@
 -- `is_wrong` meets its contract: the kind first, then the length.
 -- Assumes nothing.
-use mathlib.Core.Path.{_≡_, sym, _∙_}
+use mathlib.Core.Path.{sym, _∙_}
 use borrow.Author.Needs.{needs}
 use borrow.Author.Tests.{not-true, not-false}
 use Rattle.kernel_record.proofs.Refusing.{wrong-kind, wrong-length}

@@ -1,8 +1,7 @@
 -- `is_answer_bad` meets its contract: the test counts for its kind alone.
 -- Assumes nothing.
-use mathlib.Core.Path.{_≡_, sym, _∙_}
+use mathlib.Core.Path.{sym, _∙_}
 use borrow.Author.Tests.{ne-eqb}
-use borrow.Author.Needs.{needs}
 use Rattle.kernel_refusals.specs.Refusals.{answerBad}
 use Rattle.kernel_refusals.proofs.OwnTests.{of-kind, other-kind}
 use Rattle.kernel_refusals.proofs.is_answer_bad.Statement.{statement}

@@ -1,6 +1,6 @@
 -- `is_start_bad` meets its contract: the test counts for its kind alone.
 -- Assumes nothing.
-use mathlib.Core.Path.{_≡_, sym, ap, _∙_}
+use mathlib.Core.Path.{sym, ap, _∙_}
 use mathlib.Core.Bool.{not}
 use borrow.Author.Tests.{ne-eqb}
 use borrow.Author.Needs.{needs}

@@ -1,11 +1,10 @@
 -- `spoken_refusal` meets its contract: the one line of the word.
 -- Assumes nothing.
-use mathlib.Core.Path.{_≡_, sym, ap, _∙_}
+use mathlib.Core.Path.{sym, ap, _∙_}
 use mathlib.Core.Bool.{not}
 use mathlib.Core.List.{[]}
 use borrow.Author.Needs.{needs}
 use Rattle.slices.proofs.Lines.{line-yes, last-no}
-use Rattle.session_phase.specs.Saying.{refusalBy}
 use Rattle.kernel_refusals.specs.Refusals.{wordLines}
 use Rattle.kernel_refusals.proofs.spoken_refusal.Statement.{statement}
 use Rattle.kernel_refusals.proofs.spoken_refusal.Tie as tie

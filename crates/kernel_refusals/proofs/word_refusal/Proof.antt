@@ -1,6 +1,6 @@
 -- `word_refusal` meets its contract: each arm is the definition's there.
 -- Assumes nothing.
-use mathlib.Core.Path.{_≡_, sym, ap, _∙_}
+use mathlib.Core.Path.{sym, ap, _∙_}
 use borrow.Author.Needs.{needs}
 use Rattle.slices.specs.Choice.{firstOf}
 use Rattle.session_phase.specs.declared.Waiting.{Waiting}

@@ -1,16 +1,12 @@
 -- `session_answers::on_options` meets its contract: a bad answer ends the session, and what a good one tells is kept.
 -- Assumes nothing.
-use mathlib.Core.Path.{_≡_, refl, sym, ap, _∙_}
-use native.Mathlib.Omega.{arith}
-use mathlib.Core.List.{List, [], _∷_}
-use Prim.Native.Nat.{ℕ}
+use mathlib.Core.Path.{sym, ap, _∙_}
 use lib.Dec.{eqb}
 use borrow.Author.Tests.{eq-eqb, ne-eqb}
 use borrow.Author.Needs.{needs}
 use Rattle.slices.proofs.Choice.{pick-yes, pick-no}
 use Rattle.answer_gpo.specs.Options.{optionsReason, profileOf, locatorOf}
 use Rattle.answer_afl.specs.Entries.{toRead}
-use Rattle.rulebook.specs.Phase.{optioning}
 use Rattle.rulebook.specs.Turn.{withProfile, readOn, optioned, turn}
 use Rattle.session_state.specs.declared.State.{State}
 use Rattle.session_state.specs.Reading.{early, late, recordsLeft}

@@ -1,8 +1,7 @@
 -- `session_answers::on_record` meets its contract: a bad answer ends the session, and what a good one tells is kept.
 -- Assumes nothing.
-use mathlib.Core.Path.{_≡_, sym, ap, ap₂, _∙_}
-use native.Mathlib.Omega.{arith}
-use mathlib.Core.List.{List, [], _∷_}
+use mathlib.Core.Path.{sym, ap, ap₂, _∙_}
+use mathlib.Core.List.{List}
 use Prim.Native.Nat.{ℕ}
 use mathlib.Core.Bool.{Bool}
 use lib.Dec.{eqb}
@@ -15,7 +14,6 @@ use Rattle.start_fields.specs.Reading.{readingOf}
 use Rattle.answer_common.specs.Content.{recordNames, namesFor}
 use Rattle.answer_record.specs.Records.{recordReason}
 use Rattle.rulebook.specs.Situation.{Situation}
-use Rattle.rulebook.specs.Phase.{reading}
 use Rattle.rulebook.specs.Turn.{withRecord as recordAdded, readOn, recorded, turn}
 use Rattle.session_state.specs.declared.State.{State}
 use Rattle.session_records.specs.declared.Store.{Store}

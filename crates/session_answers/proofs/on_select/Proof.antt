@@ -4,15 +4,14 @@ use borrow.Author.Needs.{needs}
 use Rattle.session_records.specs.Slots.{Facts}
 use Rattle.rulebook.specs.Situation.{knownIn}
 use mathlib.Core.Path.{_≡_, refl, sym, ap, ap₂, _∙_}
-use native.Mathlib.Omega.{arith}
-use mathlib.Core.List.{List, [], _∷_}
+use mathlib.Core.List.{List}
 use Prim.Native.Nat.{ℕ}
 use mathlib.Core.Option.{none}
 use Rattle.start_fields.specs.Reading.{readingOf}
 use Rattle.dol_fill.specs.Filled.{filling, unsupplied}
 use Rattle.commands.specs.Commands.{optionsCommand}
 use Rattle.answer_select.specs.Select.{selectReason, pdolOf}
-use Rattle.rulebook.specs.Phase.{selecting, optioning, asks, situationOf, commandOf}
+use Rattle.rulebook.specs.Phase.{optioning, asks, situationOf, commandOf}
 use Rattle.rulebook.specs.Turn.{selected, turn}
 use Rattle.rulebook_zeros.specs.Zeros.{unsuppliedAsking}
 use Rattle.session_state.specs.Reading.{startIn, situationWith, early}

@@ -1,7 +1,7 @@
 -- `session_online::request_second` meets its contract: the second GENERATE AC is filled from 8D, where that can be filled.
 -- Assumes nothing.
-use mathlib.Core.Path.{_≡_, refl, sym, ap, ap₂, _∙_}
-use mathlib.Core.List.{List, [], _∷_}
+use mathlib.Core.Path.{refl, sym, ap, ap₂, _∙_}
+use mathlib.Core.List.{List, []}
 use Prim.Native.Nat.{ℕ}
 use mathlib.Core.Option.{some, Option·getD}
 use borrow.Author.Needs.{needs}

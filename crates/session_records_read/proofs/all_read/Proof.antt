@@ -1,15 +1,13 @@
 -- `session_records_read::all_read` meets its contract: 8 comes before the bits are set, and what follows after.
 -- Assumes nothing.
-use mathlib.Core.Path.{_≡_, refl, sym, ap, _∙_}
-use mathlib.Core.List.{List, [], _∷_}
-use Prim.Native.Nat.{ℕ}
+use mathlib.Core.Path.{_≡_, sym, ap, _∙_}
 use lib.Dec.{eqb}
 use borrow.Author.Tests.{eq-eqb, ne-eqb}
 use borrow.Author.Needs.{needs}
 use Rattle.slices.proofs.Choice.{pick-yes, pick-no}
 use Rattle.answer_record.specs.Records.{afterRecords}
 use Rattle.rulebook.specs.Situation.{Situation}
-use Rattle.rulebook.specs.Phase.{Phase, decides, ended}
+use Rattle.rulebook.specs.Phase.{Phase, ended}
 use Rattle.rulebook.specs.Turn.{managed, verifying, allRead}
 use Rattle.session_state.specs.declared.State.{State}
 use Rattle.session_state.specs.Reading.{startIn, situationWith, late}

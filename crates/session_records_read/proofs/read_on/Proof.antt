@@ -1,10 +1,10 @@
 -- `session_records_read::read_on` meets its contract: the record at the cursor is asked for, and after the last one the session goes on.
 -- Assumes nothing.
-use mathlib.Core.Path.{_≡_, refl, sym, ap, _∙_}
-use mathlib.Core.List.{List, [], _∷_}
+use mathlib.Core.Path.{refl, sym, ap, _∙_}
+use mathlib.Core.List.{List}
 use Prim.Native.Nat.{ℕ}
 use borrow.Author.Needs.{needs}
-use Rattle.answer_afl.specs.Cursor.{isLeft, recordAt, stepped, remaining}
+use Rattle.answer_afl.specs.Cursor.{recordAt, stepped, remaining}
 use Rattle.answer_afl.proofs.Walking.{one-less, none-remain}
 use Rattle.rulebook.specs.Phase.{reading, situationOf, commandOf}
 use Rattle.rulebook.specs.Turn.{readOn}

@@ -1,10 +1,10 @@
 -- `session_verification::request_first` meets its contract: a reason ends the session, and otherwise the first GENERATE AC is filled from
 -- 8C.
 -- Assumes nothing.
-use mathlib.Core.Path.{_≡_, refl, sym, ap, ap₂, _∙_}
-use mathlib.Core.List.{List, [], _∷_}
+use mathlib.Core.Path.{refl, sym, ap, ap₂, _∙_}
+use mathlib.Core.List.{List, []}
 use Prim.Native.Nat.{ℕ}
-use mathlib.Core.Option.{none, Option·getD}
+use mathlib.Core.Option.{Option·getD}
 use borrow.Author.Needs.{needs}
 use Rattle.start_fields.specs.Reading.{readingOf}
 use Rattle.dol_fill.specs.Filled.{filling, unsupplied}

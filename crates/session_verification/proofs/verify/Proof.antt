@@ -1,6 +1,6 @@
 -- `session_verification::verify` meets its contract: the results are waited for where they are due, and else the first request follows.
 -- Assumes nothing.
-use mathlib.Core.Path.{_≡_, refl, sym, ap, ap₂, _∙_}
+use mathlib.Core.Path.{refl, sym, ap, ap₂, _∙_}
 use mathlib.Core.List.{List}
 use Prim.Native.Nat.{ℕ}
 use native.Mathlib.Omega.{arith}
@@ -9,7 +9,6 @@ use Rattle.slices.proofs.Choice.{pick-yes, pick-no}
 use Rattle.start_fields.specs.Reading.{readingOf}
 use Rattle.words.specs.Words.{wordKind}
 use Rattle.words.specs.declared.Word.the-variants.{Results}
-use Rattle.answer_record.specs.Records.{afterRecords}
 use Rattle.answer_laws.proofs.Reasons.{after-small}
 use Rattle.session_records.specs.Slots.{toldIn, told}
 use Rattle.decide_verification.specs.Verification.{resultsDue, resultsWanted}

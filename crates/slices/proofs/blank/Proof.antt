@@ -1,6 +1,6 @@
 -- `slices::blank` meets its contract. The loop's invariant: the bytes passed are set, the others are as they were.
 -- Assumes nothing.
-use mathlib.Core.Path.{_≡_, refl, sym, ap, _∙_}
+use mathlib.Core.Path.{_≡_, refl, ap, _∙_}
 use mathlib.Core.List.{List, _++_, append-nil}
 use Prim.Native.Nat.{ℕ, _≤_, _<_, _-_}
 use native.Mathlib.Nat.{le-refl}

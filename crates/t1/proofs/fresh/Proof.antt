@@ -1,5 +1,5 @@
 -- `fresh` meets its contract: nothing sent, nothing received. Assumes nothing.
-use mathlib.Core.Path.{_≡_, refl, sym, ap, _∙_}
+use mathlib.Core.Path.{ap}
 use Rattle.t1_state.specs.declared.Phase.{Phase}
 use mathlib.Core.Bool.{false}
 use Rattle.t1_state.specs.Limits.{messageMost}

@@ -1,7 +1,5 @@
 -- `hello` meets its contract: the turn, done over the buffer. Assumes nothing.
-use mathlib.Core.Path.{_≡_, refl, sym, ap, _∙_}
-use mathlib.Core.List.{List, [], _∷_}
-use Prim.Native.Nat.{ℕ}
+use mathlib.Core.Path.{ap, _∙_}
 use Rattle.slices.specs.Writing.{laid}
 use Rattle.t1_state.specs.declared.Turn.{Turn}
 use Rattle.t1.specs.Steps.{turnOf, fieldOf, sentBy, doneBy, stepOf, outAfter}

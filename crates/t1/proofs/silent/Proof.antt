@@ -1,12 +1,11 @@
 -- `silent` meets its contract: nothing is sent. Assumes nothing.
-use mathlib.Core.Path.{_≡_, refl, sym, ap, _∙_}
-use mathlib.Core.List.{List, [], _∷_}
+use mathlib.Core.Path.{sym, ap, _∙_}
+use mathlib.Core.List.{List}
 use Prim.Native.Nat.{ℕ}
 use lib.ListN.{length}
-use Rattle.t1_state.specs.declared.State.{State}
 use Rattle.t1_state.specs.declared.Turn.{Turn}
 use Rattle.t1_turns.specs.Turns.{onSilence}
-use Rattle.t1.specs.Steps.{turnOf, fieldOf, sentBy, replyTo, doneBy, stepOf}
+use Rattle.t1.specs.Steps.{turnOf, fieldOf, replyTo, doneBy, stepOf}
 use Rattle.t1.specs.declared.Reply.{Reply}
 use Rattle.t1.proofs.Laying.{silent-quiet}
 use borrow.Author.Needs.{needs}

@@ -1,5 +1,5 @@
 -- `exhausted` meets its contract: the request stays open, or the end. Assumes nothing.
-use mathlib.Core.Path.{_≡_, sym, _∙_}
+use mathlib.Core.Path.{sym, _∙_}
 use Rattle.slices.proofs.Choice.{pick-yes, pick-no}
 use Rattle.t1_again.specs.Again.{exhausted}
 use borrow.Author.Needs.{needs}

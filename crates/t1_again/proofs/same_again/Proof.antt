@@ -1,9 +1,8 @@
 -- `same_again` meets its contract: once more, or what follows the last time. Assumes nothing.
-use mathlib.Core.Path.{_≡_, sym, ap, _∙_}
+use mathlib.Core.Path.{sym, ap, _∙_}
 use lib.Dec.{ltb}
 use borrow.Author.Tests.{lt-ltb, le-ltb}
 use Rattle.slices.proofs.Choice.{pick-yes, pick-no}
-use Rattle.t1_state.specs.declared.State.{State}
 use Rattle.t1_again.specs.Again.{goesOut, sameAgain}
 use borrow.Author.Needs.{needs}
 use Rattle.t1_again.proofs.same_again.Statement.{statement}

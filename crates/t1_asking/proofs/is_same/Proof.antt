@@ -1,5 +1,5 @@
 -- `is_same` meets its contract: the same thing, the same value. Assumes nothing.
-use mathlib.Core.Path.{_≡_, sym, ap, _∙_, ap₂}
+use mathlib.Core.Path.{sym, _∙_, ap₂}
 use lib.Dec.{eqb}
 use borrow.Author.Tests.{eq-eqb, ne-eqb}
 use Rattle.slices.proofs.Choice.{pick-yes, pick-no}

@@ -1,5 +1,5 @@
 -- `on_response` meets its contract: what was asked for, or not. Assumes nothing.
-use mathlib.Core.Path.{_≡_, sym, ap, _∙_}
+use mathlib.Core.Path.{sym, ap, _∙_}
 use Rattle.slices.proofs.Choice.{pick-yes, pick-no}
 use Rattle.t1_state.specs.Changes.{atPhase}
 use Rattle.t1_state.specs.declared.Phase.the-variants.{Due}

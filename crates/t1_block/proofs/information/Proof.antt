@@ -1,6 +1,5 @@
 -- `information` meets its contract: the part behind the prologue that LEN says. Assumes nothing.
 use mathlib.Core.Path.{ap, _∙_}
-use mathlib.Core.List.{List}
 use Prim.Native.Nat.{ℕ}
 use lib.ListN.{take, drop}
 use Rattle.t1_block.specs.Blocks.{infOf}

@@ -5,7 +5,7 @@ use mathlib.Core.Bool.{true}
 use Prim.Native.Nat.{ℕ, _+_, _*_, _%_, _≤_, _<_, _-_}
 use native.Mathlib.Omega.{arith}
 use lib.Bits.{bitXor}
-use lib.ListN.{length, getD, drop}
+use lib.ListN.{getD, drop}
 use lib.Pow.{areBytes}
 use Rattle.tape_crc.specs.Check.{divided, runningOf}
 use Rattle.tape_crc.specs.Parts.{part}

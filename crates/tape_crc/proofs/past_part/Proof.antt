@@ -1,7 +1,7 @@
 -- `tape_crc::past_part` meets its contract. The loop's invariant: what is joined is what the register's bits from the top down to k
 -- leave, and beside it stands what bit k leaves. Assumes nothing.
 use mathlib.Core.Path.{_≡_, refl, sym, ap, ap₂, _∙_}
-use Prim.Native.Nat.{ℕ, suc, _*_, _/_, _%_, _^_, _≤_, _<_, _-_}
+use Prim.Native.Nat.{ℕ, suc, _*_, _/_, _%_, _^_, _≤_, _-_}
 use native.Mathlib.Omega.{arith}
 use lib.Bits.{bitXor}
 use Rattle.slices.specs.Choice.{pick}

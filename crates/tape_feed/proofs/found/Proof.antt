@@ -1,6 +1,6 @@
 -- `found` meets its contract: its tests are the definition's, in the same order.
 -- Assumes nothing.
-use mathlib.Core.Path.{_≡_, sym, _∙_}
+use mathlib.Core.Path.{sym, _∙_}
 use borrow.Author.Needs.{needs}
 use Rattle.tape_feed.proofs.Turns.{damage-long, damage-torn, damage-first}
 use Rattle.tape_feed.proofs.found.Statement.{statement}

@@ -1,6 +1,6 @@
 -- `is_too_long` meets its contract: its tests are the definition's.
 -- Assumes nothing.
-use mathlib.Core.Path.{_≡_, sym, _∙_}
+use mathlib.Core.Path.{sym}
 use native.Mathlib.Omega.{arith}
 use Rattle.tape_feed.proofs.Turns.{long-blocks, short-blocks, most-blocks}
 use Rattle.tape_feed.proofs.is_too_long.Statement.{statement}

@@ -1,10 +1,9 @@
 -- `look` meets its contract: its fields are what the definition says.
 -- Assumes nothing.
-use mathlib.Core.Path.{_≡_, ap, _∙_}
+use mathlib.Core.Path.{ap, _∙_}
 use Prim.Native.Nat.{ℕ, _+_}
 use borrow.Author.Needs.{needs}
 use Rattle.tape_read.specs.Blocks.{codeOf}
-use Rattle.tape_feed.specs.declared.Reader.{Reader}
 use Rattle.tape_feed.proofs.look.Statement.{statement}
 use Rattle.tape_feed.proofs.look.Tie as tie
 

@@ -1,11 +1,10 @@
 -- `next` meets its contract: each return is a case of the definition.
 -- Assumes nothing.
-use mathlib.Core.Path.{_≡_, refl, sym, ap, _∙_}
+use mathlib.Core.Path.{sym, ap, _∙_}
 use Prim.Native.Nat.{_≤_}
 use native.Mathlib.Omega.{arith}
 use borrow.Author.Needs.{needs}
 use Rattle.tape_read.specs.Entries.{blocksMost}
-use Rattle.tape_feed.specs.declared.Reader.{Reader}
 use Rattle.tape_feed.specs.Feeding.{unread, read}
 use Rattle.tape_feed.proofs.Turns.{next-torn, next-full, next-ended, next-passed, next-looked}
 use Rattle.tape_feed.proofs.next.Statement.{statement}

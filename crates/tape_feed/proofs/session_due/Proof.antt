@@ -1,6 +1,6 @@
 -- `session_due` meets its contract: block 0 says it, and then it is known.
 -- Assumes nothing.
-use mathlib.Core.Path.{_≡_, sym, _∙_}
+use mathlib.Core.Path.{sym, _∙_}
 use borrow.Author.Needs.{needs}
 use borrow.Author.Tests.{eq-eqb, ne-eqb}
 use Rattle.slices.proofs.Choice.{pick-yes, pick-no}

@@ -1,8 +1,6 @@
 -- `tlv_write::length_size` meets its contract: by the tests that the definition makes.
 -- Assumes nothing.
 use mathlib.Core.Path.{sym, ap, _∙_}
-use mathlib.Core.List.{List}
-use Prim.Native.Nat.{ℕ}
 use lib.ListN.{length}
 use borrow.Author.Tests.{lt-ltb, le-ltb}
 use Rattle.slices.proofs.Choice.{pick-yes, pick-no}

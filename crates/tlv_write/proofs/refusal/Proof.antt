@@ -1,10 +1,8 @@
 -- `tlv_write::refusal` meets its contract: each answer is a line of the list, and the size is that of the object written.
 -- Assumes nothing.
-use mathlib.Core.Path.{_≡_, sym, ap, _∙_}
-use mathlib.Core.List.{List}
-use Prim.Native.Nat.{ℕ, _+_}
+use mathlib.Core.Path.{sym, _∙_}
 use lib.ListN.{length}
-use Rattle.tlv_write.specs.Written.{written, tagBytes, lengthBytes}
+use Rattle.tlv_write.specs.Written.{written}
 use Rattle.tlv_write.proofs.Refusals.{written-length, bad-tag, bad-value, too-long, no-room, accepted}
 use borrow.Author.Needs.{needs}
 use native.Mathlib.Omega.{arith}

@@ -1,9 +1,8 @@
 -- `tlv_write::write` meets its contract: refused, it returns before anything is written; accepted, the object fits.
 -- Assumes nothing.
-use mathlib.Core.Path.{_≡_, sym, _∙_}
-use Prim.Native.Nat.{ℕ, _<_}
+use mathlib.Core.Path.{sym, _∙_}
 use lib.ListN.{length}
-use Rattle.tlv_write.specs.Written.{writeRefusal, refusalOf, sizeOf, written}
+use Rattle.tlv_write.specs.Written.{refusalOf, sizeOf, written}
 use Rattle.tlv_write.proofs.Refusals.{written-length, Accepted, not-refused, refused-size}
 use Rattle.tlv_write.proofs.Refusals.{refused-buffer, accepted-size, accepted-buffer, tag-small}
 use borrow.Author.Needs.{needs}

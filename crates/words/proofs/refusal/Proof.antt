@@ -1,6 +1,6 @@
 -- `refusal` meets its contract: each arm is the definition's at that word.
 -- Assumes nothing.
-use mathlib.Core.Path.{_≡_, sym, ap}
+use mathlib.Core.Path.{sym, ap}
 use borrow.Author.Needs.{needs}
 use Rattle.words.specs.Words.{wordRefusal}
 use Rattle.words.proofs.refusal.Statement.{statement}

@@ -1,10 +1,9 @@
 -- `answer_afl::cursor::from_entry` meets its contract: four bytes to an entry, and nothing past the end.
 -- Assumes nothing.
-use mathlib.Core.Path.{_≡_, sym}
+use mathlib.Core.Path.{sym}
 use Prim.Native.Nat.{_*_}
 use native.Mathlib.Omega.{arith}
 use lib.ListN.{length, drop-of-length-le}
-use borrow.Author.Needs.{needs}
 use Rattle.answer_afl.specs.Cursor.{fromEntry}
 use Rattle.slices.proofs.Cutting.{rest-part}
 use Rattle.answer_afl.proofs.cursor.from_entry.Statement.{statement}

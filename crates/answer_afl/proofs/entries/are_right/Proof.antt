@@ -5,7 +5,7 @@ use mathlib.Core.Bool.{true, false}
 use mathlib.Core.List.{List, map}
 use Prim.Native.Nat.{ℕ, _≤_, _<_}
 use native.Mathlib.Omega.{arith}
-use lib.ListN.{length, drop, length-take, length-drop}
+use lib.ListN.{length, drop, length-drop}
 use Rattle.slices.specs.Tests.{every}
 use Rattle.slices.proofs.Tests.{held, failed}
 use Rattle.answer_afl.specs.Entries.{Entry, firstEntry, entries, entryRight, entriesRight}

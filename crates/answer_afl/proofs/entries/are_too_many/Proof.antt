@@ -1,11 +1,9 @@
 -- `answer_afl::entries::are_too_many` meets its contract. The loop's invariant: what was counted and what is left to count make
 -- the number of all records, and what was counted is not too many yet. Assumes nothing.
-use mathlib.Core.Path.{_≡_, refl, sym, ap, _∙_}
-use mathlib.Core.List.{List}
-use Prim.Native.Nat.{ℕ, _+_, _≤_, _<_}
+use mathlib.Core.Path.{_≡_, sym, ap}
+use Prim.Native.Nat.{_+_, _≤_, _<_}
 use native.Mathlib.Omega.{arith}
 use lib.ListN.{length, drop, length-drop}
-use borrow.Author.Needs.{needs}
 use borrow.Author.Tests.{lt-ltb, le-ltb}
 use Rattle.answer_afl.specs.Entries.{mostRecords, recordCount, tooMany}
 use Rattle.slices.proofs.Cutting.{rest-part}

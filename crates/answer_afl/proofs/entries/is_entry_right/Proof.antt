@@ -1,13 +1,9 @@
 -- `answer_afl::entries::is_entry_right` meets its contract: the definition's tests in their order.
 -- Assumes nothing.
-use mathlib.Core.Path.{_≡_, refl, sym, ap, ap₂, _∙_}
-use mathlib.Core.List.{List}
-use Prim.Native.Nat.{ℕ}
+use mathlib.Core.Path.{sym, ap, ap₂, _∙_}
 use lib.Dec.{leb}
-use lib.ListN.{drop}
 use borrow.Author.Needs.{needs}
 use borrow.Author.Tests.{le-leb, lt-leb}
-use Rattle.slices.specs.Tests.{every}
 use Rattle.slices.proofs.Tests.{held, failed, passed, refused, last}
 use Rattle.answer_afl.specs.Entries.{firstEntry, fileRight, entryRight}
 use Rattle.answer_afl.proofs.entries.is_entry_right.Statement.{statement}

@@ -1,6 +1,6 @@
 -- `answer_common::answer::is_one` meets its contract: the tag of what was found decides.
 -- Assumes nothing.
-use mathlib.Core.Path.{_≡_, sym, ap, _∙_}
+use mathlib.Core.Path.{sym, ap}
 use Rattle.answer_common.specs.Answer.{theOne, tagged, isOne}
 use Rattle.answer_common.proofs.Outer.{by-place}
 use borrow.Author.Needs.{needs}

@@ -1,6 +1,6 @@
 -- `answer_common::answer::is_size_bad` meets its contract: the definition's two tests.
 -- Assumes nothing.
-use mathlib.Core.Path.{refl, sym, _∙_}
+use mathlib.Core.Path.{refl, sym}
 use borrow.Author.Tests.{lt-ltb, le-ltb}
 use Rattle.answer_common.specs.Answer.{sizeBad}
 use Rattle.slices.proofs.Tables.{or-yes, or-no}

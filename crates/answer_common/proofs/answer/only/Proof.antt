@@ -3,8 +3,6 @@
 use mathlib.Core.Path.{_≡_, sym, _∙_}
 use mathlib.Core.Bool.{true}
 use Rattle.tlv_list.specs.Objects.{isList}
-use Rattle.tlv_list.specs.Place.{nextAt}
-use Rattle.tlv_head.specs.declared.Next.the-variants.{Member}
 use Rattle.answer_common.proofs.Outer.{refused, not-refused, only-refused, only-end}
 use Rattle.answer_common.proofs.Outer.{only-broken, only-one, only-then-broken, only-and-more}
 use borrow.Author.Needs.{needs}

@@ -1,17 +1,10 @@
 -- `answer_common::answer::outer` meets its contract. The size is tested first, so the data is short enough for the list check.
 -- Assumes nothing.
-use mathlib.Core.Path.{_≡_, sym, ap, _∙_}
-use mathlib.Core.Bool.{true, false}
+use mathlib.Core.Path.{sym, ap, _∙_}
 use mathlib.Core.List.{List}
-use mathlib.Core.Option.{Option}
-use Prim.Native.Nat.{ℕ, _≤_}
-use native.Mathlib.Omega.{arith}
-use lib.ListN.{length}
-use Rattle.tlv_list.specs.Objects.{Object, objects}
-use Rattle.tlv_list.specs.Place.{dataField}
-use Rattle.tlv_head.specs.declared.Next.{Next}
-use Rattle.tlv_head.specs.declared.Next.the-variants.{Broken}
-use Rattle.answer_common.specs.Answer.{sizeBad, only, outer, theOne}
+use Prim.Native.Nat.{ℕ}
+use Rattle.tlv_list.specs.Objects.{objects}
+use Rattle.answer_common.specs.Answer.{only, outer, theOne}
 use Rattle.answer_common.proofs.Outer.{outer-refused, outer-looked, data-short}
 use borrow.Author.Needs.{needs}
 use Rattle.answer_common.proofs.answer.outer.Statement.{statement}

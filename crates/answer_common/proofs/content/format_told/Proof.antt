@@ -1,6 +1,6 @@
 -- `answer_common::content::format_told` meets its contract: each arm is a line of the table, and a tag that is in none is not known.
 -- Assumes nothing.
-use mathlib.Core.Path.{_≡_, sym, ap}
+use mathlib.Core.Path.{sym, ap}
 use Rattle.slices.specs.Choice.{pick}
 use Rattle.slices.specs.Tables.{beside}
 use Rattle.slices.proofs.Tables.{beside-none}

@@ -1,15 +1,12 @@
 -- `answer_common::content::names_for` meets its contract: the names of every terminal stand first.
 -- Assumes nothing.
-use mathlib.Core.Path.{_≡_, refl, sym, ap, _∙_}
-use mathlib.Core.Bool.{Bool, true, false}
-use mathlib.Core.List.{List, map}
-use Prim.Native.Nat.{ℕ, _≤_}
+use mathlib.Core.Path.{sym, ap, _∙_}
+use mathlib.Core.List.{map}
 use native.Mathlib.Omega.{arith}
 use lib.ListN.{length}
 use borrow.Author.Needs.{needs}
 use Rattle.slices.proofs.Choice.{pick-yes, pick-no}
-use Rattle.start_fields.specs.Reading.{readingOf}
-use Rattle.answer_common.specs.Content.{Row, recordNames, rowsFor, namesFor}
+use Rattle.answer_common.specs.Content.{Row, rowsFor, namesFor}
 use Rattle.answer_common.proofs.content.names_for.Statement.{statement}
 use Rattle.answer_common.proofs.content.names_for.Tie as tie
 

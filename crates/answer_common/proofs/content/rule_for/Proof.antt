@@ -1,13 +1,11 @@
 -- `answer_common::content::rule_for` meets its contract: each arm is a line of the table, and a tag that is in none has no rule.
 -- Assumes nothing.
-use mathlib.Core.Path.{_≡_, sym, ap, _∙_}
-use Prim.Native.Nat.{ℕ}
+use mathlib.Core.Path.{sym, ap}
 use Rattle.slices.specs.Choice.{pick}
 use Rattle.slices.specs.Tables.{beside}
 use Rattle.answer_common.specs.Content.{rules, ruleFor}
-use Rattle.answer_common.specs.declared.content.Rule.{Rule}
 use Rattle.answer_common.specs.declared.content.Rule.the-variants.{Anything}
-use Rattle.slices.proofs.Tables.{NoneOf, beside-none}
+use Rattle.slices.proofs.Tables.{beside-none}
 use Rattle.answer_common.proofs.content.rule_for.Statement.{statement}
 use Rattle.answer_common.proofs.content.rule_for.Tie as tie
 

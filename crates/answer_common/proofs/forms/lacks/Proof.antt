@@ -1,6 +1,6 @@
 -- `answer_common::forms::lacks` meets its contract: where the answer is a template, its members decide.
 -- Assumes nothing.
-use mathlib.Core.Path.{_≡_, sym, ap, _∙_}
+use mathlib.Core.Path.{sym, ap, _∙_}
 use borrow.Author.Needs.{needs}
 use Rattle.answer_common.specs.Named.{anyTimes}
 use Rattle.answer_common.specs.Forms.{lacks}

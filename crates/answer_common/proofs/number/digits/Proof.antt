@@ -1,9 +1,9 @@
 -- `answer_common::number::digits` meets its contract. The loop's invariant: the digits passed and those that follow are the digits
 -- at the front. Assumes nothing.
-use mathlib.Core.Path.{_≡_, refl, sym, ap, _∙_}
-use Prim.Native.Nat.{ℕ, _+_, _*_, _≤_, _<_, _-_}
+use mathlib.Core.Path.{_≡_}
+use Prim.Native.Nat.{_+_, _*_, _-_}
 use native.Mathlib.Omega.{arith}
-use lib.ListN.{length, getD, drop}
+use lib.ListN.{length, drop}
 use Rattle.answer_common.specs.CardNumber.{halves, digits}
 use Rattle.answer_common.proofs.CardNumber.{halves-length, digit-on, digit-stop, digit-end}
 use Rattle.answer_common.proofs.number.digits.Statement.{statement}

@@ -1,7 +1,6 @@
 -- `answer_common::number::is_card_number` meets its contract: the definition's tests in their order.
 -- Assumes nothing.
 use mathlib.Core.Path.{refl, sym, ap, _∙_}
-use mathlib.Core.List.{List}
 use Prim.Native.Nat.{ℕ}
 use lib.Dec.{leb}
 use lib.ListN.{length, drop}

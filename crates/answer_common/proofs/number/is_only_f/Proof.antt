@@ -1,10 +1,10 @@
 -- `answer_common::number::is_only_f` meets its contract. The loop's invariant: what is left decides as all from the place on do.
 -- Assumes nothing.
-use mathlib.Core.Path.{_≡_, refl, sym, ap, _∙_}
-use Prim.Native.Nat.{ℕ, _+_, _*_, _≤_, _<_, _-_}
+use mathlib.Core.Path.{_≡_, refl, sym, _∙_}
+use Prim.Native.Nat.{_*_, _-_}
 use native.Mathlib.Omega.{arith}
 use lib.Dec.{eqb}
-use lib.ListN.{length, getD, drop}
+use lib.ListN.{length, drop}
 use borrow.Author.Tests.{eq-eqb, ne-eqb}
 use Rattle.slices.proofs.Tests.{all-one-on, all-but-one, all-through}
 use Rattle.answer_common.specs.CardNumber.{halves, onlyF}

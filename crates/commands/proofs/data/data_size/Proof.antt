@@ -1,7 +1,6 @@
 -- `data::data_size` meets its contract: the list's own count, and nothing where that is over the most.
 -- Assumes nothing.
 use mathlib.Core.Path.{_∙_, sym}
-use Rattle.commands.specs.Commands.{dataSize}
 use Rattle.commands.proofs.Sizes.{size-all, size-none}
 use borrow.Author.Needs.{needs}
 use native.Mathlib.Omega.{arith}

@@ -1,14 +1,13 @@
 -- `data::lay_data` meets its contract: the filled list, and '00' where it ends.
 -- Assumes nothing.
-use mathlib.Core.Path.{_≡_, sym, ap, _∙_}
-use mathlib.Core.List.{List, [], _∷_, _++_}
-use Prim.Native.Nat.{ℕ, _+_, _≤_}
+use mathlib.Core.Path.{ap, _∙_}
+use mathlib.Core.List.{[], _∷_}
+use Prim.Native.Nat.{_+_}
 use lib.ListN.{length}
 use Rattle.slices.specs.Writing.{laid}
 use Rattle.start_fields.specs.Reading.{readingOf}
 use Rattle.session_records.specs.Slots.{toldIn}
 use Rattle.dol_fill.specs.Filled.{filling}
-use Rattle.commands.specs.Commands.{dataSize}
 use Rattle.commands.proofs.Sizes.{data-length, two-laid}
 use borrow.Author.Needs.{needs}
 use native.Mathlib.Omega.{arith}

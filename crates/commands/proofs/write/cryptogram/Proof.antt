@@ -2,13 +2,13 @@
 -- Assumes nothing.
 use mathlib.Core.Path.{_≡_, refl, sym, ap, _∙_}
 use mathlib.Core.List.{List, [], _∷_, _++_}
-use Prim.Native.Nat.{ℕ, _+_, _≤_, _<_}
+use Prim.Native.Nat.{ℕ, _+_, _≤_}
 use lib.ListN.{length}
 use Rattle.slices.specs.Writing.{put, laid}
 use Rattle.start_fields.specs.Reading.{readingOf}
 use Rattle.session_records.specs.Slots.{toldIn}
 use Rattle.dol_fill.specs.Filled.{filling}
-use Rattle.commands.specs.Commands.{cryptogramCommand, sizeIn, dataSize}
+use Rattle.commands.specs.Commands.{cryptogramCommand, sizeIn}
 use Rattle.commands.proofs.Sizes.{unissued, issued, two-pieces, data-length}
 use Rattle.commands.proofs.Shapes.{ended-length, cryptogram-empty, cryptogram-filled}
 use Rattle.slices.proofs.Writing.{laid-fits}

@@ -9,7 +9,7 @@ use Rattle.start_fields.specs.Reading.{readingOf}
 use Rattle.session_records.specs.Slots.{toldIn}
 use Rattle.dol_wanted.specs.Wanted.{most}
 use Rattle.dol_fill.specs.Filled.{filling}
-use Rattle.commands.specs.Commands.{optionsCommand, sizeIn, dataSize}
+use Rattle.commands.specs.Commands.{optionsCommand, sizeIn}
 use Rattle.commands.proofs.Sizes.{unissued, issued, two-pieces, data-length}
 use Rattle.commands.proofs.Shapes.{ended-length, options-short, options-long}
 use borrow.Author.Needs.{needs}

@@ -1,11 +1,8 @@
 -- `write::record` meets its contract: the five bytes are the definition's own.
 -- Assumes nothing.
-use mathlib.Core.Path.{refl, _∙_, sym}
-use Prim.Native.Nat.{ℕ, _≤_, _<_}
-use lib.ListN.{length}
-use Rattle.commands.specs.Commands.{recordCommand, sizeIn}
+use mathlib.Core.Path.{refl, _∙_}
+use Rattle.commands.specs.Commands.{recordCommand}
 use Rattle.commands.proofs.Sizes.{unissued, issued}
-use Rattle.slices.specs.Writing.{put}
 use Rattle.slices.proofs.Writing.{laid-fits}
 use borrow.Author.Needs.{needs}
 use native.Mathlib.Omega.{arith}

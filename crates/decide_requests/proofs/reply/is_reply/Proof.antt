@@ -1,6 +1,6 @@
 -- `decide_requests::reply::is_reply` meets its contract.
 -- Assumes nothing.
-use mathlib.Core.Path.{_≡_, refl, sym, ap, _∙_}
+use mathlib.Core.Path.{sym, ap, _∙_}
 use borrow.Author.Needs.{needs}
 use Rattle.decide_requests.specs.Replies.{isReply}
 use Rattle.decide_requests.proofs.reply.is_reply.Statement.{statement}

@@ -1,6 +1,6 @@
 -- `decide_requests::requests::issuer_match` meets its contract: the code that was told, and otherwise five bytes of the other.
 -- Assumes nothing.
-use mathlib.Core.Path.{_≡_, sym, ap, _∙_}
+use mathlib.Core.Path.{sym, ap, _∙_}
 use mathlib.Core.List.{List}
 use Prim.Native.Nat.{ℕ}
 use borrow.Author.Needs.{needs}

@@ -1,7 +1,7 @@
 -- `decide_tvr::results::different_versions` meets its contract: where 9F08 is there it compares the two rows, and otherwise nothing
 -- differs.
 -- Assumes nothing.
-use mathlib.Core.Path.{_≡_, sym, ap, _∙_}
+use mathlib.Core.Path.{sym, ap, _∙_}
 use mathlib.Core.Bool.{not}
 use borrow.Author.Needs.{needs}
 use Rattle.start_fields.specs.Reading.{readingOf}

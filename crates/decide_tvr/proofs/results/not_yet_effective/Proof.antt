@@ -1,7 +1,7 @@
 -- `decide_tvr::results::not_yet_effective` meets its contract: where 5F25 is there it compares the two dates' keys, and otherwise nothing
 -- lies ahead.
 -- Assumes nothing.
-use mathlib.Core.Path.{_≡_, sym, ap, ap₂, _∙_}
+use mathlib.Core.Path.{sym, ap, ap₂, _∙_}
 use borrow.Author.Needs.{needs}
 use lib.Dec.{ltb}
 use Rattle.decimal_dates.specs.Dates.{dateKey}

@@ -1,8 +1,7 @@
 -- `decimal_dates::dates::date_key` meets its contract: whole year, month and day are put together as the key has them.
 -- Assumes nothing.
-use mathlib.Core.Path.{_≡_, ap, _∙_}
-use Prim.Native.Nat.{ℕ, _+_, _*_}
-use native.Mathlib.Omega.{arith}
+use mathlib.Core.Path.{ap, _∙_}
+use Prim.Native.Nat.{_+_, _*_}
 use borrow.Author.Needs.{needs}
 use Rattle.decimal_dates.specs.Dates.{wholeYear, dateKey}
 use Rattle.decimal_dates.proofs.dates.date_key.Statement.{statement}

@@ -1,7 +1,6 @@
 -- `decimal_dates::dates::valid_start_date` meets its contract: the month is bounded by twelve, the day by what that month has.
 -- Assumes nothing.
-use mathlib.Core.Path.{_≡_, sym, ap, ap₂, _∙_}
-use mathlib.Core.List.{[], _∷_}
+use mathlib.Core.Path.{sym, ap, ap₂, _∙_}
 use borrow.Author.Needs.{needs}
 use Rattle.slices.specs.Tests.{between}
 use Rattle.decimal_dates.specs.Dates.{wholeYear, daysIn, validStartDate}

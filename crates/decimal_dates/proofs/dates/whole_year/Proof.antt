@@ -1,11 +1,10 @@
 -- `decimal_dates::dates::whole_year` meets its contract: the border is at 50.
 -- Assumes nothing.
-use mathlib.Core.Path.{_≡_, sym}
+use mathlib.Core.Path.{sym}
 use native.Mathlib.Omega.{arith}
 use borrow.Author.Needs.{needs}
 use borrow.Author.Tests.{lt-ltb, le-ltb}
 use Rattle.slices.proofs.Choice.{pick-yes, pick-no}
-use Rattle.decimal_dates.specs.Dates.{wholeYear}
 use Rattle.decimal_dates.proofs.dates.whole_year.Statement.{statement}
 use Rattle.decimal_dates.proofs.dates.whole_year.Tie as tie
 

@@ -1,7 +1,7 @@
 -- `count::missing` meets its contract: an entry counts exactly where its tag is not supplied.
 -- Assumes nothing.
 use mathlib.Core.Path.{_≡_, sym, ap, _∙_}
-use Prim.Native.Nat.{ℕ, _≤_}
+use Prim.Native.Nat.{ℕ}
 use native.Mathlib.Omega.{arith}
 use mathlib.Core.Bool.{true, false}
 use Rattle.slices.specs.Tests.{isSome}

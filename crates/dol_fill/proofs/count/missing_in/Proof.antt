@@ -1,14 +1,14 @@
 -- `count::missing_in` meets its contract. The loop's invariant: what was counted and what is still to be counted come to the count of the
 -- list; and no more is counted than bytes were passed.
 -- Assumes nothing.
-use mathlib.Core.Path.{_≡_, refl, sym, ap, _∙_}
+use mathlib.Core.Path.{_≡_, ap, _∙_}
 use mathlib.Core.Bool.{true}
-use mathlib.Core.List.{List, []}
-use Prim.Native.Nat.{ℕ, _+_, _-_, _≤_, _<_}
+use mathlib.Core.List.{List}
+use Prim.Native.Nat.{ℕ, _+_, _-_, _≤_}
 use native.Mathlib.Nat.{zero-add}
 use native.Mathlib.Omega.{arith}
 use lib.ListN.{length, take, drop, length-take, length-drop}
-use Rattle.tlv_head.specs.Head.{tagOf, tagSize}
+use Rattle.tlv_head.specs.Head.{tagSize}
 use Rattle.slices.specs.Tests.{isSome}
 use Rattle.slices.proofs.Cutting.{rest-part, none-left}
 use Rattle.start_fields.specs.Reading.{readingOf}

@@ -1,6 +1,6 @@
 -- `count::unsupplied` meets its contract: a list that can be filled is counted, and any other has none.
 -- Assumes nothing.
-use mathlib.Core.Path.{_≡_, sym, _∙_}
+use mathlib.Core.Path.{sym, _∙_}
 use Rattle.start_fields.specs.Reading.{readingOf}
 use Rattle.session_records.specs.Slots.{toldIn}
 use Rattle.dol_fill.proofs.Missing.{unsupplied-yes, unsupplied-no}

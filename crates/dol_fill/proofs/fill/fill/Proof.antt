@@ -1,9 +1,9 @@
 -- `fill::fill` meets its contract: what cannot be filled, or has no room, changes nothing.
 -- Assumes nothing.
-use mathlib.Core.Path.{_≡_, refl, sym, ap, _∙_}
+use mathlib.Core.Path.{_≡_, sym, ap, _∙_}
 use mathlib.Core.List.{List, []}
 use mathlib.Core.Bool.{true}
-use Prim.Native.Nat.{ℕ, _+_, _-_, _≤_, _<_}
+use Prim.Native.Nat.{ℕ, _+_, _-_}
 use lib.ListN.{length}
 use Rattle.slices.specs.Choice.{pick}
 use Rattle.slices.specs.Writing.{put, laid}

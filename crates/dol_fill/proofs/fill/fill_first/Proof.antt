@@ -3,13 +3,12 @@
 use mathlib.Core.Path.{_≡_, sym, ap, ap₂, _∙_}
 use mathlib.Core.List.{List}
 use Prim.Native.Nat.{ℕ, _+_, _-_, _≤_}
-use lib.ListN.{length, take, drop}
+use lib.ListN.{length}
 use Rattle.tlv_head.specs.Head.{tagOf}
 use Rattle.slices.specs.Writing.{put}
 use Rattle.slices.proofs.Writing.{put-back}
 use Rattle.start_fields.specs.Reading.{readingOf}
 use Rattle.session_records.specs.Slots.{toldIn}
-use mathlib.Core.Option.{Option}
 use Rattle.dol_wanted.specs.Wanted.{sizeAt}
 use Rattle.dol_values.specs.Known.{supplied}
 use Rattle.dol_fill.specs.Filled.{entryBytes, firstBytes}

@@ -1,8 +1,8 @@
 -- `shape::at_left_end` meets its contract: the room is blank, and the value or its beginning is laid at the room's start.
 -- Assumes nothing.
 use mathlib.Core.Path.{_≡_, sym, ap, _∙_}
-use mathlib.Core.List.{List, _++_}
-use Prim.Native.Nat.{ℕ, _-_, _≤_, _<_, min}
+use mathlib.Core.List.{List}
+use Prim.Native.Nat.{ℕ, _-_, min}
 use lib.ListN.{length, take, replicate, length-replicate, length-take}
 use Rattle.slices.specs.Writing.{laid}
 use Rattle.dol_values.proofs.Shaping.{left-cut, left-filled}

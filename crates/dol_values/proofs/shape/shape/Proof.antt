@@ -1,9 +1,8 @@
 -- `shape::shape` meets its contract: by the format.
 -- Assumes nothing.
-use mathlib.Core.Path.{_≡_, refl, sym, ap, _∙_}
-use mathlib.Core.List.{List, _++_}
-use Prim.Native.Nat.{ℕ, _-_}
-use lib.ListN.{length, take, replicate}
+use mathlib.Core.Path.{sym, ap, _∙_}
+use Prim.Native.Nat.{_-_}
+use lib.ListN.{length}
 use Rattle.slices.specs.Writing.{zeros}
 use Rattle.dol_values.specs.Shape.{shaped}
 use Rattle.answer_common.specs.declared.content.Format.{Format}

@@ -1,7 +1,7 @@
 -- `supply::format_of` meets its contract: each arm is a line of the tables of START and of the session, and any other tag is left to that
 -- of the records.
 -- Assumes nothing.
-use mathlib.Core.Path.{_≡_, sym, ap, _∙_}
+use mathlib.Core.Path.{sym, ap, _∙_}
 use mathlib.Core.List.{_++_, map}
 use borrow.Author.Needs.{needs}
 use Rattle.slices.specs.Choice.{pick}

@@ -1,6 +1,6 @@
 -- `supply::own_field` meets its contract: each arm is a line of START's table, and a tag that is in none is not START's.
 -- Assumes nothing.
-use mathlib.Core.Path.{_≡_, sym, ap}
+use mathlib.Core.Path.{sym, ap}
 use mathlib.Core.List.{map}
 use Rattle.slices.specs.Choice.{pick}
 use Rattle.slices.specs.Tables.{beside}

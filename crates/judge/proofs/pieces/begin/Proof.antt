@@ -1,8 +1,6 @@
 -- `pieces::begin` meets its contract: both parts are as they begin.
 -- Assumes nothing.
-use mathlib.Core.Path.{_≡_}
 use borrow.Author.Needs.{needs}
-use Rattle.judge.specs.declared.UnderWay.{UnderWay}
 use Rattle.judge.proofs.pieces.begin.Statement.{statement}
 use Rattle.judge.proofs.pieces.begin.Tie as tie
 

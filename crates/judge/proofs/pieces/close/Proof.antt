@@ -1,6 +1,6 @@
 -- `pieces::close` meets its contract: what makes the tape unreadable goes before what its entries say.
 -- Assumes nothing.
-use mathlib.Core.Path.{_≡_, _∙_}
+use mathlib.Core.Path.{_∙_}
 use borrow.Author.Needs.{needs}
 use Rattle.judge.proofs.Steps.{closed-damaged, closed-whole}
 use Rattle.judge.proofs.pieces.close.Statement.{statement}

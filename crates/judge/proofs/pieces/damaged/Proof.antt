@@ -1,6 +1,6 @@
 -- `pieces::damaged` meets its contract: it says so, and counts nothing.
 -- Assumes nothing.
-use mathlib.Core.Path.{_≡_, ap}
+use mathlib.Core.Path.{ap}
 use borrow.Author.Needs.{needs}
 use Rattle.verdict.specs.Saying.{finds}
 use Rattle.verdict.specs.declared.Answer.{Answer}

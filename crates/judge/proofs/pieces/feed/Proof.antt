@@ -1,6 +1,5 @@
 -- `pieces::feed` meets its contract: a good block leads the dialogue on, any other piece leaves it.
 -- Assumes nothing.
-use mathlib.Core.Path.{_≡_}
 use borrow.Author.Needs.{needs}
 use Rattle.judge.proofs.Steps.{fed-on}
 use Rattle.judge.proofs.pieces.feed.Statement.{statement}

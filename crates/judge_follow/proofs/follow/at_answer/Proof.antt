@@ -2,7 +2,7 @@
 -- Assumes nothing.
 use borrow.Author.Tests.{eq-eqb, ne-eqb}
 use borrow.Author.Needs.{needs}
-use mathlib.Core.Path.{_≡_, sym, _∙_}
+use mathlib.Core.Path.{sym, _∙_}
 use Rattle.slices.proofs.Choice.{pick-yes, pick-no}
 use Rattle.judge_follow.specs.Following.{atAnswer}
 use Rattle.judge_follow.proofs.follow.at_answer.Statement.{statement}

@@ -1,11 +1,9 @@
 -- `follow::at_command` meets its contract: the kind first, and then every byte of the command.
 -- Assumes nothing.
-use mathlib.Core.Path.{_≡_, refl, sym, ap, _∙_}
-use mathlib.Core.List.{List, [], _∷_}
-use Prim.Native.Nat.{ℕ}
-use lib.ListN.{length, take, drop}
+use mathlib.Core.Path.{sym, ap, _∙_}
+use lib.ListN.{take}
 use borrow.Author.Needs.{needs}
-use Rattle.judge_stages.specs.declared.Stage.the-variants.{Answer, Done, Closed, Broken}
+use Rattle.judge_stages.specs.declared.Stage.the-variants.{Answer, Broken}
 use Rattle.slices.specs.Tests.{alike}
 use Rattle.tape_read.specs.Entries.{command}
 use Rattle.judge_follow.specs.Following.{staged, atCommand}

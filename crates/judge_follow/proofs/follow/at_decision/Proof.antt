@@ -1,10 +1,8 @@
 -- `follow::at_decision` meets its contract: the kind first, and then all nine bytes.
 -- Assumes nothing.
-use mathlib.Core.Path.{_≡_, refl, sym, ap, _∙_}
-use mathlib.Core.List.{List, [], _∷_}
-use Prim.Native.Nat.{ℕ}
+use mathlib.Core.Path.{sym, ap, _∙_}
 use borrow.Author.Needs.{needs}
-use Rattle.judge_stages.specs.declared.Stage.the-variants.{Answer, Done, Closed, Broken}
+use Rattle.judge_stages.specs.declared.Stage.the-variants.{Done, Broken}
 use Rattle.slices.specs.Tests.{alike}
 use Rattle.session_state.specs.Results.{decisionIn}
 use Rattle.tape_read.specs.Entries.{decision}

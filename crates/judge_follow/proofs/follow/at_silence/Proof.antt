@@ -1,13 +1,11 @@
 -- `follow::at_silence` meets its contract: the kind first, and then the payload.
 -- Assumes nothing.
-use mathlib.Core.Path.{_≡_, refl, sym, ap, _∙_}
-use mathlib.Core.List.{List, [], _∷_}
-use Prim.Native.Nat.{ℕ}
+use mathlib.Core.Path.{_∙_}
 use lib.Dec.{eqb}
 use lib.ListN.{length}
 use borrow.Author.Tests.{eq-eqb, ne-eqb}
 use borrow.Author.Needs.{needs}
-use Rattle.judge_stages.specs.declared.Stage.the-variants.{Answer, Done, Closed, Broken}
+use Rattle.judge_stages.specs.declared.Stage.the-variants.{Closed, Broken}
 use Rattle.tape_read.specs.Entries.{silence}
 use Rattle.judge_follow.specs.Following.{staged, atSilence}
 use Rattle.judge_follow.proofs.Deciding.{other-kind, test-fails, test-holds}

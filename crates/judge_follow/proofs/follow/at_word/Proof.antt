@@ -1,6 +1,6 @@
 -- `follow::at_word` meets its contract: each arm is the definition's by what the session waits for.
 -- Assumes nothing.
-use mathlib.Core.Path.{_≡_, sym, ap, _∙_}
+use mathlib.Core.Path.{sym, ap, _∙_}
 use borrow.Author.Needs.{needs}
 use Rattle.session_phase.specs.declared.Waiting.{Waiting}
 use Rattle.judge_follow.specs.Following.{wordAt}

@@ -1,6 +1,6 @@
 -- `follow::begin` meets its contract.
 -- Assumes nothing.
-use mathlib.Core.Path.{_≡_, refl, sym, ap, _∙_}
+use mathlib.Core.Path.{ap}
 use borrow.Author.Needs.{needs}
 use Rattle.session_state.specs.declared.State.{State}
 use Rattle.slices.specs.Writing.{zeros}

@@ -2,7 +2,7 @@
 -- Assumes nothing.
 use borrow.Author.Needs.{needs}
 use borrow.Author.Tests.{not-true, not-false}
-use mathlib.Core.Path.{_≡_, sym, _∙_}
+use mathlib.Core.Path.{sym, _∙_}
 use Rattle.session_phase.specs.Waiting.{kindOf}
 use Rattle.session_phase.specs.Saying.{allowedBy}
 use Rattle.judge_stages.specs.declared.Stage.the-variants.{Broken}

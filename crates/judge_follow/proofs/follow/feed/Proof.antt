@@ -1,6 +1,6 @@
 -- `follow::feed` meets its contract: a block that is not good changes nothing, and each arm is the definition's at that stage.
 -- Assumes nothing.
-use mathlib.Core.Path.{_≡_, sym, ap, _∙_}
+use mathlib.Core.Path.{sym, ap, _∙_}
 use borrow.Author.Tests.{not-true, not-false}
 use borrow.Author.Needs.{needs}
 use Rattle.slices.proofs.Choice.{pick-yes, pick-no}

@@ -1,6 +1,6 @@
 -- `follow::stage_of` meets its contract: each arm is the definition's at that reply.
 -- Assumes nothing.
-use mathlib.Core.Path.{_≡_, refl, sym, ap, _∙_}
+use mathlib.Core.Path.{sym, ap}
 use borrow.Author.Needs.{needs}
 use Rattle.judge_follow.specs.Following.{stageOf}
 use Rattle.judge_follow.proofs.follow.stage_of.Statement.{statement}

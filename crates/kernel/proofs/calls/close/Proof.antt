@@ -1,6 +1,6 @@
 -- `calls::close` meets its contract: only what is waited for is another.
 -- Assumes nothing.
-use mathlib.Core.Path.{_≡_, refl}
+use mathlib.Core.Path.{refl}
 use borrow.Author.Needs.{needs}
 use Rattle.kernel.specs.Calls.{closedState}
 use Rattle.kernel.proofs.calls.close.Statement.{statement}

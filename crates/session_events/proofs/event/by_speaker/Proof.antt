@@ -1,6 +1,6 @@
 -- `event::by_speaker` meets its contract: each arm is the definition's at that speaker.
 -- Assumes nothing.
-use mathlib.Core.Path.{_≡_, sym, ap, _∙_}
+use mathlib.Core.Path.{sym, ap, _∙_}
 use borrow.Author.Needs.{needs}
 use Rattle.rulebook.specs.Turn.{after}
 use Rattle.session_phase.specs.declared.Speaker.{Speaker}

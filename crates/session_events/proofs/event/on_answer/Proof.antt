@@ -1,6 +1,6 @@
 -- `event::on_answer` meets its contract: each arm is the definition's at that question.
 -- Assumes nothing.
-use mathlib.Core.Path.{_≡_, sym, ap, _∙_}
+use mathlib.Core.Path.{sym, ap, _∙_}
 use borrow.Author.Needs.{needs}
 use Rattle.session_phase.specs.declared.Question.{Question}
 use Rattle.session_state.specs.Reading.{askedBy}

@@ -1,6 +1,6 @@
 -- `event::on_start` meets its contract: SELECT is written, and everything but START's bytes begins anew.
 -- Assumes nothing.
-use mathlib.Core.Path.{_≡_, refl, sym, ap, _∙_}
+use mathlib.Core.Path.{refl}
 use borrow.Author.Needs.{needs}
 use Rattle.slices.specs.Writing.{zeros}
 use Rattle.start_fields.specs.Reading.{readingOf}

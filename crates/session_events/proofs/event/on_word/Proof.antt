@@ -1,6 +1,6 @@
 -- `event::on_word` meets its contract: each arm is the rulebook's at that word.
 -- Assumes nothing.
-use mathlib.Core.Path.{_≡_, sym, ap, _∙_}
+use mathlib.Core.Path.{sym, ap, _∙_}
 use borrow.Author.Needs.{needs}
 use Rattle.words.specs.declared.Word.{Word}
 use Rattle.rulebook.specs.Phase.{says}

@@ -1,6 +1,6 @@
 -- `event::reply_made` meets its contract: what is no reply counts as unable.
 -- Assumes nothing.
-use mathlib.Core.Path.{_≡_, sym, ap, _∙_}
+use mathlib.Core.Path.{sym, ap, _∙_}
 use borrow.Author.Needs.{needs}
 use Rattle.rulebook.specs.Turn.{replyMade}
 use Rattle.session_events.proofs.event.reply_made.Statement.{statement}

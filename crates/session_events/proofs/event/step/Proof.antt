@@ -1,6 +1,6 @@
 -- `event::step` meets its contract: each arm is the definition's by what is waited for.
 -- Assumes nothing.
-use mathlib.Core.Path.{_≡_, sym, ap, _∙_}
+use mathlib.Core.Path.{sym, ap, _∙_}
 use borrow.Author.Needs.{needs}
 use Rattle.session_phase.specs.declared.Waiting.{Waiting}
 use Rattle.session_moves.proofs.Moving.{stays}

@@ -1,6 +1,6 @@
 -- `ends::hear` meets its contract: the word's own kind is due.
 -- Assumes nothing.
-use mathlib.Core.Path.{_≡_, ap, _∙_}
+use mathlib.Core.Path.{ap, _∙_}
 use Prim.Native.Nat.{ℕ}
 use borrow.Author.Needs.{needs}
 use Rattle.session_phase.specs.declared.Speaker.the-variants.{Says}

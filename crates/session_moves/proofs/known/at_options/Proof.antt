@@ -1,9 +1,9 @@
 -- `known::at_options` meets its contract: TVR and TSI are kept before what the records told.
 -- Assumes nothing.
-use mathlib.Core.Path.{_≡_, refl, sym, ap, _∙_}
+use mathlib.Core.Path.{ap, _∙_}
 use mathlib.Core.List.{List}
 use Prim.Native.Nat.{ℕ, _-_}
-use lib.ListN.{length, take, drop}
+use lib.ListN.{take, drop}
 use borrow.Author.Needs.{needs}
 use Rattle.slices.specs.Writing.{laid, zeros}
 use Rattle.session_records.specs.Slots.{end, full, toldIn, keptIn}

@@ -1,6 +1,6 @@
 -- `known::at_second` meets its contract: the response code is kept beside what is known before.
 -- Assumes nothing.
-use mathlib.Core.Path.{_≡_, refl, sym, ap, _∙_}
+use mathlib.Core.Path.{_≡_, ap, _∙_}
 use lib.ListN.{length}
 use borrow.Author.Needs.{needs}
 use Rattle.session_records.specs.Slots.{toldIn, keptIn}

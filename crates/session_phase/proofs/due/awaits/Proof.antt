@@ -1,6 +1,6 @@
 -- `awaits` meets its contract: each arm is the definition's there.
 -- Assumes nothing.
-use mathlib.Core.Path.{_≡_, sym, ap, _∙_}
+use mathlib.Core.Path.{sym, ap, _∙_}
 use borrow.Author.Needs.{needs}
 use Rattle.session_phase.specs.Waiting.{awaited}
 use Rattle.session_phase.proofs.due.awaits.Statement.{statement}

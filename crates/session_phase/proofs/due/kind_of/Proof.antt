@@ -1,6 +1,6 @@
 -- `kind_of` meets its contract: each arm is the definition's at that speaker.
 -- Assumes nothing.
-use mathlib.Core.Path.{_≡_, sym, ap, _∙_}
+use mathlib.Core.Path.{sym, ap, _∙_}
 use borrow.Author.Needs.{needs}
 use Rattle.session_phase.specs.Waiting.{kindOf}
 use Rattle.session_phase.proofs.due.kind_of.Statement.{statement}

@@ -1,6 +1,6 @@
 -- `outcome` meets its contract: each arm is the definition's there.
 -- Assumes nothing.
-use mathlib.Core.Path.{_≡_, sym, ap}
+use mathlib.Core.Path.{sym, ap}
 use borrow.Author.Needs.{needs}
 use Rattle.session_phase.specs.Waiting.{outcomeOf}
 use Rattle.session_phase.proofs.due.outcome.Statement.{statement}

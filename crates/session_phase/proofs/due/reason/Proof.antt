@@ -1,6 +1,6 @@
 -- `reason` meets its contract: each arm is the definition's there.
 -- Assumes nothing.
-use mathlib.Core.Path.{_≡_, sym, ap}
+use mathlib.Core.Path.{sym, ap}
 use borrow.Author.Needs.{needs}
 use Rattle.session_phase.specs.Waiting.{reasonOf}
 use Rattle.session_phase.proofs.due.reason.Statement.{statement}

@@ -1,6 +1,6 @@
 -- `results_due` meets its contract: each arm is the definition's there.
 -- Assumes nothing.
-use mathlib.Core.Path.{_≡_, sym, ap, _∙_}
+use mathlib.Core.Path.{sym, ap, _∙_}
 use borrow.Author.Needs.{needs}
 use Rattle.session_phase.specs.Waiting.{resultsIn}
 use Rattle.session_phase.proofs.due.results_due.Statement.{statement}

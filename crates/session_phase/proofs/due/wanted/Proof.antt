@@ -1,6 +1,6 @@
 -- `wanted` meets its contract: each arm is the definition's at that speaker.
 -- Assumes nothing.
-use mathlib.Core.Path.{_≡_, sym, ap}
+use mathlib.Core.Path.{sym, ap}
 use borrow.Author.Needs.{needs}
 use Rattle.session_phase.specs.Waiting.{wantedOf}
 use Rattle.session_phase.proofs.due.wanted.Statement.{statement}

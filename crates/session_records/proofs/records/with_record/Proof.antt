@@ -1,15 +1,12 @@
 -- `records::with_record` meets its contract.
 -- Assumes nothing.
-use mathlib.Core.Path.{_≡_, refl, sym, ap, _∙_}
-use mathlib.Core.List.{List}
-use Prim.Native.Nat.{ℕ}
+use mathlib.Core.Path.{_≡_, sym, ap, _∙_}
 use lib.ListN.{length}
 use borrow.Author.Needs.{needs}
 use Rattle.tlv_list.specs.Place.{placesFrom}
 use Rattle.answer_common.specs.Answer.{inside}
 use Rattle.answer_common.specs.Content.{recordTag}
 use Rattle.session_records.specs.Slots.{end, full, keptPlaces, withRecord}
-use Rattle.session_records.specs.declared.Store.{Store}
 use Rattle.session_records.proofs.Keeping.{full-all}
 use Rattle.session_records.proofs.records.with_record.Statement.{statement}
 use Rattle.session_records.proofs.records.with_record.Tie as tie

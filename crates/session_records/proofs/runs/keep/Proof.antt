@@ -2,7 +2,7 @@
 -- Assumes nothing.
 use lib.ListN.{length}
 use mathlib.Core.Bool.{true}
-use mathlib.Core.Path.{_≡_, refl, sym, ap, _∙_}
+use mathlib.Core.Path.{ap}
 use borrow.Author.Needs.{needs}
 use Rattle.slices.specs.Writing.{zeros}
 use Rattle.session_records.specs.Runs.{keptRun}

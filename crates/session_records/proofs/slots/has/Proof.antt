@@ -1,9 +1,8 @@
 -- `slots::has` meets its contract.
 -- Assumes nothing.
-use mathlib.Core.Path.{_≡_, refl, sym, ap, _∙_}
+use mathlib.Core.Path.{ap, _∙_}
 use mathlib.Core.Bool.{not}
 use lib.Dec.{eqb}
-use lib.ListN.{getD}
 use borrow.Author.Needs.{needs}
 use Rattle.slices.specs.Tests.{isSome}
 use Rattle.session_records.specs.Slots.{read, toldIn}

@@ -1,7 +1,6 @@
 -- `slots::keep` meets its contract: the value goes to its name's slot.
 -- Assumes nothing.
-use mathlib.Core.Path.{_≡_, sym, ap, _∙_}
-use native.Mathlib.Omega.{arith}
+use mathlib.Core.Path.{ap, _∙_}
 use borrow.Author.Needs.{needs}
 use Rattle.session_records.specs.Slots.{keptAt, keptIn}
 use Rattle.session_records.proofs.slots.keep.Statement.{statement}

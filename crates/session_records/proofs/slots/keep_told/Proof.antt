@@ -1,6 +1,6 @@
 -- `slots::keep_told` meets its contract: the value goes to its name's slot, where the name counts.
 -- Assumes nothing.
-use mathlib.Core.Path.{_≡_, sym, _∙_}
+use mathlib.Core.Path.{sym, _∙_}
 use borrow.Author.Needs.{needs}
 use Rattle.slices.proofs.Choice.{pick-yes, pick-no}
 use Rattle.session_records.specs.Slots.{keptTold}

@@ -1,7 +1,6 @@
 -- `slots::record_slot` meets its contract: the slot among all names.
 -- Assumes nothing.
-use mathlib.Core.Path.{_≡_, refl, sym, ap, _∙_}
-use Prim.Native.Nat.{_≤_}
+use mathlib.Core.Path.{ap}
 use native.Mathlib.Omega.{arith}
 use borrow.Author.Needs.{needs}
 use Rattle.session_records.specs.Slots.{recordSlot}

@@ -1,14 +1,13 @@
 -- `slots::slot_of` meets its contract: the session's own slots, and else the slot among what records name.
 -- Assumes nothing.
-use mathlib.Core.Path.{_≡_, refl, sym, ap, _∙_}
-use Prim.Native.Nat.{ℕ}
+use mathlib.Core.Path.{sym, ap, _∙_}
 use native.Mathlib.Omega.{arith}
 use borrow.Author.Needs.{needs}
 use borrow.Author.Tests.{ne-eqb}
 use Rattle.slices.specs.Choice.{pick}
 use Rattle.slices.proofs.Choice.{pick-no}
 use Rattle.slices.specs.Tables.{beside}
-use Rattle.session_records.specs.Slots.{nowhere, placed, recordSlot, slotFor}
+use Rattle.session_records.specs.Slots.{placed, recordSlot, slotFor}
 use Rattle.session_records.proofs.slots.slot_of.Statement.{statement}
 use Rattle.session_records.proofs.slots.slot_of.Tie as tie
 

@@ -1,7 +1,7 @@
 -- `slots::value` meets its contract.
 -- Assumes nothing.
-use mathlib.Core.Path.{_≡_, refl, sym, ap, _∙_}
-use mathlib.Core.List.{List, []}
+use mathlib.Core.Path.{sym, ap, _∙_}
+use mathlib.Core.List.{[]}
 use mathlib.Core.Option.{Option·getD}
 use Prim.Native.Nat.{ℕ, _-_}
 use lib.ListN.{getD, take, drop}

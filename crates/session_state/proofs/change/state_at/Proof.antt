@@ -1,6 +1,5 @@
 -- `change::state_at` meets its contract field by field.
 -- Assumes nothing.
-use mathlib.Core.Path.{_≡_, refl, sym, ap, _∙_}
 use borrow.Author.Needs.{needs}
 use Rattle.slices.specs.Writing.{zeros}
 use Rattle.session_state.specs.Keeping.{stateAt}

@@ -4,7 +4,7 @@ use mathlib.Core.List.{[], _∷_}
 use borrow.Author.Needs.{needs}
 use Rattle.answer_afl.specs.Cursor.{start}
 use Rattle.session_records.specs.Runs.{keptRun}
-use mathlib.Core.Path.{_≡_, refl, sym, ap, _∙_}
+use mathlib.Core.Path.{ap, _∙_}
 use Rattle.slices.specs.Writing.{laid, zeros}
 use Rattle.session_state.specs.Keeping.{withOptions}
 use Rattle.session_state.proofs.change.with_options.Statement.{statement}

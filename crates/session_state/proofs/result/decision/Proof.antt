@@ -1,9 +1,9 @@
 -- `result::decision` meets its contract: outcome, reason, and the bytes of TVR and TSI.
 -- Assumes nothing.
-use mathlib.Core.Path.{_≡_, refl, sym, ap, _∙_}
+use mathlib.Core.Path.{ap, _∙_}
 use mathlib.Core.List.{List, [], _∷_}
 use Prim.Native.Nat.{ℕ}
-use lib.ListN.{length, getD}
+use lib.ListN.{getD}
 use borrow.Author.Needs.{needs}
 use Rattle.session_phase.specs.Waiting.{outcomeOf, reasonOf}
 use Rattle.session_state.specs.Results.{decisionIn}

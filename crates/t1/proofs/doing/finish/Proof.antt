@@ -1,9 +1,7 @@
 -- `doing::finish` meets its contract: the block goes out, and the reply says so. Assumes nothing.
-use mathlib.Core.Path.{_≡_, refl, sym, ap, _∙_}
+use mathlib.Core.Path.{ap, _∙_}
 use Prim.Native.Nat.{ℕ}
-use lib.ListN.{length}
-use Rattle.t1_state.specs.declared.State.{State}
-use Rattle.t1.specs.Steps.{sentBy, replyTo, doneBy}
+use Rattle.t1.specs.Steps.{replyTo, doneBy}
 use Rattle.t1.specs.declared.Reply.{Reply}
 use borrow.Author.Needs.{needs}
 use Rattle.t1.proofs.doing.finish.Statement.{statement}

@@ -1,9 +1,6 @@
 -- `doing::keep` meets its contract: each arm is the definition's. Assumes nothing.
-use mathlib.Core.Path.{_≡_, refl, sym, ap, _∙_}
-use mathlib.Core.List.{List, [], _∷_}
-use Prim.Native.Nat.{ℕ}
+use mathlib.Core.Path.{sym}
 use Rattle.t1_block.proofs.Framing.{laid-nothing}
-use Rattle.t1_state.specs.declared.Act.{Act}
 use Rattle.t1_state.specs.declared.Act.the-variants.{Nothing, Send, Keep, Value, Whole, End, Refuse}
 use Rattle.t1.specs.Steps.{keptBy}
 use Rattle.t1.proofs.Laying.{kept-as}

@@ -1,8 +1,8 @@
 -- `doing::reply_of` meets its contract: each arm is the definition's. Assumes nothing.
-use mathlib.Core.Path.{_≡_, refl, sym, ap, _∙_}
+use mathlib.Core.Path.{_≡_, sym, ap}
 use Prim.Native.Nat.{ℕ}
 use Rattle.t1_state.specs.declared.Act.{Act}
-use Rattle.t1_state.specs.declared.Act.the-variants.{Nothing, Send, Keep, Value, Whole, End, Refuse}
+use Rattle.t1_state.specs.declared.Act.the-variants.{Send, Keep, Value, Whole, End, Refuse}
 use Rattle.t1.specs.Steps.{replyTo}
 use borrow.Author.Needs.{needs}
 use Rattle.t1.proofs.doing.reply_of.Statement.{statement}

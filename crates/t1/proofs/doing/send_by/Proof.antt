@@ -1,11 +1,8 @@
 -- `doing::send_by` meets its contract: each arm is the definition's. Assumes nothing.
-use mathlib.Core.Path.{_≡_, refl, sym, ap, _∙_}
-use mathlib.Core.List.{List, [], _∷_}
-use Prim.Native.Nat.{ℕ}
-use lib.ListN.{length}
+use mathlib.Core.Path.{refl, sym}
+use mathlib.Core.List.{[]}
 use Rattle.slices.specs.Writing.{laid}
 use Rattle.t1_block.proofs.Framing.{laid-nothing}
-use Rattle.t1_state.specs.declared.Act.{Act}
 use Rattle.t1_state.specs.declared.Act.the-variants.{Nothing, Send, Keep, Value, Whole, End, Refuse}
 use Rattle.t1.specs.Steps.{blockOf, sentBy}
 use Rattle.t1.proofs.Laying.{laid-as, sent-as}

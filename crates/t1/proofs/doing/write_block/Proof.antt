@@ -1,13 +1,10 @@
 -- `doing::write_block` meets its contract: each arm is the definition's. Assumes nothing.
-use mathlib.Core.Path.{_≡_, refl, sym, ap, _∙_}
-use mathlib.Core.List.{List, [], _∷_}
+use mathlib.Core.Path.{refl, sym, ap, _∙_}
+use mathlib.Core.List.{[], _∷_}
 use Prim.Native.Nat.{ℕ}
-use lib.ListN.{length}
 use Rattle.slices.specs.Writing.{laid}
-use mathlib.Core.Bool.{true, false}
 use Rattle.t1_block.proofs.Framing.{laid-nothing}
-use Rattle.t1_block.specs.Blocks.{pcbOfS, written}
-use Rattle.t1_state.specs.declared.Last.{Last}
+use Rattle.t1_block.specs.Blocks.{written}
 use Rattle.t1_state.specs.declared.Last.the-variants.{Nothing, Information, Ready, Request, Response}
 use Rattle.t1.specs.Steps.{blockFor}
 use Rattle.t1.proofs.Laying.{laid-as, block-as}

@@ -1,9 +1,6 @@
 -- `doing::write_information` meets its contract: the piece that is out, under its number. Assumes nothing.
-use mathlib.Core.Path.{_≡_, refl, sym, ap, _∙_, ap₂}
-use mathlib.Core.List.{List, [], _∷_}
-use mathlib.Core.Bool.{Bool, not}
-use Prim.Native.Nat.{ℕ}
-use lib.ListN.{length}
+use mathlib.Core.Path.{ap, _∙_, ap₂}
+use mathlib.Core.Bool.{not}
 use Rattle.slices.specs.Writing.{laid}
 use Rattle.t1_block.specs.Blocks.{pcbOfI, written}
 use Rattle.t1.specs.Steps.{blockFor}

@@ -1,12 +1,11 @@
 -- `faults::field_fault` meets its contract: each arm is the definition's. Assumes nothing.
-use mathlib.Core.Path.{_≡_, refl, sym, ap, _∙_}
+use mathlib.Core.Path.{_≡_, sym, ap, _∙_}
 use Prim.Native.Nat.{ℕ}
 use lib.Dec.{eqb}
 use Rattle.slices.specs.Choice.{pick}
 use Rattle.t1_block.specs.Faults.{fieldFault}
 use Rattle.t1_block.specs.declared.Kind.{Kind}
 use Rattle.t1_block.specs.declared.Kind.the-variants.{Information, Ready, Request, Response, NoKind}
-use Rattle.t1_block.specs.declared.Fault.{Fault}
 use Rattle.t1_block.specs.declared.Fault.the-variants.{Sound, Inf}
 use borrow.Author.Needs.{needs}
 use Rattle.t1_block.proofs.faults.field_fault.Statement.{statement}

@@ -4,7 +4,6 @@ use borrow.Author.Tests.{eq-eqb, ne-eqb}
 use Rattle.slices.proofs.Choice.{pick-yes, pick-no}
 use Rattle.t1_block.specs.Blocks.{kindOf}
 use Rattle.t1_block.specs.Faults.{faultOf, codeOf, heardOf}
-use Rattle.t1_block.specs.declared.Fault.{Fault}
 use Rattle.t1_block.specs.declared.Heard.the-variants.{Valid, Bad}
 use borrow.Author.Needs.{needs}
 use Rattle.t1_block.proofs.faults.hear.Statement.{statement}

@@ -3,13 +3,11 @@ use mathlib.Core.Path.{_≡_, sym, ap, _∙_}
 use Prim.Native.Nat.{ℕ, _/_}
 use lib.Dec.{eqb}
 use borrow.Author.Tests.{eq-eqb, ne-eqb}
-use borrow.Author.Needs.{needs}
 use Rattle.slices.specs.Choice.{pick}
 use Rattle.slices.specs.Tables.{beside}
 use Rattle.slices.proofs.Choice.{pick-yes, pick-no}
 use Rattle.slices.proofs.Tables.{beside-none}
 use Rattle.t1_block.specs.Blocks.{kinds, kindOf}
-use Rattle.t1_block.specs.declared.Kind.{Kind}
 use Rattle.t1_block.specs.declared.Kind.the-variants.{NoKind}
 use Rattle.t1_block.proofs.kinds.kind_of.Statement.{statement}
 use Rattle.t1_block.proofs.kinds.kind_of.Tie as tie

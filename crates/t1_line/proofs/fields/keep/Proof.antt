@@ -1,5 +1,5 @@
 -- `fields::keep` meets its contract: acknowledged, or the last of its message. Assumes nothing.
-use mathlib.Core.Path.{_≡_, sym, ap, _∙_}
+use mathlib.Core.Path.{sym, ap, _∙_}
 use Prim.Native.Nat.{_+_}
 use Rattle.slices.proofs.Choice.{pick-yes, pick-no}
 use Rattle.t1_state.specs.Changes.{atPhase, withReceived}

@@ -1,5 +1,4 @@
 -- `pieces::behind` meets its contract: the sum is below the message's length. Assumes nothing.
-use mathlib.Core.Path.{_≡_}
 use Prim.Native.Nat.{_+_, _<_}
 use native.Mathlib.Omega.{arith}
 use borrow.Author.Tests.{ltb-true}

@@ -1,5 +1,5 @@
 -- `pieces::on_ready` meets its contract: each answer is a line of the definition. Assumes nothing.
-use mathlib.Core.Path.{_≡_, sym, ap, _∙_}
+use mathlib.Core.Path.{sym, ap, _∙_}
 use Rattle.slices.proofs.Choice.{pick-yes, pick-no}
 use Rattle.t1_again.specs.Again.{goesOut}
 use Rattle.t1_line.specs.Line.{onReady}

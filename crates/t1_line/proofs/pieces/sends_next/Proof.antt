@@ -1,5 +1,5 @@
 -- `pieces::sends_next` meets its contract: the piece behind the one that is out. Assumes nothing.
-use mathlib.Core.Path.{_≡_, ap, _∙_}
+use mathlib.Core.Path.{ap, _∙_}
 use Prim.Native.Nat.{ℕ}
 use Rattle.t1_state.specs.Limits.{pieceAt}
 use Rattle.t1_state.specs.declared.Message.{Message}

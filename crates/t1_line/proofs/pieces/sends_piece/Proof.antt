@@ -1,5 +1,5 @@
 -- `pieces::sends_piece` meets its contract: numbers, message, phase and last block, one after the other. Assumes nothing.
-use mathlib.Core.Path.{_≡_, ap, _∙_}
+use mathlib.Core.Path.{ap, _∙_}
 use Rattle.t1_state.specs.Changes.{atPhase, sending, withMessage}
 use Rattle.t1_state.specs.declared.Phase.the-variants.{Sent}
 use Rattle.t1_state.specs.declared.Last.the-variants.{Information}

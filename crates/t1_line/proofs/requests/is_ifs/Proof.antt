@@ -1,9 +1,8 @@
 -- `requests::is_ifs` meets its contract: the two limits. Assumes nothing.
-use mathlib.Core.Path.{_≡_, refl, sym, ap, _∙_}
-use mathlib.Core.List.{[], _∷_}
+use mathlib.Core.Path.{refl, sym, _∙_}
 use lib.Dec.{leb}
 use borrow.Author.Tests.{le-leb, lt-leb}
-use Rattle.slices.specs.Tests.{every, between}
+use Rattle.slices.specs.Tests.{between}
 use Rattle.slices.proofs.Tests.{held, failed, last}
 use Rattle.t1_line.specs.Line.{isIfs}
 use Rattle.t1_line.proofs.requests.is_ifs.Statement.{statement}

@@ -1,8 +1,7 @@
 -- `requests::on_size` meets its contract: a size that may be, or not. Assumes nothing.
-use mathlib.Core.Path.{_≡_, sym, ap, _∙_}
+use mathlib.Core.Path.{sym, ap, _∙_}
 use Rattle.slices.proofs.Choice.{pick-yes, pick-no}
 use Rattle.t1_block.specs.declared.What.the-variants.{Ifs}
-use Rattle.t1_state.specs.declared.State.{State}
 use Rattle.t1_line.specs.Line.{answers, onRequest}
 use borrow.Author.Needs.{needs}
 use Rattle.t1_line.proofs.requests.on_size.Statement.{statement}

@@ -1,10 +1,9 @@
 -- `limits::more_of` meets its contract: the piece ends before the message does. Assumes nothing.
-use mathlib.Core.Path.{_≡_, sym, _∙_}
-use mathlib.Core.Bool.{Bool}
-use Prim.Native.Nat.{ℕ, _+_, _-_, _<_, _≤_}
+use mathlib.Core.Path.{sym}
+use Prim.Native.Nat.{_+_, _-_}
 use native.Mathlib.Omega.{arith}
 use lib.Dec.{ltb}
-use borrow.Author.Tests.{le-ltb, lt-ltb}
+use borrow.Author.Tests.{le-ltb}
 use Rattle.t1_state.specs.Limits.{moreOf}
 use Rattle.t1_state.proofs.Comparing.{less-by}
 use borrow.Author.Needs.{needs}

@@ -1,7 +1,6 @@
 -- `limits::piece_at` meets its contract: as much as is left, and no more than the other end takes. Assumes nothing.
-use mathlib.Core.Path.{_≡_, ap, ap₂, _∙_}
+use mathlib.Core.Path.{ap, ap₂, _∙_}
 use Prim.Native.Nat.{ℕ, min}
-use Rattle.t1_state.specs.declared.Message.{Message}
 use borrow.Author.Needs.{needs}
 use Rattle.t1_state.proofs.limits.piece_at.Statement.{statement}
 use Rattle.t1_state.proofs.limits.piece_at.Tie as tie

@@ -1,7 +1,6 @@
 -- `ours::ask_when_due` meets its contract: by the role. Assumes nothing.
-use mathlib.Core.Path.{_≡_, _∙_}
+use mathlib.Core.Path.{_∙_}
 use Rattle.t1_state.specs.declared.Role.the-variants.{Terminal, Card}
-use Rattle.t1_state.specs.declared.Turn.{Turn}
 use Rattle.t1_again.specs.Again.{forRole}
 use Rattle.t1_again.proofs.Roles.{by-role}
 use Rattle.t1_turns.specs.Turns.{askIn}

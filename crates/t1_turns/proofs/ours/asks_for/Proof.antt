@@ -1,5 +1,5 @@
 -- `ours::asks_for` meets its contract: phase and last block, one after the other. Assumes nothing.
-use mathlib.Core.Path.{_≡_, sym, ap, _∙_}
+use mathlib.Core.Path.{ap, _∙_}
 use Rattle.t1_state.specs.Changes.{sending}
 use Rattle.t1_state.specs.declared.Last.the-variants.{Request}
 use Rattle.t1_state.specs.declared.State.{State}

@@ -1,5 +1,5 @@
 -- `ours::card_asks` meets its contract: what may be asked for, or not. Assumes nothing.
-use mathlib.Core.Path.{_≡_, sym, ap, _∙_}
+use mathlib.Core.Path.{sym, ap, _∙_}
 use Rattle.slices.proofs.Choice.{pick-yes, pick-no}
 use Rattle.t1_again.specs.Again.{goesOut}
 use Rattle.t1_turns.specs.Turns.{cardAsks}

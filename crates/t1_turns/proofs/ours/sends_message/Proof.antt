@@ -1,6 +1,5 @@
 -- `ours::sends_message` meets its contract: a message that may be, or not. Assumes nothing.
-use mathlib.Core.Path.{_≡_, sym, ap, _∙_, refl}
-use mathlib.Core.List.{[], _∷_}
+use mathlib.Core.Path.{sym, ap, _∙_, refl}
 use borrow.Author.Tests.{le-leb, lt-leb}
 use Rattle.slices.specs.Tests.{between}
 use Rattle.slices.proofs.Choice.{pick-yes, pick-no}

@@ -1,6 +1,6 @@
 -- `head::length_of` meets its contract: by the definition's tests of the length byte, one after the other.
 -- Assumes nothing.
-use mathlib.Core.Path.{_≡_, _∙_, sym, ap, ap₂}
+use mathlib.Core.Path.{_∙_, sym, ap, ap₂}
 use Prim.Native.Nat.{ℕ, _+_, _*_}
 use native.Mathlib.Nat.{add-assoc}
 use lib.ListN.{getD}
@@ -9,7 +9,7 @@ use borrow.Author.Tests.{lt-ltb, le-ltb, eq-eqb, ne-eqb}
 use borrow.Author.Needs.{needs}
 use native.Mathlib.Omega.{arith}
 use Rattle.slices.proofs.Choice.{pick-yes, pick-no}
-use Rattle.tlv_head.specs.Head.{lengthOf, lengthByte, tagSize}
+use Rattle.tlv_head.specs.Head.{lengthOf}
 use Rattle.tlv_head.proofs.head.length_of.Statement.{statement}
 use Rattle.tlv_head.proofs.head.length_of.Tie as tie
 

@@ -13,7 +13,6 @@ use Rattle.slices.proofs.Choice.{pick-yes, pick-no}
 use Rattle.tlv_head.specs.Head.{tagOf, tagRight, tagSize, twoBytes, lengthByte, lengthForm}
 use Rattle.tlv_head.specs.Head.{lengthSize, lengthOf, valueStart, valueEnd, whole}
 use Rattle.tlv_head.specs.Member.{memberAt}
-use Rattle.tlv_head.specs.declared.Next.{Next}
 use Rattle.tlv_head.specs.declared.Next.the-variants.{Member, Broken}
 use Rattle.tlv_head.proofs.head.member_at.Statement.{statement}
 use Rattle.tlv_head.proofs.head.member_at.Tie as tie

@@ -1,9 +1,8 @@
 -- `lookup::first_from` meets its contract. The loop's invariant: the first with the tag from p on is the first from `at` on.
 -- Assumes nothing.
 use mathlib.Core.Path.{_≡_, refl, sym, ap, _∙_}
-use mathlib.Core.Bool.{true, false}
 use mathlib.Core.List.{List}
-use Prim.Native.Nat.{ℕ, _-_, _≤_}
+use Prim.Native.Nat.{ℕ, _-_}
 use lib.ListN.{length}
 use borrow.Author.Tests.{eq-eqb, ne-eqb}
 use Rattle.slices.proofs.Choice.{pick-yes, pick-no}
@@ -11,7 +10,6 @@ use Rattle.tlv_list.specs.Place.{nextAt, placesFrom, follow}
 use Rattle.tlv_list.specs.Lookup.{firstAmong, firstFrom}
 use Rattle.tlv_head.specs.declared.Next.{Next}
 use Rattle.tlv_head.specs.declared.Next.the-variants.{Member, End, Broken}
-use Rattle.tlv_list.specs.declared.Found.{Found}
 use Rattle.tlv_list.specs.declared.Found.the-variants.{Absent, Once}
 use Rattle.tlv_list.proofs.Reading.{next-ahead, next-end}
 use Rattle.tlv_list.proofs.Walking.{places-next}

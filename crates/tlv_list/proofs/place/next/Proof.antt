@@ -9,7 +9,6 @@ use borrow.Author.Tests.{le-leb, lt-leb}
 use Rattle.slices.proofs.Choice.{pick-yes, pick-no}
 use Rattle.tlv_list.specs.Place.{fillers, nextAt}
 use Rattle.tlv_head.specs.Member.{memberAt}
-use Rattle.tlv_head.specs.declared.Next.{Next}
 use Rattle.tlv_head.specs.declared.Next.the-variants.{End}
 use Rattle.tlv_list.proofs.Reading.{next-end}
 use borrow.Author.Needs.{needs}

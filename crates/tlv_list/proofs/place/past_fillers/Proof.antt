@@ -1,8 +1,7 @@
 -- `place::past_fillers` meets its contract. The loop's invariant: from i on there are as many '00' bytes less as have been passed.
 -- Assumes nothing.
-use mathlib.Core.Path.{_≡_, refl, sym, ap, _∙_}
-use mathlib.Core.List.{List}
-use Prim.Native.Nat.{ℕ, _+_, _-_, _≤_, _<_}
+use mathlib.Core.Path.{_≡_, refl, sym, _∙_}
+use Prim.Native.Nat.{_+_, _-_, _≤_}
 use lib.ListN.{length, drop}
 use Rattle.tlv_list.specs.Place.{fillers}
 use Rattle.tlv_list.proofs.Fillers.{fillers-pass, fillers-stop, fillers-end}
