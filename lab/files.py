@@ -37,12 +37,17 @@ def state(descriptor):
     return known.st_dev, known.st_ino, known.st_size, known.st_mtime_ns, known.st_ctime_ns
 
 
+BLOCK = 512
+# The kinds of a tape's entries (01, "The tape"; 02, R-7), by number.
+ENTRY_KINDS = ("", "START", "COMMAND", "ANSWER", "SILENCE", "HOST", "DECISION", "RESULTS")
+
+
 class Copy:
     """A place for the bytes of one file at a time, which another process can open by name."""
 
     def __init__(self):
         self.memory = os.memfd_create("tape", os.MFD_CLOEXEC) if hasattr(os, "memfd_create") else None
-        self.disk = None
+        self.disk = self.taken = None
 
     def place(self, size):
         if self.memory is not None and size <= LARGE:
@@ -57,6 +62,7 @@ class Copy:
         try:
             before = state(descriptor)
             size, place = before[2], self.place(before[2])
+            self.taken = place
             os.ftruncate(place, 0)
             os.lseek(place, 0, os.SEEK_SET)
             digest, done, head = hashlib.sha256(), 0, b""
@@ -79,6 +85,12 @@ class Copy:
         finally:
             os.close(descriptor)
         return size, digest.hexdigest(), head, b"/proc/%d/fd/%d" % (os.getpid(), place)
+
+    def entry(self, index):
+        """The entry in a block of the tape that was taken, for display: the judge has read it."""
+        block = os.pread(self.taken, BLOCK, index * BLOCK)
+        kind = ENTRY_KINDS[block[8]] if block[8] < len(ENTRY_KINDS) else f"kind {block[8]}"
+        return {"kind": kind, "bytes": block[12:12 + int.from_bytes(block[10:12], "big")].hex().upper()}
 
     def close(self):
         if self.memory is not None:

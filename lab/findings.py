@@ -13,6 +13,8 @@ COUNTS = re.compile(rb"PASS " + NUMBER + rb" FAIL " + NUMBER + rb" INCONCLUSIVE 
 GOOD = re.compile(rb"good " + NUMBER + rb"\n")
 REFUSED = re.compile(rb"refused " + NUMBER + rb" (too long|torn|check|number|verdict|zeros|twice)\n")
 BLOCK = re.compile(rb"BLOCK " + NUMBER + b" " + NUMBER + b" " + NUMBER + b" " + NUMBER + rb" (-|(?:[0-9A-F]{2})+)\n")
+DUE = re.compile(rb"DUE " + NUMBER + rb" ([A-Z]+)(?: ([0-9A-F]+))?\n")
+COUNTED = (b"RESULTS",)
 END = re.compile(rb"END " + NUMBER + b" " + NUMBER + rb"\n")
 REPLIES = (b"entered\n", b"no verdict\n", b"no number\n", b"already entered\n", b"full\n")
 
@@ -43,6 +45,17 @@ def finding(line):
     """The judge's line, or None where it is not one."""
     found = JUDGED.fullmatch(line)
     return found and Finding(found.group(1).decode(), *(int(found.group(k)) for k in (2, 3, 4)))
+
+
+def due(line, index):
+    """What is due at an entry, from the program's line of it: its kind, and its bytes or how many are wanted; None where it is no such line."""
+    found = DUE.fullmatch(line)
+    if not found or int(found.group(1)) != index:
+        return None
+    kind, value = found.group(2), found.group(3)
+    if value is None:
+        return {"kind": kind.decode()}
+    return {"kind": kind.decode(), "count": int(value)} if kind in COUNTED else {"kind": kind.decode(), "bytes": value.decode()}
 
 
 def entry(line):

@@ -24,13 +24,15 @@ class Judged(NamedTuple):
     finding: Optional[findings.Finding] = None
     error: Optional[str] = None
     known: bool = False
+    due: Optional[dict] = None
+    stood: Optional[dict] = None
 
 
 class Judge:
     """One `lab_tapes` with a place for the tape at hand."""
 
-    def __init__(self, words):
-        self.words, self.copy, self.talk = words, files.Copy(), None
+    def __init__(self, words, with_due=False):
+        self.words, self.copy, self.talk, self.with_due = words, files.Copy(), None, with_due
 
     def judge(self, name, number, known):
         """`known` is asked, with name, number and sha256, whether the finding is there already."""
@@ -62,7 +64,21 @@ class Judge:
         if found is None:
             return have._replace(error="no verdict: not a line of the judge's")
         session = None if found.verdict == "UNREADABLE" else have.session
-        return have._replace(finding=found, session=session)
+        have = have._replace(finding=found, session=session)
+        return self.followed(have, place, answer) if self.with_due and found.verdict in ("FAIL", "INCONCLUSIVE") else have
+
+    def followed(self, have, place, verdict):
+        """The same with what was due where the tape fails or ends, and what stood there; behind a closing silence, what it was the silence of.
+        The program judges the tape once more; where it does not say the same, there is no finding."""
+        line, told = self.talk.ask(b"DUE " + place + b"\n"), []
+        while line.startswith(b"DUE "):
+            told.append(findings.due(line, len(told)))
+            line = self.talk.more()
+        if line != verdict or None in told or len(told) != have.finding.place + 1:
+            return have._replace(finding=None, error="no verdict: what was due was not told as the verdict is")
+        if have.finding.verdict == "FAIL":
+            return have._replace(due=told[-1], stood=self.copy.entry(have.finding.place))
+        return have._replace(due=told[-2] if told[-1]["kind"] == "NOTHING" else told[-1])
 
     def close(self):
         if self.talk is not None:
@@ -73,12 +89,12 @@ class Judge:
 class Judges:
     """Judges side by side."""
 
-    def __init__(self, jobs=None, known=None):
+    def __init__(self, jobs=None, known=None, with_due=False):
         [words] = programs.ready(PROGRAM)
         self.count = jobs or os.cpu_count() or 1
         self.known = known
         self.free = queue.SimpleQueue()
-        self.all = [Judge(words) for _ in range(self.count)]
+        self.all = [Judge(words, with_due) for _ in range(self.count)]
         for judge in self.all:
             self.free.put(judge)
         self.threads = concurrent.futures.ThreadPoolExecutor(self.count)

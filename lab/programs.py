@@ -277,6 +277,13 @@ class Talk:
         try:
             self.process.stdin.write(line)
             self.process.stdin.flush()
+        except OSError:
+            raise Ended(self.complaint()) from None
+        return self.more()
+
+    def more(self):
+        """One line more of an answer that has several."""
+        try:
             answer = self.process.stdout.readline()
         except OSError:
             answer = b""

@@ -22,6 +22,9 @@ def record(judged, judge):
     found = judged.finding
     values = (text(judged.name), judged.number, judged.session, judged.size, judged.sha256, *(found or ("ERROR", None, None, None)), judge)
     made = dict(zip(MEMBERS, values))
+    for member in ("due", "stood"):
+        if getattr(judged, member) is not None:
+            made[member] = getattr(judged, member)
     if judged.error:
         made["error"] = judged.error
     try:

@@ -15,8 +15,9 @@ A line a tape, in the order asked: name, verdict, place, code, and how many list
 of entries for PASS and INCONCLUSIVE, the entry that cannot be for FAIL, the block for UNREADABLE. Where a name holds a line feed or a
 backslash, the line begins with a backslash and they stand as \\n and \\\\.
 
---jsonl FILE  a JSON object a line: tape, number, session, bytes, sha256, verdict, place, code, zeros, judge. Where FILE is there it is
-              gone on with: a tape that stands in it with the same sha256 by the same judge is not judged again
+--jsonl FILE  a JSON object a line: tape, number, session, bytes, sha256, verdict, place, code, zeros, judge; of a FAIL what was due at its
+              place (due) and what stood there (stood), of an INCONCLUSIVE what was waited for (due). Where FILE is there it is gone on
+              with: a tape that stands in it with the same sha256 by the same judge is not judged again
 --junit FILE  a report for build servers: FAIL is a failure, anything else that is not PASS an error
 --jobs N      so many judges side by side; as many as processors if not said
 
@@ -86,7 +87,7 @@ class Run:
 
 def main(asked):
     jobs, names = jobs_asked(asked), names_asked(asked)
-    if False:
+    if not names:
         return voice.worse(UNDONE)
     programs.ready(judging.PROGRAM)
     lines = junit = None
@@ -95,7 +96,7 @@ def main(asked):
     if asked.get("--junit"):
         junit = reports.JUnit(asked.get("--junit"))
     run = Run(len(names), lines, junit)
-    with judging.Judges(jobs, lines and lines.finding) as judges:
+    with judging.Judges(jobs, lines and lines.finding, with_due=lines is not None) as judges:
         for some in judges.in_order(judging.with_numbers(names)):
             for judged in some:
                 run.take(judged)

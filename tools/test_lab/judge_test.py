@@ -10,6 +10,7 @@ import subprocess
 import threading
 import time
 import xml.etree.ElementTree as xml
+import zlib
 
 from trying import FAIL, INCONCLUSIVE, PASS, ROOT, SAMPLES, UNREADABLE, Trial, closed, limited, program
 
@@ -239,6 +240,31 @@ class Reports(Trial):
         self.assertEqual((third["verdict"], third["sha256"]), ("ERROR", None))
         self.assertIn("cannot be opened", third["error"])
         self.assertTrue(first["judge"])
+
+    def test_what_was_due(self):
+        """01, "The commands": SELECT names the AID of START. A wrong command, a START that cannot be, a silent card, a tape cut short."""
+        good = (SAMPLES / "approved-offline.tape").read_bytes()
+        select = "00A4040007A000000003101000"
+        self.assertEqual(good[512 + 12:512 + 12 + 13].hex().upper(), select)
+        block = bytearray(good[512:1024])
+        block[12 + 11] ^= 1
+        block[508:] = zlib.crc32(block[:508]).to_bytes(4, "big")
+        (self.folder / "wrong.tape").write_bytes(good[:512] + block + good[1024:])
+        (self.folder / "cut.tape").write_bytes(good[:1024])
+        (self.folder / "started.tape").write_bytes(good[:512])
+        names = ["wrong.tape", "cut.tape", "started.tape", str(SAMPLES / "no-such-day.tape"), str(SAMPLES / "silent-card.tape"), str(PASS)]
+        self.check(self.bin("judge", "--jsonl", "out.jsonl", *names), 1)
+        with open(self.folder / "out.jsonl", "rb") as file:
+            wrong, cut, started, start, silent, passed = [json.loads(row) for row in file]
+        self.assertEqual((wrong["verdict"], wrong["place"]), ("FAIL", 1))
+        self.assertEqual(wrong["due"], {"kind": "COMMAND", "bytes": select})
+        self.assertEqual(wrong["stood"], {"kind": "COMMAND", "bytes": select[:-4] + "1100"})
+        self.assertEqual((cut["verdict"], cut["due"]), ("INCONCLUSIVE", {"kind": "ANSWER"}))
+        self.assertEqual((started["verdict"], started["due"]), ("INCONCLUSIVE", {"kind": "COMMAND", "bytes": select}))
+        self.assertEqual((start["due"], start["stood"]["kind"]), ({"kind": "START"}, "START"))
+        self.assertEqual((silent["verdict"], silent["due"]), ("INCONCLUSIVE", {"kind": "ANSWER"}))
+        self.assertFalse({"due", "stood"} & set(passed))
+        self.assertNotIn("stood", cut)
 
     def test_it_goes_on_where_it_stopped(self):
         self.tapes("one", 40)
