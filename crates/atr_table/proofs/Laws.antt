@@ -30,10 +30,6 @@ comes-back = refl
 pub turned-twice : (b : ℕ) → b < 256 → turned (turned b) ≡ b
 turned-twice b h = eqb-true (turned (turned b)) b (at-each (λ b. eqb (turned (turned b)) b) 256 comes-back b h)
 
-pub turned-byte : (b : ℕ) → turned b < 256
-unfolding turned
-turned-byte b = omega arith
-
 -- the initial character of the inverse convention, as a line byte and as data
 pub initial : turned 0x03 ≡ 0x3F
 unfolding turned opposite

@@ -6,7 +6,7 @@ use Prim.Native.Nat.{ℕ}
 use Rattle.answer_common.specs.Content.{namesFor}
 use Rattle.answer_record.specs.Records.{namedIn}
 use Rattle.decide_cryptogram.specs.declared.Given.{Given}
-use Rattle.session_records.specs.Slots.{Facts, orElse}
+use Rattle.facts.specs.Facts.{Facts, orElse}
 use Rattle.rulebook.specs.Situation.{Situation}
 use Rattle.rulebook.specs.Phase.{Asked, selecting, optioning, reading, first, second, Phase, asks, decided}
 use Rattle.rulebook.specs.Turn.{goesOn, selected, readOn, withProfile, optioned, withRecord, recorded, answered, byFirst, firstAnswered}

@@ -21,7 +21,7 @@ use Rattle.answer_select.specs.Select.{selectNames, innerNames, nameWrong}
 use Rattle.answer_record.specs.Records.{anyAgain}
 use Rattle.decide_cryptogram.specs.Cryptograms.{givenBy, allowedBy}
 use Rattle.decide_cryptogram.specs.declared.Request.the-variants.{First, Second}
-use Rattle.session_records.specs.Slots.{orElse}
+use Rattle.facts.specs.Facts.{orElse}
 use Rattle.rulebook.specs.Phase.{Asked, selecting, optioning, reading as readingRecord, first, second, asks, decided}
 use Rattle.rulebook.specs.Turn.{goesOn, readOn, withProfile, answered, byFirst, bySecond, turn}
 use Rattle.card_seen.specs.Seen.{Shown, namedAt, Seen, seen}

@@ -5,7 +5,7 @@ use mathlib.Core.Path.{_≡_, sym, ap, _∙_}
 use mathlib.Core.List.{List}
 use Prim.Native.Nat.{ℕ}
 use Rattle.slices.specs.Tests.{isSome}
-use Rattle.session_records.specs.Slots.{orElse}
+use Rattle.facts.specs.Facts.{orElse}
 use Rattle.answer_common.specs.Content.{namesFor}
 use Rattle.answer_afl.specs.Entries.{toRead}
 use Rattle.decide_cryptogram.specs.Cryptograms.{allowedBy}

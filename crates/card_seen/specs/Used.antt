@@ -11,7 +11,7 @@ use Rattle.answer_gpo.specs.Options.{profileOf, locatorOf}
 use Rattle.answer_record.specs.Records.{namedIn}
 use Rattle.answer_cryptogram.specs.Cryptogram.{cryptogramOf}
 use Rattle.decide_cryptogram.specs.declared.Given.{Given}
-use Rattle.session_records.specs.Slots.{Facts}
+use Rattle.facts.specs.Facts.{Facts}
 use Rattle.rulebook.specs.Phase.{Asked, selecting, optioning, reading, first, second}
 
 pub data Used : Type 0 where

@@ -16,7 +16,7 @@ use Rattle.slices.proofs.Writing.{put-length, put-step, laid-fits, laid-short}
 use Rattle.start_fields.specs.Reading.{Terminal}
 use Rattle.dol_wanted.specs.Wanted.{tally, fillable, most}
 use Rattle.dol_fill.specs.Filled.{filling, filledList}
-use Rattle.session_records.specs.Slots.{Facts}
+use Rattle.facts.specs.Facts.{Facts}
 use Rattle.dol_wanted.proofs.Entries.{tally-fillable}
 use Rattle.dol_fill.proofs.Filling.{list-length}
 use Rattle.commands.specs.Commands.{dataSize, sizeIn}

@@ -17,7 +17,7 @@ use Rattle.decide_cryptogram.specs.declared.Cryptogram.{Cryptogram}
 use Rattle.decide_cryptogram.specs.declared.Cryptogram.the-variants.{Aac, Tc, Arqc}
 use Rattle.decide_tvr.specs.Bits.{joined, meet}
 use Rattle.slices.specs.Tables.{beside}
-use Rattle.session_records.specs.Slots.{Facts}
+use Rattle.facts.specs.Facts.{Facts}
 use Rattle.decide_requests.specs.Requests.{issuerCode, codeMatch, byType, firstRequest, whenUnable, secondRequest}
 use Rattle.decide_requests.specs.Replies.{codeIn, saidBy, replyOf, responseCode}
 

@@ -13,7 +13,7 @@ use Rattle.decide_requests.specs.declared.reply.HostReply.the-variants.{
 use Rattle.decide_cryptogram.specs.declared.Cryptogram.{Cryptogram}
 use Rattle.decide_cryptogram.specs.declared.Cryptogram.the-variants.{Aac, Tc, Arqc}
 use Rattle.decide_tvr.specs.Bits.{joined, meet}
-use Rattle.session_records.specs.Slots.{Facts}
+use Rattle.facts.specs.Facts.{Facts}
 
 -- the codes that the card gave, or five bytes of what stands for absent ones
 unfoldable pub issuerCode : ℕ → Option (List ℕ) → List ℕ

@@ -14,7 +14,7 @@ use Rattle.start_fields.specs.Reading.{Terminal}
 use Rattle.start_fields.specs.Bare.{bare, weighing, telling}
 use Rattle.decide_tvr.specs.Bits.{joined, flag}
 use Rattle.slices.specs.Tables.{beside}
-use Rattle.session_records.specs.Slots.{Facts}
+use Rattle.facts.specs.Facts.{Facts}
 use Rattle.decide_tvr.specs.Selection.{biased, chosen, selected}
 use Rattle.decide_tvr.specs.Results.{differentVersions, expired, notYetEffective, riskManaged, atFloorLimit, drawn}
 use Rattle.decide_tvr.specs.Results.{restrictions, risks, tvrAfterRecords, tsiAfterRecords, tsiAfterFirstAnswer}

@@ -13,7 +13,7 @@ use lib.ListN.{length, getD}
 use Rattle.slices.proofs.Choice.{picked}
 use Rattle.start_fields.specs.Reading.{Terminal}
 use Rattle.decide_tvr.specs.Bits.{joined, flag}
-use Rattle.session_records.specs.Slots.{Facts}
+use Rattle.facts.specs.Facts.{Facts}
 use Rattle.decide_tvr.specs.Results.{riskManaged, atFloorLimit, drawn, differentVersions, expired, notYetEffective}
 use Rattle.decide_tvr.specs.Results.{restrictions, risks, tvrAfterRecords, tsiAfterRecords, tsiAfterFirstAnswer}
 use Rattle.decide_tvr.proofs.Rows.{kept, joined-length, stays-at, bit-stays}

@@ -16,11 +16,6 @@ use Rattle.slices.proofs.Choice.{pick-yes, pick-no}
 use Rattle.decide_tvr.specs.Bits.{joined, meet}
 use Rattle.decide_tvr.proofs.Words.{or-assoc, and-over-or, or-zero}
 
-pub joined-nil : (a : List ℕ) → joined a [] ≡ a
-unfolding joined
-joined-nil [] = refl
-joined-nil (x ∷ a) = refl
-
 pub joined-assoc : (a b c : List ℕ) → joined (joined a b) c ≡ joined a (joined b c)
 unfolding joined
 joined-assoc [] b c = refl

@@ -13,7 +13,7 @@ use Rattle.slices.specs.Tests.{every, alike}
 use Rattle.decimal_dates.specs.Dates.{dateKey}
 use Rattle.start_fields.specs.Reading.{Terminal, amountOf, floorLimitOf}
 use Rattle.decide_tvr.specs.Bits.{joined, flag}
-use Rattle.session_records.specs.Slots.{Facts}
+use Rattle.facts.specs.Facts.{Facts}
 use Rattle.decide_tvr.specs.Selection.{selected}
 
 -- 9F08 is there and differs from the terminal's version (003, 7.4.1)

@@ -10,7 +10,7 @@ use lib.Bits.{bitOr, or-zero-r, or-shr, or-mod}
 use lib.ListN.{length, getD, take, length-take}
 use Rattle.start_fields.specs.Reading.{Terminal}
 use Rattle.answer_common.specs.Answer.{valueMost}
-use Rattle.session_records.specs.Slots.{Facts}
+use Rattle.facts.specs.Facts.{Facts}
 use Rattle.cvm_rules.specs.Bits.{verificationPerformed}
 use Rattle.cvm.specs.Lists.{rulesIn}
 use Rattle.cvm.specs.Verified.{verified}

@@ -12,7 +12,7 @@ use Rattle.slices.specs.Tests.{every, isSome}
 use Rattle.start_fields.specs.Reading.{Terminal, bytesOf, amountOf, otherAmountOf}
 use Rattle.start_fields.specs.declared.fields.Field.the-variants.{Capabilities}
 use Rattle.answer_common.specs.Answer.{valueMost}
-use Rattle.session_records.specs.Slots.{Facts}
+use Rattle.facts.specs.Facts.{Facts}
 use Rattle.cvm_rules.specs.Bits.{verificationPerformed}
 use Rattle.cvm_rules.specs.declared.Circumstances.{Circumstances}
 use Rattle.cvm.specs.Lists.{rulesIn, inApplicationCurrency}

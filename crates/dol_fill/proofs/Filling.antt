@@ -20,7 +20,7 @@ use Rattle.dol_wanted.specs.Wanted.{Wanted, andThen, sizeAt, firstWanted, entri
 use Rattle.dol_fill.specs.Filled.{entryBytes, firstBytes, filled, filledBy, filledList, filling}
 use Rattle.dol_values.specs.Known.{withFormat, supplied}
 use Rattle.dol_values.specs.Shape.{shaped}
-use Rattle.session_records.specs.Slots.{Facts}
+use Rattle.facts.specs.Facts.{Facts}
 use Rattle.answer_common.specs.declared.content.Format.{Format}
 use Rattle.answer_common.specs.declared.content.Format.the-variants.{Numeric, CardNumber, Other, Unknown}
 use Rattle.dol_wanted.proofs.Entries.{entries-more, asked, turn-some, tally-fillable}

@@ -16,7 +16,7 @@ use Rattle.slices.proofs.Choice.{pick-yes, pick-no, picked, either}
 use Rattle.slices.proofs.Cutting.{none-left}
 use Rattle.tlv_head.specs.Head.{twoBytes, tagOf, tagSize}
 use Rattle.start_fields.specs.Reading.{Terminal}
-use Rattle.session_records.specs.Slots.{Facts}
+use Rattle.facts.specs.Facts.{Facts}
 use Rattle.dol_wanted.specs.Wanted.{Wanted, andThen, firstWanted, entriesOf, fillable}
 use Rattle.dol_wanted.proofs.Entries.{entries-more, entries-empty, asked, turn-some, turn-fits, fillable-some}
 use Rattle.dol_values.specs.Known.{supplied}

@@ -11,7 +11,7 @@ use Rattle.slices.specs.Writing.{zeros}
 use Rattle.tlv_head.specs.Head.{firstByte, twoBytes, tagRight, tagSize, tagOf}
 use Rattle.start_fields.specs.Reading.{readingOf}
 use Rattle.start_fields.proofs.Sample.{sample, fullSample}
-use Rattle.session_records.specs.Slots.{Facts}
+use Rattle.facts.specs.Facts.{Facts}
 use Rattle.dol_wanted.specs.Wanted.{andThen, sizeAt, firstWanted, asks, wantedStep, entriesOf, total, fits, fillable}
 use Rattle.dol_values.specs.Shape.{shaped, formatOf}
 use Rattle.dol_values.specs.Known.{ownField, valueBy, valueFor, withFormat, supplied}

@@ -13,7 +13,7 @@ use Rattle.dol_wanted.specs.Wanted.{Wanted, sizeAt, entriesOf, fillable}
 use Rattle.dol_values.specs.Shape.{shaped}
 use Rattle.dol_values.specs.Known.{supplied}
 use Rattle.answer_common.specs.declared.content.Format.{Format}
-use Rattle.session_records.specs.Slots.{Facts}
+use Rattle.facts.specs.Facts.{Facts}
 
 -- what is not supplied is all zeros
 unfoldable pub entryBytes : ℕ → Option (Format × List ℕ) → List ℕ

@@ -8,7 +8,7 @@ use Rattle.slices.specs.Tables.{beside}
 use Rattle.slices.specs.Writing.{zeros}
 use Rattle.start_fields.specs.Reading.{readingOf}
 use Rattle.start_fields.proofs.Sample.{sample, fullSample}
-use Rattle.session_records.specs.Slots.{Facts}
+use Rattle.facts.specs.Facts.{Facts}
 use Rattle.dol_values.specs.Shape.{shaped, formatOf}
 use Rattle.dol_values.specs.Known.{ownField, valueBy, valueFor, withFormat, supplied}
 use Rattle.answer_common.specs.declared.content.Format.the-variants.{Numeric, CardNumber, Other, Unknown}

@@ -9,7 +9,7 @@ use Rattle.slices.specs.Tables.{beside}
 use Rattle.start_fields.specs.Reading.{Terminal, bytesOf}
 use Rattle.answer_common.specs.declared.content.Format.{Format}
 use Rattle.answer_common.specs.declared.content.Format.the-variants.{Numeric, CardNumber, Other, Unknown}
-use Rattle.session_records.specs.Slots.{Facts}
+use Rattle.facts.specs.Facts.{Facts}
 use Rattle.dol_values.specs.Shape.{ownTable, formatOf}
 use Rattle.dol_values.specs.declared.Own.{Own}
 use Rattle.dol_values.specs.declared.Own.the-variants.{Of, Nothing}

@@ -56,9 +56,6 @@ stands-even s es (going there) = reached-even (s .state) es there
 stands-even s es (shut c) =
     λ speaker e. absurd (let same : Closed ≡ ForWord speaker = sym (c .closed) ∙ e in let z : _≡_ {A = ℕ} 0 1 = cc same in omega arith)
 
-pub plays-even : (cs : List Call) → allBytes cs ≡ true → Even (plays cs .session .state)
-plays-even cs bytes = stands-even (plays cs .session) (plays cs .log) (stands-plays cs bytes)
-
 keeps-on : (s t u : State) → Keeps s t → Keeps t u → Keeps s u
 keeps-on s t u h k =
     record { tvr = kept-on (s .tvr) (t .tvr) (u .tvr) (h .tvr) (k .tvr); tsi = kept-on (s .tsi) (t .tsi) (u .tsi) (h .tsi) (k .tsi) }

@@ -51,14 +51,14 @@ afterAsking (reading s number file rest) = 2 + 2 * length rest + afterLast
 afterAsking (first s request) = fromFirst
 afterAsking (second s request code) = 3
 
-unfoldable pub fromWord : Word → ℕ
-fromWord Host = 4
-fromWord Results = afterLast
+unfoldable pub fromWord : Word → Situation → ℕ
+fromWord Host s = 4
+fromWord Results s = afterLast
 
 unfoldable pub toCome : Phase → ℕ
 toCome (asks w) = afterAsking w
 toCome (hears terminal) = longest
-toCome (hears (says word s)) = fromWord word
+toCome (hears (says word s)) = fromWord word s
 toCome (decides outcome reason s) = 1
 
 module _ (s : Situation) where

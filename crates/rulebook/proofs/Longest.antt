@@ -24,7 +24,7 @@ use Rattle.answer_common.proofs.Accepted.{any-none}
 use Rattle.answer_common.specs.Content.{recordTag, namesFor}
 use Rattle.answer_common.specs.Named.{listed, direct, times, told, wrongValue, anyTimes, anyTwice, anyWrong}
 use Rattle.answer_record.specs.Records.{again, anyAgain, recordTwice, recordLines, recordReason, valueIn, namedIn}
-use Rattle.session_records.specs.Slots.{orElse}
+use Rattle.facts.specs.Facts.{orElse}
 use Rattle.commands.specs.Commands.{recordCommand}
 use Rattle.rulebook.specs.Situation.{Situation, begun}
 use Rattle.rulebook.specs.Phase.{Phase, opens, reading, commandOf}

@@ -15,11 +15,11 @@ use Rattle.start_valid.specs.Start.{validPercentages, validThreshold, validAid,
 use Rattle.decimal_dates.specs.Decimal.{decimalFrom, decimal, decimalByte, digitsOnly, zerosOnly}
 use Rattle.decimal_dates.specs.Dates.{monthAndDay, validStartDate}
 use Rattle.tape_read.specs.Entries.{isKind, payloadMost}
-use Rattle.session_records.specs.Slots.{Facts}
 use Rattle.decide_verification.proofs.Laws.{wanted-few}
 use Rattle.words.specs.declared.Word.{Word}
 use Rattle.words.specs.declared.Word.the-variants.{Host, Results}
 use Rattle.words.proofs.Laws.{OtherKind, other-kind, can-say as can-say-word}
+use Rattle.rulebook.specs.Situation.{Situation}
 use Rattle.rulebook.specs.Phase.{Heard, terminal, says, dueKind}
 use Rattle.rulebook.specs.Turn.{wantedIn, allowed}
 use Rattle.rulebook.specs.Session.{isPayload}
@@ -31,10 +31,10 @@ other-kinds terminal = record { no-command = refl; no-answer = refl; no-silence 
 other-kinds (says word s) = other-kind word
 
 -- no more are ever wanted than a payload has room for
-pub wanted-most : (word : Word) (facts : Facts) → wantedIn word facts ≤ payloadMost
+pub wanted-most : (word : Word) (s : Situation) → wantedIn word s ≤ payloadMost
 unfolding wantedIn
-wanted-most Host facts = omega arith
-wanted-most Results facts = omega (arith, wanted-few facts)
+wanted-most Host s = omega arith
+wanted-most Results s = omega (arith, wanted-few (s .facts))
 
 -- a valid START: type 2, amount 7500, floor limit 10000, threshold 5000, an AID of five bytes
 abbrev pub sample : List ℕ
@@ -71,5 +71,5 @@ pub can-say : (h : Heard) → (p : List ℕ) × ((allowed h p ≡ true) × (isPa
 unfolding allowed
 can-say terminal = (sample, (sample-valid, sample-payload))
 can-say (says word s) =
-    let said = can-say-word word (wantedIn word (s .facts)) (wanted-most word (s .facts)) in
+    let said = can-say-word word (wantedIn word s) (wanted-most word s) in
     (said .payload, (said .allowed, payload (said .payload) (said .short) (said .bytes)))

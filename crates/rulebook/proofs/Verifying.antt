@@ -22,7 +22,7 @@ use Rattle.start_fields.specs.Reading.{Terminal}
 use Rattle.start_fields.specs.Layout.{startLength}
 use Rattle.start_fields.proofs.Reading.{no-capabilities}
 use Rattle.tape_read.specs.Entries.{Entry, entry, start, results}
-use Rattle.session_records.specs.Slots.{Facts}
+use Rattle.facts.specs.Facts.{Facts}
 use Rattle.dol_wanted.specs.Wanted.{fillable}
 use Rattle.answer_record.specs.Records.{incomplete, completeReason, afterRecords}
 use Rattle.cvm.specs.Verified.{verified}

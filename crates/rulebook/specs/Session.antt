@@ -11,7 +11,6 @@ use lib.ListN.{length, take}
 use lib.Pow.{areBytes}
 use Rattle.tape_read.specs.Entries.{Entry, entry, command, answer, silence, decision, payloadMost}
 use Rattle.answer_afl.specs.Entries.{mostRecords}
-use Rattle.words.specs.Words.{wordCount}
 use Rattle.rulebook.specs.Situation.{Situation}
 use Rattle.rulebook.specs.Phase.{Asked, Heard, Phase, opens, asks, hears, decides, commandOf, dueKind, decisionOf}
 use Rattle.rulebook.specs.Turn.{turn, allowed, after}
@@ -32,10 +31,10 @@ pub data Plays : Phase → List Entry → Type 0 where
 unfoldable pub Session : List Entry → Type 0
 Session es = Plays opens es
 
--- no session has more entries (01, "The tape"; 02, R-7 and R-8): START, SELECT, GPO, each record and two requests with their answers, each
--- word that somebody else has, DECISION
+-- no session has more entries (01, "The tape"; 02, R-7 and R-8): START; SELECT, GPO and two requests, each with its answer; HOST, the
+-- results of cardholder verification, DECISION; and each record with its answer
 abbrev pub longest : ℕ
-longest = 10 + wordCount + 2 * mostRecords
+longest = 12 + 2 * mostRecords
 
 -- an unfinished beginning: something is left to come
 unfoldable pub Beginning : List Entry → Type 0

@@ -7,7 +7,7 @@ use Rattle.slices.specs.Choice.{unlessEmpty}
 use Rattle.slices.specs.Writing.{zeros}
 use Rattle.start_fields.specs.Reading.{Terminal}
 use Rattle.slices.specs.Tables.{beside}
-use Rattle.session_records.specs.Slots.{Facts}
+use Rattle.facts.specs.Facts.{Facts}
 
 pub record Situation : Type 0 where
   pub terminal : Terminal

@@ -9,7 +9,7 @@ use Rattle.slices.specs.Choice.{pick}
 use Rattle.slices.specs.Tests.{isSome}
 use Rattle.start_fields.specs.Reading.{Terminal, readingOf}
 use Rattle.start_valid.specs.Start.{validStart}
-use Rattle.session_records.specs.Slots.{Facts, orElse}
+use Rattle.facts.specs.Facts.{orElse}
 use Rattle.answer_common.specs.Content.{namesFor}
 use Rattle.words.specs.Words.{wordAllowed}
 use Rattle.words.specs.declared.Word.{Word}
@@ -147,14 +147,14 @@ turn (first s request) a = firstAnswered s request a
 turn (second s request code) a = secondAnswered s request a
 
 -- how many are wanted of what is counted in a word: a result for each rule (02, R-7)
-unfoldable pub wantedIn : Word → Facts → ℕ
-wantedIn Host facts = 0
-wantedIn Results facts = resultsWanted facts
+unfoldable pub wantedIn : Word → Situation → ℕ
+wantedIn Host s = 0
+wantedIn Results s = resultsWanted (s .facts)
 
 -- what may be said: a valid START (01, "The tape"), or what the word that is due allows
 unfoldable pub allowed : Heard → List ℕ → Bool
 allowed terminal p = validStart p
-allowed (says word s) p = wordAllowed word (wantedIn word (s .facts)) p
+allowed (says word s) p = wordAllowed word (wantedIn word s) p
 
 -- the reply that is made; what is none is not allowed, and counts as unable
 unfoldable pub replyMade : HostHeard → HostReply

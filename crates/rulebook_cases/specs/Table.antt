@@ -8,7 +8,7 @@ use mathlib.Core.Option.{some}
 use Prim.Native.Nat.{ℕ, _+_}
 use lib.ListN.{length}
 use Rattle.tlv_list.specs.Objects.{objects, readRefusal}
-use Rattle.session_records.specs.Slots.{Facts}
+use Rattle.facts.specs.Facts.{Facts}
 use Rattle.dol_fill.specs.Filled.{filling}
 use Rattle.slices.specs.Writing.{zeros}
 use Rattle.start_fields.specs.Reading.{Terminal}

@@ -25,7 +25,7 @@ pub data Due : Type 0 where
 -- how many are wanted of what is counted in what somebody says; 0 where nothing is (02, R-7)
 unfoldable pub countIn : Heard → ℕ
 countIn terminal = 0
-countIn (says word s) = wantedIn word (s .facts)
+countIn (says word s) = wantedIn word s
 
 -- the entries that fit. Where the card owes an answer a silence with no payload fits too, and closes the session
 unfoldable pub Fits : Due → Entry → Type 0

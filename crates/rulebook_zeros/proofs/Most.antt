@@ -17,7 +17,7 @@ use Rattle.answer_common.proofs.Members.{direct-size}
 use Rattle.answer_record.specs.Records.{valueIn, namedIn, afterRecords}
 use Rattle.answer_select.specs.Select.{pdolOf}
 use Rattle.answer_laws.proofs.AcceptedAnswers.{list-size}
-use Rattle.session_records.specs.Slots.{Facts, orElse}
+use Rattle.facts.specs.Facts.{Facts, orElse}
 use Rattle.start_fields.specs.Reading.{Terminal}
 use Rattle.dol_fill.specs.Filled.{unsupplied}
 use Rattle.dol_fill.proofs.Missing.{unsupplied-half}

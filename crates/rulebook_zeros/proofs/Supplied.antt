@@ -8,7 +8,7 @@ use Prim.Native.Nat.{ℕ, _+_}
 use Rattle.slices.specs.Tests.{isSome}
 use Rattle.slices.proofs.Choice.{pick-yes, picked}
 use Rattle.start_fields.specs.Reading.{Terminal}
-use Rattle.session_records.specs.Slots.{Facts}
+use Rattle.facts.specs.Facts.{Facts}
 use Rattle.dol_wanted.specs.Wanted.{Wanted, entriesOf, fillable}
 use Rattle.dol_values.specs.Known.{supplied}
 use Rattle.dol_fill.specs.Filled.{missing, missingIn, missingBy, unsupplied}

@@ -16,7 +16,7 @@ use Rattle.slices.proofs.Writing.{put-length, put-start, laid-fits, laid-short}
 use Rattle.start_fields.specs.Reading.{Terminal}
 use Rattle.dol_wanted.specs.Wanted.{most}
 use Rattle.dol_fill.specs.Filled.{filling}
-use Rattle.session_records.specs.Slots.{Facts}
+use Rattle.facts.specs.Facts.{Facts}
 use Rattle.commands.specs.Commands.{longest, sizeIn}
 use Rattle.commands.proofs.Sizes.{data-length, data-most}
 use Rattle.commands.proofs.Shapes.{aid-most, select-most, options-most, record-most, cryptogram-most}

@@ -8,12 +8,11 @@ use Prim.Native.Nat.{ℕ, _≤_}
 use native.Mathlib.Omega.{arith}
 use lib.ListN.{length}
 use borrow.Author.Tests.{eqb-false}
-use Rattle.slices.specs.Writing.{zeros}
 use Rattle.start_valid.proofs.Laws.{valid-length}
 use Rattle.tape_read.specs.Entries.{entry, answer, silence, isKind, payloadMost}
 use Rattle.words.specs.Words.{wordKind}
 use Rattle.words.proofs.Laws.{other-kind, said-short}
-use Rattle.rulebook.specs.Phase.{Heard, terminal, says, dueKind, tvrOf, tsiOf}
+use Rattle.rulebook.specs.Phase.{Heard, terminal, says, dueKind}
 use Rattle.rulebook.specs.Turn.{wantedIn, allowed}
 use Rattle.rulebook.specs.Roles.{given}
 use Rattle.rulebook.proofs.Said.{wanted-most}
@@ -21,11 +20,7 @@ use Rattle.session_phase.specs.Waiting.{kindOf}
 use Rattle.session_phase.specs.Saying.{allowedBy}
 use Rattle.session_phase.specs.declared.Speaker.{Speaker}
 use Rattle.session_phase.specs.declared.Speaker.the-variants.{Terminal, Says}
-use Rattle.session_phase.specs.declared.Waiting.the-variants.{ForWord}
-use Rattle.session_state.specs.Reading.{situationWith, late, heardBy}
-use Rattle.session_state.specs.declared.State.{State}
 use Rattle.session_moves.specs.Moves.{speakerOf}
-use Rattle.session_laws.specs.Bits.{Even}
 
 pub no-answer : (speaker : Speaker) → kindOf speaker ≡ answer → ⊥
 unfolding kindOf
@@ -61,10 +56,4 @@ allowed-by (says word z) p = refl
 pub allowed-short : (h : Heard) (p : List ℕ) → allowed h p ≡ true → length p ≤ payloadMost
 unfolding allowed
 allowed-short terminal p fits = let size = valid-length p fits in omega arith
-allowed-short (says word z) p fits = said-short word (wantedIn word (z .facts)) p (wanted-most word (z .facts)) fits
-
--- a state has TVR and TSI of the word that is due, if they are zeros before START
-pub even-from : (s : State) → (s .waiting ≡ ForWord Terminal → (s .tvr ≡ zeros 5) × (s .tsi ≡ zeros 2)) → Even s
-unfolding heardBy tvrOf tsiOf late situationWith
-even-from s clear Terminal e = clear e
-even-from s clear (Says word count) e = (refl, refl)
+allowed-short (says word z) p fits = said-short word (wantedIn word z) p (wanted-most word z) fits

@@ -16,7 +16,8 @@ use Rattle.slices.specs.Tables.{beside}
 use Rattle.slices.specs.Writing.{put, laid, zeros}
 use Rattle.slices.proofs.Choice.{pick-no, either}
 use Rattle.slices.proofs.Writing.{zeros-length, laid-fits}
-use Rattle.session_records.specs.Slots.{Facts, end, toldFrom, placed, recordSlot}
+use Rattle.facts.specs.Facts.{Facts}
+use Rattle.session_records.specs.Slots.{end, toldFrom, placed, recordSlot}
 use Rattle.session_records.specs.Slots.{slotFor, cellIn, read, toldIn, keptIn, full, told}
 use Rattle.session_records.proofs.Apart.{told-begins, slot-told}
 use Rattle.session_records.proofs.Keeping.{keep-same, keep-other, keep-all, full-length}

@@ -45,7 +45,7 @@ questionOf (second s request code) = Second request
 
 unfoldable pub speakerOf : Heard → Speaker
 speakerOf terminal = Terminal
-speakerOf (says word s) = Says word (wantedIn word (s .facts))
+speakerOf (says word s) = Says word (wantedIn word s)
 
 unfoldable pub keptAs : Phase → Waiting
 keptAs (asks w) = ForCard (questionOf w)

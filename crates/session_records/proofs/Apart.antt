@@ -125,10 +125,6 @@ no-slot (name ∷ names) at tag l =
     (λ y. absurd (false≢true (sym l ∙ pick-yes _ _ _ y)))
     (λ e. pick-no _ _ _ e ∙ no-slot names (at + (room (ruleFor name) + 1)) tag (sym (pick-no _ _ _ e) ∙ l))
 
-pub unnamed-slot : (tag : ℕ) → listed tag recordNames ≡ false → recordSlot tag ≡ nowhere
-unfolding recordSlot
-unnamed-slot tag l = no-slot recordNames toldFrom tag l
-
 -- the slot of a name has the room of its rule
 sizes : (names : List ℕ) (at tag : ℕ) → listed tag names ≡ true → slotIn at (roomsOf names) tag .size ≡ room (ruleFor tag) + 1
 unfolding listed anyOf placed beside

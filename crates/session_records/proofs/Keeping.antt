@@ -26,7 +26,8 @@ use Rattle.decimal_dates.specs.Dates.{validCardDate}
 use Rattle.answer_common.specs.declared.content.Rule.{Rule}
 use Rattle.answer_common.specs.declared.content.Rule.the-variants.{Sizes, Entries, Number, Date, Verification, Anything}
 use Rattle.session_records.specs.Runs.{longest}
-use Rattle.session_records.specs.Slots.{orElse, end, room, read, cellIn, slotFor, toldIn, keptAt}
+use Rattle.facts.specs.Facts.{orElse}
+use Rattle.session_records.specs.Slots.{end, room, read, cellIn, slotFor, toldIn, keptAt}
 use Rattle.session_records.specs.Slots.{keptIn, keptTold, keptObjects, full, emptyStore, told}
 use Rattle.session_records.proofs.Cells.{kept-put, kept-length, read-put, read-none}
 use Rattle.session_records.proofs.Apart.{apart, within, named-size}

@@ -9,6 +9,7 @@ use lib.ListN.{length, take, drop}
 use Rattle.slices.specs.Choice.{pick}
 use Rattle.slices.specs.Tables.{beside}
 use Rattle.slices.specs.Writing.{laid, zeros}
+use Rattle.facts.specs.Facts.{Facts}
 use Rattle.tlv_list.specs.Objects.{Object}
 use Rattle.tlv_list.specs.Place.{Place, objectAt, placesFrom}
 use Rattle.answer_common.specs.declared.content.Rule.{Rule}
@@ -18,15 +19,6 @@ use Rattle.answer_common.specs.Content.{ruleFor, recordTag, recordNames}
 use Rattle.answer_common.specs.Named.{listed}
 use Rattle.session_records.specs.declared.Slot.{Slot}
 use Rattle.session_records.specs.declared.Store.{Store}
-
--- what is told of each tag, where it is told
-abbrev pub Facts : Type 0
-Facts = ℕ → Option (List ℕ)
-
--- the first of two that is there
-unfoldable pub orElse : Option (List ℕ) → Option (List ℕ) → Option (List ℕ)
-orElse none other = other
-orElse (some v) other = some v
 
 -- the most bytes that a rule lets a value have
 unfoldable pub room : Rule → ℕ

@@ -24,7 +24,8 @@ use Rattle.answer_common.proofs.Accepted.{or-clear, any-clear}
 use Rattle.answer_common.proofs.Names.{named-somewhere}
 use Rattle.answer_record.specs.Records.{recordLines, recordTwice, recordReason, valueIn, namedIn}
 use Rattle.answer_laws.proofs.AcceptedAnswers.{record-clear, record-told}
-use Rattle.session_records.specs.Slots.{orElse, toldIn, keptObjects, keptPlaces, full, emptyStore, told, withRecord}
+use Rattle.facts.specs.Facts.{orElse}
+use Rattle.session_records.specs.Slots.{toldIn, keptObjects, keptPlaces, full, emptyStore, told, withRecord}
 use Rattle.session_records.specs.declared.Store.{Store}
 use Rattle.session_records.proofs.Keeping.{Fits, unnamed-kept, objects-kept, full-all}
 use Rattle.session_records.proofs.Keeping.{full-length, objects-length, right-room, told-nothing}

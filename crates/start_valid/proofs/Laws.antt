@@ -2,7 +2,7 @@
 -- has its length, and every number is in its range. Each fact is one of the tests that the START passed. A START that begins a session
 -- is a valid one of the longest.
 -- Assumes nothing.
-use mathlib.Core.Path.{_≡_, subst}
+use mathlib.Core.Path.{_≡_}
 use mathlib.Core.Bool.{true, false}
 use mathlib.Core.List.{List, [], _∷_}
 use mathlib.Core.Logic.{_⊎_, inl, inr}
@@ -127,9 +127,6 @@ module _ (s : List ℕ) (valid : validStart s ≡ true) where
         capabilities = all-or-none s (test 0);
         aid = aid-size;
       }
-
-pub terminal-in-range : (s : List ℕ) (t : Terminal) → terminalOf s ≡ some t → Ranges t
-terminal-in-range s t e = let h = handed-over s t e in subst Ranges (h .1) (in-range s (h .0))
 
 module _ (s : List ℕ) (begins : beginsSession s ≡ true) where
   pub begins-full : length s ≡ fullLength

@@ -9,7 +9,7 @@ use Rattle.slices.specs.Choice.{pick}
 use Rattle.slices.specs.Tests.{isSome}
 use Rattle.start_fields.specs.Reading.{Terminal}
 use Rattle.answer_common.specs.declared.content.Format.{Format}
-use Rattle.session_records.specs.Slots.{Facts}
+use Rattle.facts.specs.Facts.{Facts}
 use Rattle.dol_wanted.specs.Wanted.{Wanted, entriesOf, fillable}
 use Rattle.dol_values.specs.Known.{supplied}
 use Rattle.dol_fill.specs.Filled.{entryBytes, filled, filledBy, filledList, filling, missing, missingIn, missingBy, unsupplied}

@@ -90,7 +90,7 @@ module _ (s : Situation) (p : List ℕ) (h : Old s) where
 abbrev Says : Word → Type 0
 Says word =
     (s : Situation) (k : ℕ) (p : List ℕ) (es : List Entry) (ns : List ℕ) → Old s → k ≡ wordKind word
-    → wordAllowed word (wantedIn word (s .facts)) p ≡ true → isPayload p ≡ true → Then (after (says word s) p) es ns
+    → wordAllowed word (wantedIn word s) p ≡ true → isPayload p ≡ true → Then (after (says word s) p) es ns
     → Then (hears (says word s)) (entry k p ∷ es) (unsuppliedIn (after (says word s) p) ∷ ns)
 
 reply-then : Says Host

@@ -11,7 +11,7 @@ use Rattle.slices.specs.Choice.{pick}
 use Rattle.slices.specs.Tests.{every, isSome}
 use Rattle.slices.proofs.Choice.{pick-no}
 use Rattle.start_fields.specs.Reading.{Terminal}
-use Rattle.session_records.specs.Slots.{Facts, orElse}
+use Rattle.facts.specs.Facts.{Facts, orElse}
 use Rattle.answer_common.specs.Content.{Row, rowsFor, namesFor}
 use Rattle.answer_gpo.specs.Options.{optionsReason, profileOf, locatorOf}
 use Rattle.answer_afl.specs.Entries.{toRead}

@@ -24,7 +24,7 @@ use Rattle.start_fields.proofs.Reading.{bytes-read, all-read, no-capabilities}
 use Rattle.answer_common.specs.Content.{recordFormats}
 use Rattle.answer_common.specs.declared.content.Format.{Format}
 use Rattle.answer_common.specs.declared.content.Format.the-variants.{Numeric, CardNumber, Other, Unknown}
-use Rattle.session_records.specs.Slots.{Facts}
+use Rattle.facts.specs.Facts.{Facts}
 use Rattle.dol_values.specs.Shape.{ownTable, madeFormats, formatOf}
 use Rattle.dol_values.specs.Known.{ownField, valueBy, valueFor, withFormat, supplied}
 use Rattle.dol_values.proofs.Tables.{beside-append}

@@ -11,7 +11,7 @@ use Rattle.slices.specs.Choice.{pick}
 use Rattle.slices.specs.Tests.{every, isSome}
 use Rattle.start_fields.specs.Layout.{startLength}
 use Rattle.start_valid.specs.Start.{validStart}
-use Rattle.session_records.specs.Slots.{orElse}
+use Rattle.facts.specs.Facts.{orElse}
 use Rattle.answer_common.specs.declared.content.Format.{Format}
 use Rattle.answer_common.specs.declared.content.Format.the-variants.{Numeric, CardNumber, Other, Unknown}
 use Rattle.answer_gpo.specs.Options.{optionsReason, profileOf, locatorOf}

@@ -13,7 +13,7 @@ use Rattle.start_fields.specs.declared.fields.Field.the-variants.{TransactionTy
 use Rattle.start_fields.specs.Reading.{Terminal, bytesOf}
 use Rattle.answer_common.specs.declared.content.Format.{Format}
 use Rattle.answer_common.specs.declared.content.Format.the-variants.{Numeric, Other, Unknown}
-use Rattle.session_records.specs.Slots.{Facts}
+use Rattle.facts.specs.Facts.{Facts}
 use Rattle.dol_wanted.specs.Wanted.{Wanted, entriesOf, fillable}
 use Rattle.dol_values.specs.Shape.{madeFormats}
 use Rattle.dol_values.specs.Known.{withFormat}

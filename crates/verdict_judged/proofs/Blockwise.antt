@@ -11,8 +11,8 @@ use lib.Pow.{areBytes}
 use borrow.Author.Tests.{le-leb, ltb-false}
 use Rattle.slices.proofs.Choice.{picked, and-both}
 use Rattle.tape_crc.proofs.Bytes.{bytes-take, bytes-drop}
-use Rattle.tape_read.specs.Entries.{entry, payloadMost}
-use Rattle.tape_read.specs.Blocks.{kindIn, lengthIn, payloadAt, lengthBad, payloadIn, entryIn}
+use Rattle.tape_read.specs.Entries.{payloadMost}
+use Rattle.tape_read.specs.Blocks.{lengthIn, payloadAt, lengthBad, payloadIn}
 use Rattle.rulebook.specs.Session.{isPayload}
 
 -- the payload of a block is one that a session may have, so that only its kind and its bytes are left to look at
@@ -24,8 +24,3 @@ block-payload b bytes =
     (λ n.
     let short : length p ≤ payloadMost = omega (arith, length-take (lengthIn b) (drop payloadAt b), ltb-false payloadMost (lengthIn b) n) in
     and-both _ _ (le-leb (length p) payloadMost short) (bytes-take (lengthIn b) (drop payloadAt b) (bytes-drop payloadAt b bytes)))
-
--- its entry, by kind and payload
-pub block-entry : (b : List ℕ) → entryIn b ≡ entry (kindIn b) (payloadIn b)
-unfolding entryIn
-block-entry b = refl

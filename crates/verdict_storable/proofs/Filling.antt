@@ -20,7 +20,7 @@ use Rattle.tape_read.proofs.Extra.{zeros-bytes}
 use Rattle.dol_wanted.specs.Wanted.{Wanted, entriesOf, fillable}
 use Rattle.dol_values.specs.Shape.{shaped, formatOf}
 use Rattle.slices.specs.Tables.{beside}
-use Rattle.session_records.specs.Slots.{Facts, orElse}
+use Rattle.facts.specs.Facts.{Facts, orElse}
 use Rattle.dol_values.specs.Known.{ownField, valueBy, valueFor, withFormat, supplied}
 use Rattle.dol_fill.specs.Filled.{entryBytes, filled, filledBy, filledList, filling}
 use Rattle.answer_common.specs.declared.content.Format.{Format}

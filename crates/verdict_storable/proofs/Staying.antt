@@ -11,7 +11,7 @@ use lib.ListN.{length, drop, getD}
 use lib.Pow.{areBytes}
 use Rattle.slices.specs.Writing.{zeros}
 use Rattle.slices.proofs.Choice.{picked}
-use Rattle.session_records.specs.Slots.{Facts}
+use Rattle.facts.specs.Facts.{Facts}
 use Rattle.tape_crc.proofs.Bytes.{bytes-head, bytes-rest, bytes-cons, bytes-take, bytes-drop, bytes-each, bytes-at}
 use Rattle.slices.specs.Tests.{isSome}
 use Rattle.start_fields.specs.declared.fields.Field.{Field}

@@ -1,5 +1,5 @@
 -- The words that somebody other than the card has after START: the issuer's reply, and the attendant's results of cardholder verification.
--- A word is due at most once in a session. 01, "The tape" and "When a call is turned away"; 02, R-7.
+-- 01, "The tape" and "When a call is turned away"; 02, R-7.
 -- Assumes nothing.
 use mathlib.Core.Bool.{Bool}
 use mathlib.Core.List.{List}
@@ -9,10 +9,6 @@ use Rattle.cvm.specs.Lists.{areResults}
 use Rattle.decide_requests.specs.Replies.{replyOf, isReply}
 use Rattle.words.specs.declared.Word.{Word}
 use Rattle.words.specs.declared.Word.the-variants.{Host, Results}
-
--- how many words there are
-abbrev pub wordCount : ℕ
-wordCount = 2
 
 -- the kind of the entry that has a word
 unfoldable pub wordKind : Word → ℕ

@@ -1,7 +1,7 @@
 -- `session_answers::on_select` meets its contract: a bad answer ends the session, and a good one leads to GPO, filled from 9F38.
 -- Assumes nothing.
 use borrow.Author.Needs.{needs}
-use Rattle.session_records.specs.Slots.{Facts}
+use Rattle.facts.specs.Facts.{Facts}
 use Rattle.rulebook.specs.Situation.{knownIn}
 use mathlib.Core.Path.{_≡_, refl, sym, ap, ap₂, _∙_}
 use mathlib.Core.List.{List}

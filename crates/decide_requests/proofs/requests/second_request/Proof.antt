@@ -6,7 +6,8 @@ use Prim.Native.Nat.{ℕ}
 use borrow.Author.Needs.{needs}
 use Rattle.start_fields.specs.Reading.{readingOf}
 use Rattle.decide_requests.specs.declared.reply.HostReply.{HostReply}
-use Rattle.session_records.specs.Slots.{Facts, toldIn}
+use Rattle.facts.specs.Facts.{Facts}
+use Rattle.session_records.specs.Slots.{toldIn}
 use Rattle.decide_requests.specs.Requests.{whenUnable, secondRequest}
 use Rattle.decide_requests.proofs.requests.second_request.Statement.{statement}
 use Rattle.decide_requests.proofs.requests.second_request.Tie as tie

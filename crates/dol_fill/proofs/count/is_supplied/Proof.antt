@@ -7,7 +7,8 @@ use mathlib.Core.Option.{Option, none, some}
 use Prim.Native.Nat.{ℕ}
 use Rattle.slices.specs.Tests.{isSome}
 use Rattle.start_fields.specs.Reading.{Terminal, readingOf}
-use Rattle.session_records.specs.Slots.{Facts, toldIn}
+use Rattle.facts.specs.Facts.{Facts}
+use Rattle.session_records.specs.Slots.{toldIn}
 use Rattle.dol_values.specs.Shape.{formatOf}
 use Rattle.dol_values.specs.Known.{valueFor, withFormat, supplied}
 use Rattle.answer_common.specs.declared.content.Format.{Format}

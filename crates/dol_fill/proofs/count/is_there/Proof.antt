@@ -10,7 +10,8 @@ use Rattle.slices.specs.Tests.{isSome}
 use Rattle.slices.proofs.Choice.{is-there}
 use Rattle.start_fields.specs.Reading.{Terminal, readingOf, bytesOf}
 use Rattle.start_fields.specs.declared.fields.Field.{Field}
-use Rattle.session_records.specs.Slots.{Facts, toldIn}
+use Rattle.facts.specs.Facts.{Facts}
+use Rattle.session_records.specs.Slots.{toldIn}
 use Rattle.dol_values.specs.Known.{ownField, valueBy, valueFor}
 use Rattle.dol_values.specs.declared.Own.{Own}
 use Rattle.dol_values.specs.declared.Own.the-variants.{Of, Nothing}

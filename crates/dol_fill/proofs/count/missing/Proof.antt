@@ -7,7 +7,8 @@ use mathlib.Core.Bool.{true, false}
 use Rattle.slices.specs.Tests.{isSome}
 use Rattle.slices.proofs.Choice.{pick-yes, pick-no}
 use Rattle.start_fields.specs.Reading.{Terminal, readingOf}
-use Rattle.session_records.specs.Slots.{Facts, toldIn}
+use Rattle.facts.specs.Facts.{Facts}
+use Rattle.session_records.specs.Slots.{toldIn}
 use Rattle.dol_values.specs.Known.{supplied}
 use Rattle.dol_fill.specs.Filled.{missing}
 use borrow.Author.Needs.{needs}

@@ -11,7 +11,8 @@ use Rattle.slices.specs.Tests.{isSome}
 use Rattle.slices.specs.Writing.{zeros}
 use Rattle.start_fields.specs.Reading.{Terminal, readingOf, bytesOf}
 use Rattle.start_fields.specs.declared.fields.Field.{Field}
-use Rattle.session_records.specs.Slots.{toldIn, Facts}
+use Rattle.facts.specs.Facts.{Facts}
+use Rattle.session_records.specs.Slots.{toldIn}
 use Rattle.session_records.proofs.Present.{is-there, is-none}
 use Rattle.dol_values.specs.Shape.{shaped, formatOf}
 use Rattle.dol_values.specs.Known.{ownField, valueBy, valueFor, withFormat, supplied}

@@ -1,0 +1,2 @@
+-- What the card has told, tag by tag.
+pub mod Facts

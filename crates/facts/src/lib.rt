@@ -1,0 +1,1 @@
+// What the card has told, as the rules speak of it: definitions alone.

@@ -1,0 +1,2 @@
+-- The words for the kinds of entries.
+pub mod Kinds
