@@ -18,6 +18,11 @@ isWarning a b =
     (pick (eqb a 0x63) true
     (pick (eqb (a / 16) 9) (pick (eqb a 0x90) (pick (eqb b 0x00) false true) true) false))
 
+-- the most bytes of an answer: what a command and sixteen '61' can bring by T=0, 256 bytes each, and the status (02, R-4). T=1 takes no
+-- more either way
+abbrev pub answerMost : ℕ
+answerMost = 4354
+
 -- the most bytes of an answer that a session takes (01, "When a call is turned away", 5), and what it is handed of a longer one
 abbrev pub handedMost : ℕ
 handedMost = 496

@@ -5,6 +5,11 @@ ghost use mathlib.Core.Path.{_≡_};
 ghost use Rattle.apdu.specs.Commands.{caseOf, dataOf, asked as askedOf};
 ghost use Rattle.apdu.specs.Answers.{isStatus, isWarning, handed as handedOf};
 
+// The most bytes of a command's data, and of an answer: what a command and sixteen '61' can bring by T=0, 256 bytes each, and the status.
+pub const DATA_MOST: usize = 255;
+
+pub const ANSWER_MOST: usize = 4354;
+
 // The four cases of a command, 1 to 4 in their order, and none of them.
 pub enum Case {
     One,

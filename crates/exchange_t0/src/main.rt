@@ -15,6 +15,8 @@
 mod say;
 mod turn;
 
+use apdu::ANSWER_MOST;
+use apdu::DATA_MOST;
 use slices::alike;
 use slices::part;
 use t0_state::State;
@@ -28,13 +30,13 @@ const LONGEST: usize = 32_800;
 
 fn main() {
     let mut line = [0u8; LONGEST];
-    let mut out = [0u8; 255];
-    let mut answer = [0u8; 4354];
+    let mut out = [0u8; DATA_MOST];
+    let mut answer = [0u8; ANSWER_MOST];
     exchange(&mut line, &mut out, &mut answer);
 }
 
 // Lines are counted down from more than there can be, since nothing says that the input ends.
-fn exchange(line: &mut [u8], out: &mut [u8; 255], answer: &mut [u8; 4354]) {
+fn exchange(line: &mut [u8], out: &mut [u8; DATA_MOST], answer: &mut [u8; ANSWER_MOST]) {
     let mut state = turn::none(out);
     let mut left: usize = 0x7FFF_FFFF_FFFF_FFFF;
     while 0 < left {
@@ -47,7 +49,7 @@ fn exchange(line: &mut [u8], out: &mut [u8; 255], answer: &mut [u8; 4354]) {
     }
 }
 
-fn said(s: State, line: &[u8], out: &mut [u8; 255], answer: &mut [u8; 4354]) -> State {
+fn said(s: State, line: &[u8], out: &mut [u8; DATA_MOST], answer: &mut [u8; ANSWER_MOST]) -> State {
     let end = word_end(line, 0);
     let word = part(line, 0, end);
     if alike(word, b"COMMAND") {

@@ -1,5 +1,7 @@
 // One line: a command, or bytes of the card's.
 use crate::say::reply;
+use apdu::ANSWER_MOST;
+use apdu::DATA_MOST;
 use slices::part;
 use t0_begin::begin;
 use t0_pieces::is_closed;
@@ -10,12 +12,12 @@ ghost use mathlib.Core.Path.{_≡_};
 ghost use Rattle.t0_pieces.specs.Pieces.{gone, takenAll};
 
 // No exchange yet.
-pub fn none(out: &mut [u8; 255]) -> State {
+pub fn none(out: &mut [u8; DATA_MOST]) -> State {
     let begun = begin(b"", out);
     begun.state
 }
 
-pub fn command(s: State, digits: &[u8], out: &mut [u8; 255]) -> State {
+pub fn command(s: State, digits: &[u8], out: &mut [u8; DATA_MOST]) -> State {
     let mut bytes = [0u8; 16384];
     let n = unhex(digits, &mut bytes);
     if digits.len() != 2 * n {
@@ -25,14 +27,19 @@ pub fn command(s: State, digits: &[u8], out: &mut [u8; 255]) -> State {
     begin_with(&bytes[0..n], out)
 }
 
-fn begin_with(command: &[u8], out: &mut [u8; 255]) -> State {
+fn begin_with(command: &[u8], out: &mut [u8; DATA_MOST]) -> State {
     let begun = begin(command, out);
     let said = begun.reply;
     reply(said, out, b"");
     begun.state
 }
 
-pub fn card(s: State, digits: &[u8], out: &mut [u8; 255], answer: &mut [u8; 4354]) -> State {
+pub fn card(
+    s: State,
+    digits: &[u8],
+    out: &mut [u8; DATA_MOST],
+    answer: &mut [u8; ANSWER_MOST],
+) -> State {
     let mut bytes = [0u8; 16384];
     let n = unhex(digits, &mut bytes);
     if digits.len() != 2 * n {
@@ -43,7 +50,12 @@ pub fn card(s: State, digits: &[u8], out: &mut [u8; 255], answer: &mut [u8; 4354
 }
 
 // Piece by piece, each up to the next byte that brings something to send or ends the exchange.
-fn take_all(s: State, piece: &[u8], out: &mut [u8; 255], answer: &mut [u8; 4354]) -> State
+fn take_all(
+    s: State,
+    piece: &[u8],
+    out: &mut [u8; DATA_MOST],
+    answer: &mut [u8; ANSWER_MOST],
+) -> State
     ensures { λ r.
         ⌜ gone r (now (out .exit)) (now (answer .exit)) ≡ takenAll s (now (piece .entry)) (now (out .entry)) (now (answer .entry)) ⌝ }
 {

@@ -2,6 +2,7 @@
 use crate::asked::small;
 use crate::say;
 use crate::words::nth_line;
+use apdu::ANSWER_MOST;
 use slices::byte;
 use t1::Step;
 use t1::fresh;
@@ -9,6 +10,7 @@ use t1::receive;
 use t1::send;
 use t1_block::Fault;
 use t1_block::Kind;
+use t1_block::LONGEST;
 use t1_block::What;
 use t1_block::code_of;
 use t1_block::fault_of;
@@ -104,7 +106,7 @@ fn number_of_fault(fault: Fault) -> usize {
 
 // The blocks of a terminal that sends the message to a card that acknowledges each, by R-blocks for the next number, until the last
 // piece is out: at most 4,354 of them.
-pub fn cut(message: &[u8], rest: &[u8], out: &mut [u8; 258]) {
+pub fn cut(message: &[u8], rest: &[u8], out: &mut [u8; LONGEST]) {
     let mut step = send(due(rest), message, out);
     let mut left: usize = 4355;
     while 0 < left {
@@ -122,9 +124,9 @@ fn due(rest: &[u8]) -> State {
     with_numbers(at_phase(s, Phase::Due), 0 < number(after_word(rest)), false)
 }
 
-fn said(step: Step, out: &[u8; 258]) {
+fn said(step: Step, out: &[u8; LONGEST]) {
     let reply = step.reply;
-    let none = [0u8; 4354];
+    let none = [0u8; ANSWER_MOST];
     say::reply(reply, out, &none);
 }
 
@@ -134,10 +136,10 @@ fn is_last(step: Step) -> bool {
     if more_of(m) { false } else { true }
 }
 
-fn acknowledge(step: Step, out: &mut [u8; 258]) -> Step {
+fn acknowledge(step: Step, out: &mut [u8; LONGEST]) -> Step {
     let s = step.state;
     let numbers = s.numbers;
     let pcb = pcb_of_r(numbers.next, 0);
-    let mut none = [0u8; 4354];
+    let mut none = [0u8; ANSWER_MOST];
     receive(s, &[0, pcb, 0, pcb], out, &mut none)
 }

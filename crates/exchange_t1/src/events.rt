@@ -8,6 +8,7 @@ use crate::asked::SILENCE;
 use crate::asked::small;
 use crate::asked::what_of;
 use crate::say;
+use apdu::ANSWER_MOST;
 use t1::Reply;
 use t1::Step;
 use t1::ask;
@@ -16,6 +17,7 @@ use t1::hello;
 use t1::receive;
 use t1::send;
 use t1::silent;
+use t1_block::LONGEST;
 use t1_state::Role;
 use t1_state::State;
 use text_lines::after_word;
@@ -26,8 +28,8 @@ pub fn stepped(
     asked: usize,
     rest: &[u8],
     given: &[u8],
-    out: &mut [u8; 258],
-    message: &mut [u8; 4354],
+    out: &mut [u8; LONGEST],
+    message: &mut [u8; ANSWER_MOST],
 ) -> Step {
     match asked {
         BLOCK => receive(s, given, out, message),
@@ -63,7 +65,7 @@ fn own_size(asked: usize, rest: &[u8]) -> u8 {
     }
 }
 
-pub fn told(step: Step, out: &[u8; 258], message: &[u8; 4354]) -> State {
+pub fn told(step: Step, out: &[u8; LONGEST], message: &[u8; ANSWER_MOST]) -> State {
     let state = step.state;
     let reply = step.reply;
     say::reply(reply, out, message);

@@ -29,6 +29,7 @@ mod events;
 mod say;
 mod words;
 
+use apdu::ANSWER_MOST;
 use asked::CUT;
 use asked::TEST;
 use asked::asked_by;
@@ -37,6 +38,7 @@ use events::stepped;
 use events::told;
 use slices::part;
 use t1::fresh;
+use t1_block::LONGEST;
 use t1_state::Role;
 use t1_state::State;
 use text_hex::unhex;
@@ -49,13 +51,13 @@ const LONGEST: usize = 16_500;
 
 fn main() {
     let mut line = [0u8; LONGEST];
-    let mut out = [0u8; 258];
-    let mut message = [0u8; 4354];
+    let mut out = [0u8; LONGEST];
+    let mut message = [0u8; ANSWER_MOST];
     exchange(&mut line, &mut out, &mut message);
 }
 
 // Lines are counted down from more than there can be, since nothing says that the input ends.
-fn exchange(line: &mut [u8], out: &mut [u8; 258], message: &mut [u8; 4354]) {
+fn exchange(line: &mut [u8], out: &mut [u8; LONGEST], message: &mut [u8; ANSWER_MOST]) {
     let mut state = fresh(Role::Terminal, 254, 254);
     let mut left: usize = 0x7FFF_FFFF_FFFF_FFFF;
     while 0 < left {
@@ -68,7 +70,7 @@ fn exchange(line: &mut [u8], out: &mut [u8; 258], message: &mut [u8; 4354]) {
     }
 }
 
-fn said(s: State, line: &[u8], out: &mut [u8; 258], message: &mut [u8; 4354]) -> State {
+fn said(s: State, line: &[u8], out: &mut [u8; LONGEST], message: &mut [u8; ANSWER_MOST]) -> State {
     let digits = digits_in(line);
     let mut bytes = [0u8; 8192];
     let n = unhex(digits, &mut bytes);
@@ -81,8 +83,8 @@ fn answered(
     asked: usize,
     rest: &[u8],
     given: &[u8],
-    out: &mut [u8; 258],
-    message: &mut [u8; 4354],
+    out: &mut [u8; LONGEST],
+    message: &mut [u8; ANSWER_MOST],
 ) -> State {
     if asked < TEST {
         let step = stepped(s, asked, rest, given, out, message);
@@ -92,7 +94,7 @@ fn answered(
     s
 }
 
-fn other(asked: usize, rest: &[u8], given: &[u8], out: &mut [u8; 258]) {
+fn other(asked: usize, rest: &[u8], given: &[u8], out: &mut [u8; LONGEST]) {
     match asked {
         TEST => blocks::test(given, rest),
         CUT => blocks::cut(given, rest, out),

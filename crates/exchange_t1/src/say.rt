@@ -1,8 +1,10 @@
 // Replies and states, printed.
 use crate::asked::UNKNOWN;
 use crate::words::nth_line;
+use apdu::ANSWER_MOST;
 use slices::part;
 use t1::Reply;
+use t1_block::LONGEST;
 use t1_state::End;
 use t1_state::Message;
 use t1_state::Phase;
@@ -47,7 +49,7 @@ pub fn end() {
     text_print::text(b"\n");
 }
 
-pub fn reply(said: Reply, out: &[u8; 258], message: &[u8; 4354]) {
+pub fn reply(said: Reply, out: &[u8; LONGEST], message: &[u8; ANSWER_MOST]) {
     match said {
         Reply::Nothing => {}
         Reply::Send(n) => bytes(SEND, part(out, 0, n)),

@@ -1,4 +1,6 @@
 // What a turn asks to be done.
+use apdu::ANSWER_MOST;
+use apdu::DATA_MOST;
 use slices::lay;
 use slices::part;
 use t0_begin::Reply;
@@ -14,7 +16,7 @@ ghost use Rattle.slices.specs.Writing.{laid};
 ghost use Rattle.t0.specs.Steps.{sentBy, keptBy, waitFor, replyTo};
 
 // Lays what is to be sent at the start of a buffer, and answers how many bytes that are.
-pub fn send(act: Act, s: State, out: &mut [u8; 255]) -> usize
+pub fn send(act: Act, s: State, out: &mut [u8; DATA_MOST]) -> usize
     ensures { λ r. ⌜ (r ≡ length (sentBy act s)) × (now (out .exit) ≡ laid (sentBy act s) 0 (now (out .entry))) ⌝ }
 {
     match act {
@@ -30,7 +32,7 @@ pub fn send(act: Act, s: State, out: &mut [u8; 255]) -> usize
     }
 }
 
-fn send_data(s: State, from: usize, n: usize, out: &mut [u8; 255]) -> usize
+fn send_data(s: State, from: usize, n: usize, out: &mut [u8; DATA_MOST]) -> usize
     ensures { λ r. ⌜ r ≡ length (take n (drop from (s .command .body))) ⌝ }
     ensures { λ _. ⌜ now (out .exit) ≡ laid (take n (drop from (s .command .body))) 0 (now (out .entry)) ⌝ }
 {
@@ -42,7 +44,7 @@ fn send_data(s: State, from: usize, n: usize, out: &mut [u8; 255]) -> usize
 }
 
 // Lays what belongs to the answer behind what has come of it before.
-pub fn keep(act: Act, received: usize, answer: &mut [u8; 4354])
+pub fn keep(act: Act, received: usize, answer: &mut [u8; ANSWER_MOST])
     ensures { λ _. ⌜ now (answer .exit) ≡ laid (keptBy act) received (now (answer .entry)) ⌝ }
 {
     match act {

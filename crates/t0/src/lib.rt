@@ -2,6 +2,8 @@
 // sent and for the answer.
 mod doing;
 
+use apdu::ANSWER_MOST;
+use apdu::DATA_MOST;
 use doing::keep;
 use doing::reply_of;
 use doing::send;
@@ -18,7 +20,7 @@ pub use t0_begin::begin;
 pub use t0_state::State;
 
 // One byte of the card's.
-pub fn step(s: State, b: u8, out: &mut [u8; 255], answer: &mut [u8; 4354]) -> Step
+pub fn step(s: State, b: u8, out: &mut [u8; DATA_MOST], answer: &mut [u8; ANSWER_MOST]) -> Step
     ensures { λ r. ⌜ stepped r (now (out .exit)) (now (answer .exit)) ≡ stepOf s b (now (out .entry)) (now (answer .entry)) ⌝ }
 {
     let received = s.received;

@@ -1,5 +1,6 @@
 // T=0: an exchange begins with a command, whose header goes out first.
 use apdu::Case;
+use apdu::DATA_MOST;
 use apdu::asked;
 use apdu::case_of;
 use apdu::data_of;
@@ -38,7 +39,7 @@ pub struct Step {
     pub reply: Reply,
 }
 
-pub fn begin(command: &[u8], out: &mut [u8; 255]) -> Step
+pub fn begin(command: &[u8], out: &mut [u8; DATA_MOST]) -> Step
     ensures { λ r. ⌜ replied r (now (out .exit)) ≡ begunBy (now (command .entry)) (now (out .entry)) ⌝ }
 {
     let p3 = byte(command, 4);
@@ -59,7 +60,7 @@ fn refused(why: Refusal) -> Step
         ins: 0,
         p1: 0,
         p2: 0,
-        body: [0; 255],
+        body: [0; DATA_MOST],
     };
     Step {
         state: state_at(command, Sent::Case1, 0, Phase::Over),
@@ -67,7 +68,7 @@ fn refused(why: Refusal) -> Step
     }
 }
 
-fn begin_as(sent: Sent, size: usize, command: &[u8], out: &mut [u8; 255]) -> Step
+fn begin_as(sent: Sent, size: usize, command: &[u8], out: &mut [u8; DATA_MOST]) -> Step
     ensures { λ r. ⌜ replied r (now (out .exit)) ≡ begunAs sent size (now (command .entry)) (now (out .entry)) ⌝ }
 {
     if is_status(byte(command, 1) as u8) {
@@ -108,7 +109,7 @@ fn state_at(command: Command, sent: Sent, size: usize, phase: Phase) -> State
 fn kept(command: &[u8]) -> Command
     ensures { λ r. ⌜ r ≡ commandOf (now (command .entry)) ⌝ }
 {
-    let mut body = [0u8; 255];
+    let mut body = [0u8; DATA_MOST];
     lay(&mut body, 0, data_of(command));
     Command {
         cla: byte(command, 0) as u8,

@@ -11,6 +11,7 @@ use borrow.Author.Tests.{leb-true, le-ltb}
 use Rattle.slices.specs.Writing.{put, laid}
 use Rattle.slices.proofs.Choice.{pick-no, picked, either}
 use Rattle.slices.proofs.Writing.{put-length, put-take, put-there, laid-fits}
+use Rattle.apdu.specs.Answers.{answerMost}
 use Rattle.t0_state.specs.declared.Trailer.{Trailer}
 use Rattle.t0_state.specs.declared.Trailer.the-variants.{Last, Kept}
 use Rattle.t0_state.specs.declared.Phase.{Phase}
@@ -30,7 +31,7 @@ use Rattle.t0_laws.proofs.Ends.{closed-turn, sound-on}
 
 -- room for the longest answer
 abbrev pub answerRoom : ℕ
-answerRoom = 4354
+answerRoom = answerMost
 
 pub laid-length : (x : List ℕ) (p : ℕ) (d : List ℕ) → length (laid x p d) ≡ length d
 unfolding laid

@@ -1,4 +1,6 @@
 // T=0: a piece of a capture, of any length.
+use apdu::ANSWER_MOST;
+use apdu::DATA_MOST;
 use t0::step;
 use t0::wait_for;
 use t0_begin::Reply;
@@ -16,7 +18,12 @@ pub struct Taken {
 }
 
 // Takes bytes up to the first that brings something to send or ends the exchange. What is left of the piece is handed in again.
-pub fn takes(s: State, piece: &[u8], out: &mut [u8; 255], answer: &mut [u8; 4354]) -> Taken
+pub fn takes(
+    s: State,
+    piece: &[u8],
+    out: &mut [u8; DATA_MOST],
+    answer: &mut [u8; ANSWER_MOST],
+) -> Taken
     ensures { λ r.
         ⌜ took r (now (out .exit)) (now (answer .exit)) ≡ takesFrom 0 s (now (piece .entry)) (now (out .entry)) (now (answer .entry)) ⌝ }
 {

@@ -3,6 +3,8 @@ pub mod bytes;
 pub mod change;
 
 // The header that the card is answering: that of a command of case 1 to 4, or GET RESPONSE.
+use apdu::DATA_MOST;
+
 pub enum Sent {
     Case1,
     Case2,
@@ -24,7 +26,7 @@ pub struct Command {
     pub ins: u8,
     pub p1: u8,
     pub p2: u8,
-    pub body: [u8; 255],
+    pub body: [u8; DATA_MOST],
 }
 
 // How often the card has said '60' and '61', and whether it has said '6C'.

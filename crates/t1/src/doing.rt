@@ -1,8 +1,10 @@
 // What a turn asks to be done.
 use crate::Reply;
 use crate::Step;
+use apdu::ANSWER_MOST;
 use slices::lay;
 use slices::part;
+use t1_block::LONGEST;
 use t1_block::pcb_of_i;
 use t1_block::pcb_of_s;
 use t1_block::write;
@@ -17,7 +19,7 @@ ghost use Rattle.slices.specs.Writing.{laid};
 ghost use Rattle.t1.specs.Steps.{blockFor, blockOf, sentBy, keptBy, replyTo, doneBy};
 
 // The block that is out, laid at the start of a buffer; answers how many bytes it has.
-fn write_block(s: State, out: &mut [u8; 258]) -> usize
+fn write_block(s: State, out: &mut [u8; LONGEST]) -> usize
     ensures { λ r. ⌜ r ≡ length (blockOf s) ⌝ }
     ensures { λ _. ⌜ now (out .exit) ≡ laid (blockOf s) 0 (now (out .entry)) ⌝ }
 {
@@ -31,7 +33,7 @@ fn write_block(s: State, out: &mut [u8; 258]) -> usize
     }
 }
 
-fn write_information(s: State, out: &mut [u8; 258]) -> usize
+fn write_information(s: State, out: &mut [u8; LONGEST]) -> usize
     ensures { λ r. ⌜ r ≡ length (blockFor Last.Information s) ⌝ }
     ensures { λ _. ⌜ now (out .exit) ≡ laid (blockFor Last.Information s) 0 (now (out .entry)) ⌝ }
 {
@@ -45,7 +47,7 @@ fn write_information(s: State, out: &mut [u8; 258]) -> usize
 }
 
 // Whatever the turn sends.
-fn send_by(act: Act, s: State, out: &mut [u8; 258]) -> usize
+fn send_by(act: Act, s: State, out: &mut [u8; LONGEST]) -> usize
     ensures { λ r. ⌜ r ≡ length (sentBy act s) ⌝ }
     ensures { λ _. ⌜ now (out .exit) ≡ laid (sentBy act s) 0 (now (out .entry)) ⌝ }
 {
@@ -61,7 +63,7 @@ fn send_by(act: Act, s: State, out: &mut [u8; 258]) -> usize
 }
 
 // Lays the field behind what has come of its message before.
-pub fn keep(act: Act, received: usize, inf: &[u8], message: &mut [u8; 4354])
+pub fn keep(act: Act, received: usize, inf: &[u8], message: &mut [u8; ANSWER_MOST])
     ensures { λ _. ⌜ now (message .exit) ≡ laid (keptBy act (now (inf .entry))) received (now (message .entry)) ⌝ }
 {
     match act {
@@ -89,7 +91,7 @@ pub fn reply_of(act: Act, sent: usize, inf: usize) -> Reply
     }
 }
 
-pub fn finish(t: Turn, inf: usize, out: &mut [u8; 258]) -> Step
+pub fn finish(t: Turn, inf: usize, out: &mut [u8; LONGEST]) -> Step
     ensures { λ r. ⌜ r ≡ doneBy t inf ⌝ }
     ensures { λ _. ⌜ now (out .exit) ≡ laid (sentBy (t .act) (t .state)) 0 (now (out .entry)) ⌝ }
 {

@@ -2,9 +2,11 @@
 // caller lends the room for the block and for the message that comes in.
 mod doing;
 
+use apdu::ANSWER_MOST;
 use doing::finish;
 use doing::keep;
 use doing::reply_of;
+use t1_block::LONGEST;
 use t1_block::What;
 use t1_block::information;
 use t1_state::Counts;
@@ -60,7 +62,7 @@ pub fn fresh(role: Role, theirs: u8, ours: u8) -> State
             same: 0,
         },
         message: Message {
-            bytes: [0u8; 4354],
+            bytes: [0u8; ANSWER_MOST],
             length: 0,
             at: 0,
             size: 0,
@@ -79,7 +81,12 @@ fn first_phase(role: Role) -> Phase
 }
 
 // A block came: any bytes.
-pub fn receive(s: State, block: &[u8], out: &mut [u8; 258], message: &mut [u8; 4354]) -> Step
+pub fn receive(
+    s: State,
+    block: &[u8],
+    out: &mut [u8; LONGEST],
+    message: &mut [u8; ANSWER_MOST],
+) -> Step
     ensures { λ r. ⌜ r ≡ stepOf s (blockCame (now (block .entry))) ⌝ }
     ensures { λ _. ⌜ now (out .exit) ≡ outAfter s (blockCame (now (block .entry))) (now (out .entry)) ⌝ }
     ensures { λ _. ⌜ now (message .exit) ≡ messageAfter s (blockCame (now (block .entry))) (now (message .entry)) ⌝ }
@@ -106,7 +113,7 @@ pub fn silent(s: State) -> Step
 }
 
 // The terminal's first request.
-pub fn hello(s: State, out: &mut [u8; 258]) -> Step
+pub fn hello(s: State, out: &mut [u8; LONGEST]) -> Step
     ensures { λ r. ⌜ r ≡ stepOf s helloDue ⌝ }
     ensures { λ _. ⌜ now (out .exit) ≡ outAfter s helloDue (now (out .entry)) ⌝ }
 {
@@ -114,7 +121,7 @@ pub fn hello(s: State, out: &mut [u8; 258]) -> Step
 }
 
 // A card asks for another size of its own, or for more time.
-pub fn ask(s: State, w: What, v: u8, out: &mut [u8; 258]) -> Step
+pub fn ask(s: State, w: What, v: u8, out: &mut [u8; LONGEST]) -> Step
     ensures { λ r. ⌜ r ≡ stepOf s (askFor w v) ⌝ }
     ensures { λ _. ⌜ now (out .exit) ≡ outAfter s (askFor w v) (now (out .entry)) ⌝ }
 {
@@ -122,7 +129,7 @@ pub fn ask(s: State, w: What, v: u8, out: &mut [u8; 258]) -> Step
 }
 
 // A command, or the card's answer, is to be sent.
-pub fn send(s: State, m: &[u8], out: &mut [u8; 258]) -> Step
+pub fn send(s: State, m: &[u8], out: &mut [u8; LONGEST]) -> Step
     ensures { λ r. ⌜ r ≡ stepOf s (sendMessage (now (m .entry))) ⌝ }
     ensures { λ _. ⌜ now (out .exit) ≡ outAfter s (sendMessage (now (m .entry))) (now (out .entry)) ⌝ }
 {

@@ -11,7 +11,7 @@ ghost use Rattle.t1_block.specs.Blocks.{written};
 pub const LONGEST: usize = 258;
 
 // Answers how many bytes the block has; a field that is too long is not written, and nothing changes.
-pub fn write(pcb: u8, inf: &[u8], out: &mut [u8; 258]) -> usize
+pub fn write(pcb: u8, inf: &[u8], out: &mut [u8; LONGEST]) -> usize
     ensures { λ r. ⌜ r ≡ length (written pcb (now (inf .entry))) ⌝ }
     ensures { λ _. ⌜ now (out .exit) ≡ laid (written pcb (now (inf .entry))) 0 (now (out .entry)) ⌝ }
 {

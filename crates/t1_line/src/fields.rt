@@ -1,5 +1,6 @@
 // I-blocks.
 use crate::pieces::same_number;
+use apdu::ANSWER_MOST;
 use t1_again::ended_by;
 use t1_again::ready_for;
 use t1_again::wrong;
@@ -14,10 +15,8 @@ use t1_state::change::with_received;
 use t1_state::limits::more_of;
 ghost use mathlib.Core.Path.{_≡_};
 ghost use Prim.Native.Nat.{_+_, _≤_};
+ghost use Rattle.t1_state.specs.Limits.{messageMost};
 ghost use Rattle.t1_line.specs.Line.{takesFields, keeps, onInformation};
-
-// The most bytes of a message.
-const MOST: usize = 4354;
 
 pub fn on_information(s: State, number: bool, more: bool, n: u8) -> Turn
     ensures { λ r. ⌜ r ≡ onInformation number more n s ⌝ }
@@ -27,7 +26,7 @@ pub fn on_information(s: State, number: bool, more: bool, n: u8) -> Turn
     let m = s.message;
     if takes_fields(phase, more_of(m)) {
         if same_number(number, numbers.expected) {
-            if MOST - (n as usize) < s.received {
+            if ANSWER_MOST - (n as usize) < s.received {
                 return ended_by(s, End::Limit);
             }
             return keep(s, more, n);
@@ -51,7 +50,7 @@ fn takes_fields(phase: Phase, more: bool) -> bool
 }
 
 fn keep(s: State, more: bool, n: u8) -> Turn
-    requires { ⌜ s .received + n ≤ 4354 ⌝ }
+    requires { ⌜ s .received + n ≤ messageMost ⌝ }
     ensures { λ r. ⌜ r ≡ keeps more n s ⌝ }
 {
     let numbers = s.numbers;

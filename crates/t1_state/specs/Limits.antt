@@ -4,6 +4,7 @@ use mathlib.Core.Bool.{Bool}
 use Prim.Native.Nat.{ℕ, _+_, _-_, min}
 use lib.Dec.{eqb, leb, ltb}
 use Rattle.slices.specs.Choice.{pick}
+use Rattle.apdu.specs.Answers.{answerMost}
 use Rattle.t1_block.specs.Blocks.{infMost}
 use Rattle.t1_block.specs.declared.What.{What}
 use Rattle.t1_block.specs.declared.What.the-variants.{Resynch, Ifs, Abort, Wtx}
@@ -13,9 +14,9 @@ use Rattle.t1_state.specs.declared.Last.{Last}
 use Rattle.t1_state.specs.declared.Last.the-variants.{Nothing, Information, Ready, Request, Response}
 use Rattle.t1_state.specs.declared.Message.{Message}
 
--- the most bytes of a message either way: those of an answer by T=0, data and status
+-- the most bytes of a message either way
 abbrev pub messageMost : ℕ
-messageMost = 4354
+messageMost = answerMost
 
 -- the longest field that goes to an end that takes so many bytes: 1 to 254, whatever a state says
 unfoldable pub room : ℕ → ℕ

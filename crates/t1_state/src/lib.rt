@@ -2,6 +2,7 @@
 pub mod change;
 pub mod limits;
 
+use apdu::ANSWER_MOST;
 use t1_block::What;
 
 pub enum Role {
@@ -49,7 +50,7 @@ pub struct Counts {
 
 // A message of ours with zeros behind it, and the piece of it that is out.
 pub struct Message {
-    pub bytes: [u8; 4354],
+    pub bytes: [u8; ANSWER_MOST],
     pub length: usize,
     pub at: usize,
     pub size: usize,

@@ -1,4 +1,5 @@
 // What this end does of itself: the first request, a card's other requests, a message.
+use apdu::ANSWER_MOST;
 use slices::lay;
 use t1_again::goes_out;
 use t1_again::refused_as;
@@ -111,7 +112,7 @@ fn sends_message(s: State, m: &[u8]) -> Turn
 {
     let sizes = s.sizes;
     if 1 <= m.len() {
-        if m.len() <= 4354 {
+        if m.len() <= ANSWER_MOST {
             return goes_out(sends_piece(s, message_of(sizes.theirs, m)));
         }
         return refused_as(s, Refusal::Message);
@@ -123,7 +124,7 @@ fn sends_message(s: State, m: &[u8]) -> Turn
 fn message_of(theirs: u8, m: &[u8]) -> Message
     ensures { λ r. ⌜ r ≡ messageOf theirs (now (m .entry)) ⌝ }
 {
-    let mut bytes = [0u8; 4354];
+    let mut bytes = [0u8; ANSWER_MOST];
     lay(&mut bytes, 0, m);
     let whole = Message {
         bytes,
