@@ -4,12 +4,12 @@ use slices::lay;
 use slices::part;
 use tape_read::BLOCK;
 use tape_read::CHECK_AT;
+use tape_read::four_bytes;
 use tape_read::kind;
 use tape_read::number;
 use tape_read::session;
 ghost use mathlib.Core.Path.{_≡_};
 ghost use mathlib.Core.Bool.{not};
-ghost use Rattle.tape_read.specs.Numbers.{bytesOf};
 ghost use Rattle.tape_read.specs.Blocks.{field};
 ghost use Rattle.book_block.specs.Entries.{isVerdict};
 ghost use Rattle.book_block.specs.Blocks.{head, block, tapeIn, entryIn, zerosBad, faultOf};
@@ -161,15 +161,4 @@ fn long_at(b: &[u8], at: usize) -> u32
     ensures { λ r. ⌜ r ≡ field at 4 (now (b .entry)) ⌝ }
 {
     number(part(b, at, 4))
-}
-
-fn four_bytes(n: u32) -> [u8; 4]
-    ensures { λ r. ⌜ r ≡ bytesOf 4 n ⌝ }
-{
-    [
-        (n / 0x100_0000 % 256) as u8,
-        (n / 0x1_0000 % 256) as u8,
-        (n / 0x100 % 256) as u8,
-        (n % 256) as u8,
-    ]
 }

@@ -10,6 +10,7 @@ pub use read::session;
 ghost use mathlib.Core.Path.{_≡_};
 ghost use mathlib.Core.Bool.{not};
 ghost use Rattle.tape_read.specs.Entries.{isKind};
+ghost use Rattle.tape_read.specs.Numbers.{bytesOf};
 
 // The kinds of entries.
 pub const START: u8 = 1;
@@ -48,4 +49,16 @@ pub fn no_kind(k: u8) -> bool
         return true;
     }
     RESULTS < k
+}
+
+// A number as it stands in a block, its highest byte first.
+pub fn four_bytes(n: u32) -> [u8; 4]
+    ensures { λ r. ⌜ r ≡ bytesOf 4 n ⌝ }
+{
+    [
+        (n / 0x100_0000 % 256) as u8,
+        (n / 0x1_0000 % 256) as u8,
+        (n / 0x100 % 256) as u8,
+        (n % 256) as u8,
+    ]
 }

@@ -4,13 +4,13 @@ use tape_read::BLOCKS;
 use tape_read::CHECK_AT;
 use tape_read::PAYLOAD;
 use tape_read::PAYLOAD_AT;
+use tape_read::four_bytes;
 use tape_read::no_kind;
 ghost use mathlib.Core.Path.{_≡_};
 ghost use Prim.Native.Nat.{_≤_};
 ghost use lib.ListN.{length};
 ghost use Rattle.slices.specs.Writing.{put};
 ghost use Rattle.tape_read.specs.Entries.{entry, blockSize, payloadMost};
-ghost use Rattle.tape_read.specs.Numbers.{bytesOf};
 ghost use Rattle.tape_read.specs.Blocks.{head, body, block as blockOf};
 ghost use Rattle.tape_write.specs.Appending.{refusalOf, appendedOf, tapeAfter, fresh};
 
@@ -126,17 +126,6 @@ fn head_bytes(number: u32, session: u32, kind: u8, payload: &[u8]) -> [u8; PAYLO
         kind,
         0,
         (n / 256 % 256) as u8,
-        (n % 256) as u8,
-    ]
-}
-
-fn four_bytes(n: u32) -> [u8; 4]
-    ensures { λ r. ⌜ r ≡ bytesOf 4 n ⌝ }
-{
-    [
-        (n / 0x100_0000 % 256) as u8,
-        (n / 0x1_0000 % 256) as u8,
-        (n / 0x100 % 256) as u8,
         (n % 256) as u8,
     ]
 }

@@ -1,12 +1,12 @@
--- `book_block::four_bytes` meets its contract: the digits of the number, highest first. Assumes nothing.
+-- `tape_read::four_bytes` meets its contract: the digits of the number, highest first. Assumes nothing.
 use mathlib.Core.Path.{sym, ap}
 use mathlib.Core.List.{[], _∷_}
 use Prim.Native.Nat.{ℕ, _/_, _%_}
 use native.Mathlib.Nat.{div-one}
 use borrow.Author.Needs.{needs}
 use Rattle.tape_read.specs.Numbers.{bytesOf}
-use Rattle.book_block.proofs.four_bytes.Statement.{statement}
-use Rattle.book_block.proofs.four_bytes.Tie as tie
+use Rattle.tape_read.proofs.four_bytes.Statement.{statement}
+use Rattle.tape_read.proofs.four_bytes.Tie as tie
 
 returns : tie.Need-returns
 unfolding bytesOf
