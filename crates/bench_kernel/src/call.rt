@@ -4,7 +4,6 @@ use kernel::Step;
 use session_phase::Reply;
 use session_state::result::decision;
 use slices::part;
-use tape_read::RESULTS;
 use text_hex::unhex;
 ghost use Prim.Native.Nat.{_≤_};
 
@@ -48,13 +47,14 @@ fn stepped(s: Session, event: u8, payload: &[u8], command: &mut [u8]) -> Step {
     }
 }
 
-// Whose word is due; of the results of cardholder verification, how many.
+// Whose word is due, and how many are wanted where that is counted.
 fn print_due(s: Session, kind: u8) {
-    if kind == RESULTS {
-        text_print::text(b"RESULTS ");
-        text_print::number(s.results_due());
-    } else {
-        text_print::text(b"HOST");
+    let mut name = [0u8; text_kinds::LONGEST];
+    let n = text_kinds::word(kind, &mut name);
+    text_print::text(part(&name, 0, n));
+    if text_kinds::counts(kind) {
+        text_print::text(b" ");
+        text_print::number(s.count_due());
     }
 }
 

@@ -13,7 +13,7 @@ use Rattle.rulebook.proofs.Breaks.{break-unlawful}
 use Rattle.rulebook_due.specs.Due.{Due as Rule, nothing, countIn}
 use Rattle.rulebook_due.specs.After.{dueAt, dueIn, dueAfter}
 use Rattle.rulebook_due.proofs.After.{none-due, unlawful-due}
-use Rattle.session_phase.specs.Waiting.{wantedOf, awaited, resultsIn, outcomeOf, reasonOf}
+use Rattle.session_phase.specs.Waiting.{wantedOf, awaited, countDue, outcomeOf, reasonOf}
 use Rattle.session_phase.specs.declared.Waiting.{Waiting}
 use Rattle.session_state.specs.Results.{decisionIn}
 use Rattle.session_moves.specs.Moves.{speakerOf, keptAs}
@@ -53,10 +53,10 @@ module _ (j : Judgement) (out : List ℕ) where
   staged stage e = ap (λ (x : Stage). stageDue x j out) e
 
   word-due : (h : Heard) → StandsAt (j .state) (hears h) → wordDue j ≡ numbers (dueKind h) (countIn h)
-  unfolding wordDue awaited resultsIn keptAs
+  unfolding wordDue awaited countDue keptAs
   word-due h s =
       let kind : awaited (j .state .waiting) ≡ dueKind h = ap awaited (s .waits) ∙ kind-due h in
-      let count : resultsIn (j .state .waiting) ≡ countIn h = ap resultsIn (s .waits) ∙ count-due h in
+      let count : countDue (j .state .waiting) ≡ countIn h = ap countDue (s .waits) ∙ count-due h in
       λ i. numbers (kind i) (count i)
 
   decision-bytes : (outcome reason : ℕ) (z : Situation) → StandsAt (j .state) (decides outcome reason z)

@@ -5,7 +5,7 @@ use mathlib.Core.List.{List}
 use Prim.Native.Nat.{ℕ}
 use lib.ListN.{take}
 use Rattle.tape_read.specs.Entries.{command, answer, decision}
-use Rattle.session_phase.specs.Waiting.{awaited, resultsIn}
+use Rattle.session_phase.specs.Waiting.{awaited, countDue}
 use Rattle.session_state.specs.Results.{decisionIn}
 use Rattle.judge_stages.specs.declared.Stage.{Stage}
 use Rattle.judge_stages.specs.declared.Stage.the-variants.{Word, Command, Answer, Decision, Done, Closed, Broken}
@@ -15,7 +15,7 @@ use Rattle.judge_due.specs.declared.DueNext.{DueNext}
 use Rattle.judge_due.specs.Telling.{numbers, Handed, handed, withBytes}
 
 unfoldable pub wordDue : Judgement → DueNext
-wordDue j = numbers (awaited (j .state .waiting)) (resultsIn (j .state .waiting))
+wordDue j = numbers (awaited (j .state .waiting)) (countDue (j .state .waiting))
 
 unfoldable pub commandDue : ℕ → Judgement → List ℕ → Handed
 commandDue n j out = withBytes command (take n (j .command)) out

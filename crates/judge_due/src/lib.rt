@@ -3,7 +3,7 @@ use judge::UnderWay;
 use judge_follow::Judgement;
 use judge_stages::Stage;
 use session_phase::awaits;
-use session_phase::results_due;
+use session_phase::count_due;
 use session_state::result::decision;
 use slices::lay;
 use slices::part;
@@ -46,7 +46,7 @@ fn word(j: Judgement) -> DueNext
 {
     let state = j.state;
     let waiting = state.waiting;
-    numbers(awaits(waiting), results_due(waiting))
+    numbers(awaits(waiting), count_due(waiting))
 }
 
 fn command(j: Judgement, n: usize, out: &mut [u8]) -> DueNext

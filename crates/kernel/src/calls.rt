@@ -8,7 +8,7 @@ use session_events::event;
 use session_moves::Step as Move;
 use session_phase::Reply;
 use session_phase::Waiting;
-use session_phase::results_due;
+use session_phase::count_due;
 use session_state::State;
 use session_state::change;
 use tape_read::ANSWER;
@@ -20,7 +20,7 @@ ghost use mathlib.Core.Path.{_≡_};
 ghost use mathlib.Core.List.{[]};
 ghost use Rattle.tape_read.specs.Entries.{entry, start as startKind, answer as answerKind};
 ghost use Rattle.tape_read.specs.Entries.{silence as silenceKind, host as hostKind, results as resultsKind};
-ghost use Rattle.session_phase.specs.Waiting.{resultsIn};
+ghost use Rattle.session_phase.specs.Waiting.{countDue};
 ghost use Rattle.session_phase.specs.declared.Reply.the-variants.{Refused, Closed as ClosedReply};
 ghost use Rattle.dol_fill.specs.Filled.{summed};
 ghost use Rattle.kernel.specs.Calls.{called, call, closedState, freshSession};
@@ -121,13 +121,13 @@ impl Session {
         self.event(RESULTS, r, command)
     }
 
-    // How many of them are due; 0 where none are.
-    pub fn results_due(self) -> usize
-        ensures { λ r. ⌜ r ≡ resultsIn (self .state .waiting) ⌝ }
+    // How many are wanted of what is counted in the word that is due, as the results are; 0 where nothing is.
+    pub fn count_due(self) -> usize
+        ensures { λ r. ⌜ r ≡ countDue (self .state .waiting) ⌝ }
     {
         let state = self.state;
         let waiting = state.waiting;
-        results_due(waiting)
+        count_due(waiting)
     }
 
     pub fn silence(self, command: &mut [u8]) -> Step

@@ -10,11 +10,9 @@ use slices::part;
 use tape_read::BLOCK;
 use tape_read::COMMAND;
 use tape_read::DECISION;
-use tape_read::RESULTS;
 use text_hex::hex;
 use text_input::Filled;
 use text_input::fill;
-use text_lines::word_end;
 use verdict::Finding;
 
 // What was found in the end; or a read failed; or a line was not written.
@@ -89,25 +87,31 @@ fn tell_due(u: UnderWay, place: usize) -> bool {
     end_line(next.kind, next.size, &bytes)
 }
 
-// DUE, the entry's number, and the word for what is due, which stands in its place by its kind.
+// DUE, the entry's number, and the word for what is due.
 fn begin_line(index: usize, kind: u8) -> bool {
-    let names = b"NOTHING START   COMMAND ANSWER  SILENCE HOST    DECISIONRESULTS ";
-    let name = part(names, 8 * (kind as usize), 8);
+    let mut name = [0u8; text_kinds::LONGEST];
+    let n = text_kinds::word(kind, &mut name);
     let a = io::write_all(STDOUT_FILENO, b"DUE ");
     let b = io::print_decimal(STDOUT_FILENO, index as u64);
     let c = io::write_all(STDOUT_FILENO, b" ");
-    let d = io::write_all(STDOUT_FILENO, part(name, 0, word_end(name, 0)));
+    let d = io::write_all(STDOUT_FILENO, part(&name, 0, n));
     whole(a & b & c & d)
 }
 
-// The bytes where they are known, and the number of results.
+// The bytes where they are known; how many are wanted where that is counted.
 fn end_line(kind: u8, size: usize, bytes: &[u8]) -> bool {
     match kind {
         COMMAND => with_bytes(part(bytes, 0, size)),
         DECISION => with_bytes(part(bytes, 0, size)),
-        RESULTS => with_number(size),
-        _ => say(b"", b"", b""),
+        _ => with_count(kind, size),
     }
+}
+
+fn with_count(kind: u8, count: usize) -> bool {
+    if text_kinds::counts(kind) {
+        return with_number(count);
+    }
+    say(b"", b"", b"")
 }
 
 fn with_bytes(s: &[u8]) -> bool {

@@ -126,12 +126,17 @@ fn decision_in(s: Session) -> [u8; 9] {
     decision(state)
 }
 
-// Whose word is due; of the results of cardholder verification, how many.
+// Whose word is due, and how many are wanted where that is counted.
 fn print_due(s: Session, kind: u8) -> bool {
-    if kind == RESULTS {
-        return say::with_number(b"RESULTS ", s.results_due());
+    let mut name = [0u8; text_kinds::LONGEST];
+    let n = text_kinds::word(kind, &mut name);
+    if !say::text(part(&name, 0, n)) {
+        return false;
     }
-    say::text(b"HOST\n")
+    if text_kinds::counts(kind) {
+        return say::with_number(b" ", s.count_due());
+    }
+    say::text(b"\n")
 }
 
 fn print_reply(s: Session, reply: Reply, command: &[u8]) -> bool {

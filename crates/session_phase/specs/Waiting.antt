@@ -23,16 +23,16 @@ awaited (ForWord speaker) = kindOf speaker
 awaited (Decided outcome reason) = 0
 awaited Closed = 0
 
--- how many are wanted of what is counted, the results of cardholder verification (02, R-7); 0 where nothing is
+-- how many are wanted of what is counted in a word, as the results of cardholder verification are (02, R-7); 0 where nothing is
 unfoldable pub wantedOf : Speaker → ℕ
 wantedOf Terminal = 0
 wantedOf (Says word count) = count
 
-unfoldable pub resultsIn : Waiting → ℕ
-resultsIn (ForCard question) = 0
-resultsIn (ForWord speaker) = wantedOf speaker
-resultsIn (Decided outcome reason) = 0
-resultsIn Closed = 0
+unfoldable pub countDue : Waiting → ℕ
+countDue (ForCard question) = 0
+countDue (ForWord speaker) = wantedOf speaker
+countDue (Decided outcome reason) = 0
+countDue Closed = 0
 
 -- nothing is due any more
 unfoldable pub isOver : Waiting → Bool

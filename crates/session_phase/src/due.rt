@@ -4,7 +4,7 @@ use crate::Waiting;
 use tape_read::ANSWER;
 use tape_read::START;
 ghost use mathlib.Core.Path.{_≡_};
-ghost use Rattle.session_phase.specs.Waiting.{kindOf, awaited, wantedOf, resultsIn, outcomeOf, reasonOf};
+ghost use Rattle.session_phase.specs.Waiting.{kindOf, awaited, wantedOf, countDue, outcomeOf, reasonOf};
 
 // The kind of the entry that has somebody's word.
 pub fn kind_of(speaker: Speaker) -> u8
@@ -38,9 +38,9 @@ fn wanted(speaker: Speaker) -> usize
     }
 }
 
-// How many results of cardholder verification a session waits for; 0 where it waits for none.
-pub fn results_due(waiting: Waiting) -> usize
-    ensures { λ r. ⌜ r ≡ resultsIn waiting ⌝ }
+// How many are wanted of what is counted in the word that a session waits for; 0 where it waits for none.
+pub fn count_due(waiting: Waiting) -> usize
+    ensures { λ r. ⌜ r ≡ countDue waiting ⌝ }
 {
     match waiting {
         Waiting::ForCard(_) => 0,

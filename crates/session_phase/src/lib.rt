@@ -4,10 +4,10 @@ mod say;
 
 use decide_cryptogram::Cryptogram;
 pub use due::awaits;
+pub use due::count_due;
 pub use due::kind_of;
 pub use due::outcome;
 pub use due::reason;
-pub use due::results_due;
 pub use say::is_allowed;
 pub use say::refusal_by;
 use words::Word;
