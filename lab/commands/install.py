@@ -15,7 +15,7 @@ Example:  bin/install /opt/lab && /opt/lab/bin/judge --samples
 Status:   0 installed; 2 not
 """
 PROGRAMS = ["lab_tapes", "judge_tape", "book_file", "recover_tape", "play", "exchange_t0", "exchange_t1", "read_atr"]
-COMMANDS = ["judge", "campaign", "book", "recover", "play", "run", "start"]
+COMMANDS = ["judge", "campaign", "book", "recover", "play", "report", "run", "start"]
 
 
 def copy_emulator(target):

@@ -1,0 +1,168 @@
+"""A report as one HTML file: no script, nothing fetched. All text from outside goes through `safe`."""
+import html
+
+from lab import report_strips, report_tapes, report_words
+from lab.report_style import HEAD, STYLE
+from lab.verdicts import VERDICTS
+from lab.words import text
+
+LONGEST_NAME = 120
+# So many tapes of each kind of list are shown with their lines, so many terminals have a row of their own.
+LISTED, LISTED_ERRORS, ROWS = {"FAIL": 900, "INCONCLUSIVE": 350, "UNREADABLE": 350}, 200, 200
+TITLES = {"FAIL": "Failures, by what was due and what stood there", "INCONCLUSIVE": "Unfinished, by what was waited for",
+          "UNREADABLE": "Damaged, by code"}
+
+
+def safe(words):
+    """Text from outside: what cannot be seen is written out, and nothing is taken for HTML."""
+    seen = "".join(c if c.isprintable() else f"\\x{ord(c):02x}" if ord(c) < 256 else f"\\u{ord(c):04x}" for c in words)
+    return html.escape(seen, quote=True)
+
+
+def name(data):
+    """A name, which may be bytes; of a long one its beginning and its end."""
+    words = text(data)
+    if len(words) > LONGEST_NAME:
+        words = f"{words[:40]} … {words[-70:]} ({len(data):,} bytes)"
+    return safe(words)
+
+
+def tapes_word(count):
+    return f"{count:,} tape{'' if count == 1 else 's'}"
+
+
+def cards(counts):
+    made = "".join(f'<div class="card {verdict}">{report_strips.swatch(verdict)}<b>{counts[verdict]:,}</b><span>{verdict}</span>'
+                   f'<p>{report_words.MEANINGS[verdict]}</p></div>' for verdict in VERDICTS)
+    return f'<div class="cards">{made}</div>{report_strips.bar(counts)}'
+
+
+def evidence_box(counts):
+    """Clause 9 of the lab's contract (00)."""
+    count = counts["INCONCLUSIVE"] + counts["UNREADABLE"]
+    if not count:
+        return ""
+    are, they, until = ("is", "It counts", "it is") if count == 1 else ("are", "They count", "they are")
+    return (f'<div class="box"><b>{tapes_word(count)} {are} evidence for nothing.</b> Clause 9: absence of failure shall not be evidence. '
+            f"{they} for no terminal until {until} recorded again.</div>")
+
+
+def error_box(night):
+    """The tapes that could not be judged: each line of them counts, also where the tape was judged later."""
+    if not night.errors:
+        return ""
+    count, left = len(night.errors), len(night.errors) - night.settled
+    said = [f"<b>{count:,} time{'' if count == 1 else 's'} a tape could not be judged.</b>"]
+    if night.settled:
+        said.append(f"{night.settled:,} of them came to a verdict under the same name in a later line.")
+    if left:
+        said.append(f"{left:,} did not: no verdict is known, and nothing below speaks of these tapes.")
+    rows = "".join(f"<li>{name(line.name)}: {safe(line.error[:300])}</li>" for line in night.errors[:LISTED_ERRORS])
+    return (f'<div class="box strong">{" ".join(said)}<details><summary>which, and why</summary><ul>{rows}</ul>'
+            f"{more(count, LISTED_ERRORS)}</details></div>")
+
+
+def more(count, listed):
+    return f'<p class="more">and {count - listed:,} more, which stand in the list of findings</p>' if count > listed else ""
+
+
+def notes_box(night):
+    """What else must be known of the list: disputes, changed files, copies, zeros."""
+    parts = []
+    for lines in night.disputed[:20]:
+        said = "; ".join(f"{report_words.where(line)} (judge {safe(line.judge[:80])})" for line in lines)
+        parts.append(f"<li><b>The same bytes were judged differently:</b> {name(lines[0].name)}: {said}. The worst counts.</li>")
+    if len(night.disputed) > 20:
+        parts.append(f"<li>{len(night.disputed) - 20:,} more tapes were judged differently; the worst counts.</li>")
+    if night.changed:
+        shown = ", ".join(name(one) for one in night.changed[:10]) + (", …" if len(night.changed) > 10 else "")
+        parts.append(f"<li>{len(night.changed):,} name{'' if len(night.changed) == 1 else 's'} had other bytes when the file was judged "
+                     f"again: each of these tapes counts by itself. {shown}</li>")
+    if night.copies:
+        have = "has" if night.copies == 1 else "have"
+        parts.append(f"<li>{tapes_word(night.copies)} {have} the very bytes of another tape of this list: counted, and no evidence beside "
+                     "it.</li>")
+    zeros = [tape.zeros for tape in night.tapes if tape.zeros]
+    if zeros:
+        parts.append(f"<li>In {tapes_word(len(zeros))} the terminal filled {sum(zeros):,} entries of the card's lists with zeros, having "
+                     "no value for them.</li>")
+    return f'<div class="box plain"><ul>{"".join(parts)}</ul></div>' if parts else ""
+
+
+def row(label, tapes, errors, most, with_errors):
+    counts = report_tapes.counts(tapes)
+    numbers = "".join(f'<td class="n {verdict if counts[verdict] else "none"}">{counts[verdict]:,}</td>' for verdict in VERDICTS)
+    numbers += f'<td class="n">{errors:,}</td>' if with_errors else ""
+    empty = "" if counts["PASS"] or counts["FAIL"] else "<small>no evidence of any kind</small>"
+    lanes = "<br>".join(verdict[0] for verdict in report_strips.LANES)
+    return (f'<tr><th scope="row">{label}{empty}</th><td><div class="lanes"><span>{lanes}</span>'
+            f"{report_strips.strip(tapes, most, counts)}</div></td>{numbers}</tr>")
+
+
+def terminals_table(terminals, with_errors):
+    shown, rest = terminals[:ROWS], terminals[ROWS:]
+    most = report_strips.columns_each(len(shown) + bool(rest))
+    rows = [row(name(one.name), one.tapes, one.errors, most, with_errors) for one in shown]
+    if rest:
+        label = f"{len(rest):,} more terminals together, one after the other"
+        rows.append(row(label, [tape for one in rest for tape in one.tapes], sum(one.errors for one in rest), most, with_errors))
+    heads = "".join(f'<th scope="col" class="n">{head}</th>' for head in ("PASS", "FAIL", "INC.", "UNR.", *["not judged"] * with_errors))
+    largest = max(len(one.tapes) for one in terminals)
+    note = "A column is one tape."
+    if largest > most or rest:
+        note = "Where there are many, a column stands for several tapes, and is the higher the more of them have the verdict."
+    places = [f"lane {verdict[0]}" if verdict in report_strips.LANES else "the pale ground" for verdict in VERDICTS]
+    legend = "".join(f"<span>{report_strips.swatch(verdict)}{verdict}, {place}</span>" for verdict, place in zip(VERDICTS, places))
+    return (f'<h2>Terminals, the worst first</h2><p class="legend">{legend}</p><table class="terminals"><thead><tr>'
+            f'<th scope="col">Terminal</th><th scope="col">Tapes, first to last. <small>{note}</small></th>{heads}</tr></thead>'
+            f"<tbody>{''.join(rows)}</tbody></table>")
+
+
+def tape_lines(tape, with_cause):
+    """One tape where its group is opened."""
+    session = "" if tape.session is None else f", session {tape.session}"
+    cause = f": {safe(report_words.cause(tape))}" if with_cause else ""
+    made = [f"<li><b>{name(tape.name)}</b> <small>{report_words.where(tape)}{session}, sha256 {tape.sha256[:16]}…{cause}</small>"]
+    for label, pieces in report_words.explained(tape):
+        shown = " ".join(f"<mark>{safe(piece)}</mark>" if marked else safe(piece) for piece, marked in pieces)
+        made.append(f"<div><i>{label}</i> <code>{shown}</code></div>")
+    return "".join(made) + "</li>"
+
+
+def top_terminals(tapes, named):
+    found = {}
+    for tape in tapes:
+        found[named[tape.name]] = found.get(named[tape.name], 0) + 1
+    first = sorted(found.items(), key=lambda one: (-one[1], one[0]))
+    return ", ".join(f"{name(one)} ({count:,})" for one, count in first[:3]) + (f", {len(first) - 3:,} more" if len(first) > 3 else "")
+
+
+def group_lists(night, verdict, named):
+    groups = report_tapes.groups(night, verdict)
+    if not groups:
+        return ""
+    listed, made = report_tapes.share([len(group.tapes) for group in groups], LISTED[verdict]), []
+    for group in groups:
+        tapes = "".join(tape_lines(tape, group.mixed) for tape in group.tapes[:listed])
+        count = len(group.tapes)
+        made.append(f'<details class="group {verdict}"><summary><b>{count:,}</b> {safe(group.words)}'
+                    f"<small>{top_terminals(group.tapes, named)}</small></summary><ul>{tapes}</ul>{more(count, listed)}</details>")
+    return f"<h2>{TITLES[verdict]}</h2>{''.join(made)}"
+
+
+def foot(told):
+    """Where all of it comes from: pairs of a label and lines."""
+    rows = "".join(f'<tr><th scope="row">{label}</th><td>{"<br>".join(safe(line) for line in lines)}</td></tr>' for label, lines in told)
+    return f'<h2>Where this comes from</h2><table class="foot"><tbody>{rows}</tbody></table>'
+
+
+def page(title, night, by, told):
+    """The whole file, as bytes."""
+    terminals, named = report_tapes.terminals(night, by)
+    counts = report_tapes.counts(night.tapes)
+    of = f"{tapes_word(len(night.tapes))} of {len(terminals):,} terminal{'' if len(terminals) == 1 else 's'}"
+    body = [f'<h1>{safe(title)}</h1><p class="sub">{of}</p>', report_strips.PATTERNS, cards(counts), evidence_box(counts), error_box(night),
+            notes_box(night), terminals_table(terminals, bool(night.errors))]
+    body += [group_lists(night, verdict, named) for verdict in report_strips.LANES]
+    head = f"{HEAD}<title>{safe(title)}</title>\n<style>{STYLE}</style>\n</head>\n"
+    return "\n".join([head + "<body>", *filter(None, body), foot(told), "</body>\n</html>\n"]).encode()
