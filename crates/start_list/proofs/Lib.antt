@@ -1,0 +1,4 @@
+pub mod InRows
+pub mod Lists
+pub mod Listed
+pub mod Worked
