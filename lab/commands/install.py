@@ -14,8 +14,8 @@ bin/install PREFIX    puts the programs of the front, the front and the samples 
 Example:  bin/install /opt/lab && /opt/lab/bin/judge --samples
 Status:   0 installed; 2 not
 """
-PROGRAMS = ["lab_tapes", "judge_tape", "book_file", "recover_tape", "play", "exchange_t0", "exchange_t1", "read_atr"]
-COMMANDS = ["judge", "campaign", "book", "recover", "play", "report", "run", "start"]
+PROGRAMS = ["lab_tapes", "judge_tape", "book_file", "recover_tape", "play", "exchange_t0", "exchange_t1", "read_atr", "hand_answer"]
+COMMANDS = ["judge", "campaign", "book", "recover", "play", "report", "run", "start", "card"]
 
 
 def copy_emulator(target):

@@ -1,7 +1,7 @@
 """bin/start: the terminal's data of START from named fields, and back."""
 import re
 
-from lab import programs
+from lab import sessions
 from lab.numbers import NoNumber, number
 from lab.words import NOT_ALL, Undone, command, voice
 
@@ -173,14 +173,6 @@ def told(data):
     return lines + [f"length={len(data)}"]
 
 
-def asked_of_the_kernel(data):
-    [words] = programs.ready("play")
-    said, errors, _ = programs.said(words, b"START " + data.hex().upper().encode() + b"\n")
-    if errors or not re.fullmatch(rb"COMMAND [0-9A-F]+\n|REFUSED [0-9]+\n", said):
-        raise Undone("the kernel could not be asked" + (f": {errors}" if errors else ""))
-    return said
-
-
 def main(asked):
     words = [word.decode("utf-8", "backslashreplace") for word in asked.rest]
     if asked.get("--fields"):
@@ -198,7 +190,7 @@ def main(asked):
     else:
         data = made(words)
         voice.line("START " + data.hex().upper())
-    said = asked_of_the_kernel(data)
+    said = sessions.begins(data)
     if said.startswith(b"COMMAND"):
         voice.note("accepted")
     else:

@@ -11,7 +11,7 @@ import subprocess
 
 from trying import PASS, ROOT, SAMPLES, Trial, closed, program, without_kit
 
-COMMANDS = ("judge", "campaign", "book", "recover", "play", "run", "start", "install")
+COMMANDS = ("judge", "campaign", "book", "recover", "play", "run", "start", "card", "install")
 START = re.compile(r"START ([0-9A-F]+)")
 
 
