@@ -92,6 +92,10 @@ class Copy:
         kind = ENTRY_KINDS[block[8]] if block[8] < len(ENTRY_KINDS) else f"kind {block[8]}"
         return {"kind": kind, "bytes": block[12:12 + int.from_bytes(block[10:12], "big")].hex().upper()}
 
+    def whole(self):
+        """The bytes of the tape that was taken."""
+        return os.pread(self.taken, os.fstat(self.taken).st_size, 0)
+
     def close(self):
         if self.memory is not None:
             os.close(self.memory)
@@ -126,8 +130,8 @@ def read_input():
         pieces.append(piece)
 
 
-def write_new(name, data):
-    """A file written whole or not at all, and on its device."""
+def write_new(name, data, over=True):
+    """A file written whole or not at all, and on its device; one that is there is written over, or is an error."""
     folder, base = os.path.split(os.path.abspath(os.fsencode(name)))
     number, temporary = tempfile.mkstemp(prefix=b"." + base + b".", dir=folder)
     try:
@@ -136,7 +140,10 @@ def write_new(name, data):
             file.flush()
             os.fsync(file.fileno())
         os.chmod(temporary, 0o644)
-        os.replace(temporary, name)
+        if over:
+            return os.replace(temporary, name)
+        os.link(temporary, name)
+        os.unlink(temporary)
     except BaseException:
         os.unlink(temporary)
         raise
