@@ -22,8 +22,10 @@ HEAD = """-- The machine of the rulebook with every definition under it open, so
 use mathlib.Core.List.{List}
 use mathlib.Core.Option.{Option}
 use Rattle.tape_read.specs.Entries.{Entry}
+use Rattle.sessions.specs.Machine.{run}
 use Rattle.rulebook.specs.Phase.{opens}
-use Rattle.rulebook.specs.Machine.{Machine, at, run}
+use Rattle.rulebook.specs.Session.{rules}
+use Rattle.rulebook.specs.Machine.{Machine, at}
 """
 
 
@@ -35,9 +37,9 @@ def below(crate):
 
 
 def opened(crate):
-    """(module, name) of each definition of a crate that can be unfolded to a value."""
+    """(module, name) of each definition of a crate, in a section or not, that can be unfolded to a value."""
     for path in sorted((ROOT / "crates" / crate / "specs").glob("*.antt")):
-        for name, kind in re.findall(r"^unfoldable pub (\S+) : (.*)$", path.read_text(), re.M):
+        for name, kind in re.findall(r"^ *unfoldable pub (\S+) : (.*)$", path.read_text(), re.M):
             if not kind.rstrip().endswith("Type 0"):
                 yield path.stem, name
 
@@ -68,7 +70,7 @@ def text():
             names += short
     body = ["", "-- the state that a session's entries lead to", "unfoldable pub reached : List Entry → Option Machine"]
     body += wrapped([*names, "run"], "unfolding", "   ")
-    return HEAD + "\n".join(imports + body) + "\nreached es = run es (at opens)\n"
+    return HEAD + "\n".join(imports + body) + "\nreached es = run rules es (at opens)\n"
 
 
 def main():

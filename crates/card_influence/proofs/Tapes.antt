@@ -9,12 +9,14 @@ use mathlib.Core.Option.{some}
 use Prim.Native.Nat.{ℕ, _+_}
 use Rattle.tape_read.specs.Entries.{Entry, entry, answer}
 use Rattle.tape_read.specs.Tapes.{readTape}
+use Rattle.sessions.specs.Session.{isPayload}
+use Rattle.sessions.specs.Machine.{next}
+use Rattle.sessions.proofs.Running.{takes-answer}
 use Rattle.rulebook.specs.Phase.{Asked, Phase}
 use Rattle.rulebook.specs.Turn.{turn}
-use Rattle.rulebook.specs.Session.{isPayload}
-use Rattle.rulebook.specs.Machine.{Machine, at, owes, next}
-use Rattle.rulebook.proofs.Running.{takes-answer}
+use Rattle.rulebook.specs.Machine.{Machine, at, owes}
 use Rattle.rulebook_zeros.specs.Summing.{newIn, countOn, zerosFrom}
+use Rattle.rulebook.specs.Session.{rules}
 use Rattle.verdict.specs.declared.Answer.{Answer}
 use Rattle.verdict_judged.specs.Judged.{Judged}
 use Rattle.verdict_judged.specs.Zeroed.{Zeroed}
@@ -28,11 +30,11 @@ use Rattle.card_influence.specs.Exchanged.{Exchanged, rest, kept, other,
 
 -- both answers are taken, and lead to the same state
 same-state : (w : Asked) (a b : List ℕ) → isPayload a ≡ true → isPayload b ≡ true → seen (placeOf w) a ≡ seen (placeOf w) b
-    → next (owes w) (entry answer b) ≡ some (at (turn w a))
-same-state w a b ok ok′ e = takes-answer w b ok′ ∙ ap (λ (p : Phase). some (at p)) (sym (settled w a b e))
+    → next rules (owes w) (entry answer b) ≡ some (at (turn w a))
+same-state w a b ok ok′ e = takes-answer rules w b ok′ ∙ ap (λ (p : Phase). some (at p)) (sym (settled w a b e))
 
 module _ (n : ℕ) where
-  taken : (σ τ : Machine) (e : Entry) → next σ e ≡ some τ → reads (reached σ n) e ≡ reached τ (n + 1)
+  taken : (σ τ : Machine) (e : Entry) → next rules σ e ≡ some τ → reads (reached σ n) e ≡ reached τ (n + 1)
   unfolding reads onward
   taken σ τ e h = ap (onward σ n e) h
 
@@ -43,7 +45,7 @@ same-progress n (kept {σ} {es} {fs} e τ h more) =
     ap (λ (m : Progress). readsAll m es) (taken n σ τ e h)
     ∙ (same-progress (n + 1) more ∙ sym (ap (λ (m : Progress). readsAll m fs) (taken n σ τ e h)))
 same-progress n (other {w} {es} {fs} a b ok ok′ same more) =
-    ap (λ (m : Progress). readsAll m es) (taken n (owes w) (at (turn w a)) (entry answer a) (takes-answer w a ok))
+    ap (λ (m : Progress). readsAll m es) (taken n (owes w) (at (turn w a)) (entry answer a) (takes-answer rules w a ok))
     ∙ (same-progress (n + 1) more
     ∙ sym (ap (λ (m : Progress). readsAll m fs) (taken n (owes w) (at (turn w a)) (entry answer b) (same-state w a b ok ok′ same))))
 
@@ -53,7 +55,7 @@ same-zeros rest = refl
 same-zeros (kept {σ} {es} {fs} e τ h more) =
     ap (countOn (zerosFrom es)) h ∙ (ap (λ (n : ℕ). newIn τ + n) (same-zeros more) ∙ sym (ap (countOn (zerosFrom fs)) h))
 same-zeros (other {w} {es} {fs} a b ok ok′ same more) =
-    ap (countOn (zerosFrom es)) (takes-answer w a ok)
+    ap (countOn (zerosFrom es)) (takes-answer rules w a ok)
     ∙ (ap (λ (n : ℕ). newIn (at (turn w a)) + n) (same-zeros more)
     ∙ sym (ap (countOn (zerosFrom fs)) (same-state w a b ok ok′ same)))
 

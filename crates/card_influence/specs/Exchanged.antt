@@ -8,10 +8,12 @@ use mathlib.Core.Option.{some}
 use Prim.Native.Nat.{ℕ}
 use Rattle.tape_read.specs.Entries.{Entry, entry, answer}
 use Rattle.tape_read.specs.Tapes.{entries, readTape}
+use Rattle.sessions.specs.Session.{isPayload}
+use Rattle.sessions.specs.Machine.{next}
 use Rattle.rulebook.specs.Phase.{Asked, opens}
 use Rattle.rulebook.specs.Turn.{turn}
-use Rattle.rulebook.specs.Session.{isPayload}
-use Rattle.rulebook.specs.Machine.{Machine, at, owes, next}
+use Rattle.rulebook.specs.Machine.{Machine, at, owes}
+use Rattle.rulebook.specs.Session.{rules}
 use Rattle.card_seen.specs.Seen.{seen}
 use Rattle.card_seen.specs.Given.{placeOf}
 
@@ -20,7 +22,7 @@ pub data Exchanged : Machine → List Entry → List Entry → Type 0 where
   -- from here on all entries are the same, whatever they are: a closing silence, what breaks the rules, what follows that
   rest : {σ : Machine} {es : List Entry} → Exchanged σ es es
   -- an entry that can be stays
-  kept : {σ : Machine} {es fs : List Entry} (e : Entry) (τ : Machine) → next σ e ≡ some τ → Exchanged τ es fs
+  kept : {σ : Machine} {es fs : List Entry} (e : Entry) (τ : Machine) → next rules σ e ≡ some τ → Exchanged τ es fs
       → Exchanged σ (e ∷ es) (e ∷ fs)
   -- an answer where one is due
   other : {w : Asked} {es fs : List Entry} (a b : List ℕ) → isPayload a ≡ true → isPayload b ≡ true

@@ -7,10 +7,11 @@ use Prim.Native.Nat.{ℕ}
 use Rattle.slices.specs.Choice.{pick}
 use Rattle.slices.proofs.Choice.{pick-no}
 use Rattle.tape_read.specs.Entries.{Entry, entry, command, answer, decision}
+use Rattle.sessions.specs.Session.{phasesOf}
 use Rattle.rulebook.specs.Phase.{Heard, Phase, asks, hears, decides, commandOf, dueKind, decisionOf}
 use Rattle.rulebook.specs.Phase.{tvrOf, tsiOf}
 use Rattle.rulebook.specs.Turn.{after}
-use Rattle.rulebook.specs.Session.{Plays, exchanged, heard, decided, phasesOf}
+use Rattle.rulebook.specs.Session.{rules, Plays, exchanged, heard, decided}
 use Rattle.rulebook.proofs.Said.{other-kinds}
 use Rattle.rulebook_zeros.specs.Zeros.{unsuppliedIn, addedBy}
 use Rattle.card_seen.specs.Given.{Given, said, showed, givenTo, butAnswer, butAnswers, Same}
@@ -63,7 +64,7 @@ pub kept : (c a : List ℕ) (d : List ℕ)
 unfolding butAnswer pick
 kept c a d = (refl, (refl, refl))
 
-pub phases-by : {p : Phase} {es : List Entry} (play : Plays p es) → phasesOf play ≡ phasesBy (givenTo play) p
+pub phases-by : {p : Phase} {es : List Entry} (play : Plays p es) → phasesOf rules play ≡ phasesBy (givenTo play) p
 unfolding phasesOf givenTo phasesBy
 phases-by (exchanged {w} {c} {a} same ok play) =
     ap (λ (ps : List Phase). asks w ∷ asks w ∷ ps) (phases-by play ∙ ap (phasesBy (givenTo play)) (turn-seen w a))

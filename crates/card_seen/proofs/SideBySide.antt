@@ -74,10 +74,10 @@ alike-turn w a b alike one other = settled w a b (alike-seen (placeOf w) a b ali
 
 -- ---- two sessions
 
-same-question : (w v : Asked) → asks w ≡ asks v → w ≡ v
+same-question : (w v : Asked) → _≡_ {A = Phase} (asks w) (asks v) → w ≡ v
 same-question w v e = cc
 
-same-word : (h i : Heard) → hears h ≡ hears i → h ≡ i
+same-word : (h i : Heard) → _≡_ {A = Phase} (hears h) (hears i) → h ≡ i
 same-word h i e = cc
 
 impossible : {A : Type 0} (p q : Phase) → p ≡ q → (p ≡ q → _≡_ {A = ℕ} 0 1) → A

@@ -8,8 +8,9 @@ use lib.Dec.{eqb}
 use Rattle.slices.specs.Choice.{pick}
 use Rattle.tape_read.specs.Entries.{Entry, entry, answer}
 use Rattle.answer_common.specs.Content.{namesFor}
+use Rattle.sessions.specs.Session.{phasesOf}
 use Rattle.rulebook.specs.Phase.{Asked, selecting, optioning, reading as readingRecord, first, second, Phase, tvrOf, tsiOf}
-use Rattle.rulebook.specs.Session.{Plays, exchanged, heard, decided, phasesOf}
+use Rattle.rulebook.specs.Session.{rules, Plays, exchanged, heard, decided}
 use Rattle.rulebook_zeros.specs.Zeros.{addedBy}
 use Rattle.card_seen.specs.Seen.{Place, selection, options, reading, generation, Seen, seen}
 
@@ -42,8 +43,8 @@ butAnswers es = map butAnswer es
 -- two sessions that are the same but for the bytes of the card's answers: the phases that are passed, TVR and TSI at each entry, every
 -- entry but for these bytes, and what each entry adds to the fourth number
 pub record Same {p : Phase} {es fs : List Entry} (one : Plays p es) (other : Plays p fs) : Type 0 where
-  pub phases : phasesOf one ≡ phasesOf other
-  pub tvr : map tvrOf (phasesOf one) ≡ map tvrOf (phasesOf other)
-  pub tsi : map tsiOf (phasesOf one) ≡ map tsiOf (phasesOf other)
+  pub phases : phasesOf rules one ≡ phasesOf rules other
+  pub tvr : map tvrOf (phasesOf rules one) ≡ map tvrOf (phasesOf rules other)
+  pub tsi : map tsiOf (phasesOf rules one) ≡ map tsiOf (phasesOf rules other)
   pub entries : butAnswers es ≡ butAnswers fs
   pub zeros : addedBy one ≡ addedBy other

@@ -7,10 +7,12 @@ use mathlib.Core.List.{List}
 use mathlib.Core.Option.{some}
 use Prim.Native.Nat.{ℕ}
 use Rattle.tape_read.specs.Entries.{Entry}
+use Rattle.sessions.specs.Session.{phasesOf}
+use Rattle.sessions.specs.Machine.{run}
 use Rattle.rulebook.specs.Phase.{Asked, Phase, opens}
 use Rattle.rulebook.specs.Turn.{turn}
-use Rattle.rulebook.specs.Session.{Plays, phasesOf}
-use Rattle.rulebook.specs.Machine.{Machine, at, run}
+use Rattle.rulebook.specs.Session.{rules, Plays}
+use Rattle.rulebook.specs.Machine.{Machine, at}
 use Rattle.rulebook_zeros.specs.Zeros.{addedBy}
 use Rattle.card_seen.specs.Seen.{Place, options, generation, apartOptions, apartCryptogram, Seen, seen}
 use Rattle.card_seen.specs.Given.{placeOf, Given, givenTo, butAnswers, Same}
@@ -27,15 +29,15 @@ pub record Influence : Type 0 where
   -- 2. Whole sessions: functions of what a session is given, and of nothing else, say the phases that it passes, its entries but for the
   -- bytes of the card's answers, and what each entry adds to the fourth number. So two sessions that are given the same are the same
   -- but for these bytes
-  pub phases : (f : List Given → List Phase) × ((es : List Entry) (play : Plays opens es) → phasesOf play ≡ f (givenTo play))
+  pub phases : (f : List Given → List Phase) × ((es : List Entry) (play : Plays opens es) → phasesOf rules play ≡ f (givenTo play))
   pub entries : (f : List Given → List Entry) × ((es : List Entry) (play : Plays opens es) → butAnswers es ≡ f (givenTo play))
   pub zeros : (f : List Given → List ℕ) × ((es : List Entry) (play : Plays opens es) → addedBy play ≡ f (givenTo play))
   pub same-session : (es fs : List Entry) (one : Plays opens es) (other : Plays opens fs) → givenTo one ≡ givenTo other → Same one other
   -- 02's sentence: so are two sessions with the same words whose answers are alike and end no session
   pub as-written : (es fs : List Entry) (one : Plays opens es) (other : Plays opens fs) → SideBySide one other → Same one other
   -- and so are beginnings that are given the same, wherever they stop: they lead to the same state of the rulebook's machine
-  pub same-beginning : (es fs : List Entry) → Alongside (at opens) es fs → (τ ρ : Machine) → run es (at opens) ≡ some τ
-      → run fs (at opens) ≡ some ρ → (τ ≡ ρ) × (butAnswers es ≡ butAnswers fs)
+  pub same-beginning : (es fs : List Entry) → Alongside (at opens) es fs → (τ ρ : Machine) → run rules es (at opens) ≡ some τ
+      → run rules fs (at opens) ≡ some ρ → (τ ≡ ρ) × (butAnswers es ≡ butAnswers fs)
   -- 5. Of two good answers only what the session goes on with matters
   pub good : (w : Asked) (a b : List ℕ) → usedOf w a ≡ usedOf w b → reasonIn (turn w a) ≡ 0 → reasonIn (turn w b) ≡ 0
       → turn w a ≡ turn w b

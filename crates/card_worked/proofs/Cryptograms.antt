@@ -7,9 +7,10 @@ use mathlib.Core.List.{List, [], _∷_, _++_}
 use mathlib.Core.Option.{some}
 use Prim.Native.Nat.{ℕ}
 use Rattle.tape_read.specs.Entries.{Entry, entry, answer}
+use Rattle.sessions.specs.Machine.{run}
 use Rattle.rulebook.specs.Phase.{opens}
-use Rattle.rulebook.specs.Session.{Session}
-use Rattle.rulebook.specs.Machine.{at, run}
+use Rattle.rulebook.specs.Session.{rules, Session}
+use Rattle.rulebook.specs.Machine.{at}
 use Rattle.rulebook.specs.Roles.{given}
 use Rattle.rulebook.proofs.Opening.{reached}
 use Rattle.rulebook.proofs.Made.{reads as readsAll}
@@ -19,7 +20,7 @@ use Rattle.card_seen.proofs.Freedoms.{viewed}
 use Rattle.card_worked.specs.Matters.{others, besides, seenBeside, placeDue, reasonSaid, Matters}
 use Rattle.card_worked.proofs.Cards.{generates, giving, counter, cryptogram, issuer, decides, tvr, differ}
 
-owed : placeDue (run generates (at opens)) ≡ some generation
+owed : placeDue (run rules generates (at opens)) ≡ some generation
 unfolding reached placeDue placeOf
 owed = refl
 

@@ -9,9 +9,10 @@ use mathlib.Core.Option.{some}
 use Prim.Native.Nat.{ℕ}
 use Rattle.tape_read.specs.Entries.{Entry, entry, command, answer, host}
 use Rattle.answer_common.specs.Content.{recordNames}
+use Rattle.sessions.specs.Machine.{run}
 use Rattle.rulebook.specs.Phase.{opens}
-use Rattle.rulebook.specs.Session.{Session}
-use Rattle.rulebook.specs.Machine.{at, run}
+use Rattle.rulebook.specs.Session.{rules, Session}
+use Rattle.rulebook.specs.Machine.{at}
 use Rattle.rulebook.specs.Roles.{given}
 use Rattle.rulebook.proofs.Opening.{reached}
 use Rattle.rulebook.proofs.Made.{reads as readsAll}
@@ -33,7 +34,7 @@ plain-session : Session (later (recordWith plain) asked (tvr 0 0))
 unfolding reached
 plain-session = readsAll _ refl
 
-owed : placeDue (run reads (at opens)) ≡ some (reading recordNames)
+owed : placeDue (run rules reads (at opens)) ≡ some (reading recordNames)
 unfolding reached placeDue placeOf
 owed = refl
 

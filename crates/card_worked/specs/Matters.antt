@@ -11,9 +11,10 @@ use lib.ListN.{getD}
 use Rattle.slices.specs.Choice.{pick}
 use Rattle.tlv_list.specs.Objects.{Object}
 use Rattle.tape_read.specs.Entries.{Entry, entry, answer, decision}
+use Rattle.sessions.specs.Machine.{run}
 use Rattle.rulebook.specs.Phase.{opens}
-use Rattle.rulebook.specs.Session.{Session}
-use Rattle.rulebook.specs.Machine.{Machine, at, owes, done, run}
+use Rattle.rulebook.specs.Session.{rules, Session}
+use Rattle.rulebook.specs.Machine.{Machine, at, owes, done}
 use Rattle.rulebook.specs.Roles.{given}
 use Rattle.card_seen.specs.Seen.{Place, Shown, Seen, seen}
 use Rattle.card_seen.specs.Given.{placeOf}
@@ -50,7 +51,7 @@ pub record Matters (name reason : ℕ) : Type 0 where
   -- up to the answer, and where that stands
   pub before : List Entry
   pub place : Place
-  pub due : placeDue (run before (at opens)) ≡ some place
+  pub due : placeDue (run rules before (at opens)) ≡ some place
   -- the two answers, which differ in the object alone
   pub one : List ℕ
   pub other : List ℕ

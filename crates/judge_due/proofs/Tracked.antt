@@ -5,14 +5,15 @@ use mathlib.Core.Path.{_≡_, refl, sym, ap, _∙_}
 use mathlib.Core.List.{List, _∷_, _++_}
 use Prim.Native.Nat.{ℕ}
 use Rattle.tape_read.specs.Entries.{Entry, command, decision}
+use Rattle.sessions.proofs.Reading.{not-begun}
+use Rattle.sessions.proofs.Breaks.{break-unlawful}
 use Rattle.rulebook.specs.Situation.{Situation}
 use Rattle.rulebook.specs.Phase.{Heard, terminal, says, asks, hears, decides, dueKind, decisionOf}
 use Rattle.rulebook.specs.Machine.{Machine, at, owes, done}
-use Rattle.rulebook.proofs.Reading.{not-begun}
-use Rattle.rulebook.proofs.Breaks.{break-unlawful}
 use Rattle.rulebook_due.specs.Due.{Due as Rule, nothing, countIn}
 use Rattle.rulebook_due.specs.After.{dueAt, dueIn, dueAfter}
 use Rattle.rulebook_due.proofs.After.{none-due, unlawful-due}
+use Rattle.rulebook.proofs.Kept.{kept}
 use Rattle.session_phase.specs.Waiting.{wantedOf, awaited, countDue, outcomeOf, reasonOf}
 use Rattle.session_phase.specs.declared.Waiting.{Waiting}
 use Rattle.session_state.specs.Results.{decisionIn}
@@ -38,8 +39,8 @@ dueBy (broken k) = nothing
 means-due : (es : List Entry) (m : Progress) → Means m es → dueBy m ≡ dueAfter es
 unfolding dueBy dueAfter dueIn Means
 means-due es (reached σ n) h = sym (ap dueIn (h .0))
-means-due es (closed n) h = sym (none-due es (λ b. not-begun es b (h .0)))
-means-due es (broken k) h = sym (unlawful-due es (break-unlawful es k h))
+means-due es (closed n) h = sym (none-due es (λ b. not-begun kept es b (h .0)))
+means-due es (broken k) h = sym (unlawful-due es (break-unlawful kept es k h))
 
 -- ---- by what the judgement expects
 

@@ -17,10 +17,10 @@ use Rattle.slices.proofs.Cutting.{none-left}
 use Rattle.slices.proofs.Comparing.{alike-same, same-alike}
 use Rattle.tape_read.specs.Entries.{Entry, entry, command, answer, silence, decision}
 use Rattle.commands.specs.Commands.{longest}
+use Rattle.sessions.specs.Session.{isPayload}
 use Rattle.rulebook.specs.Situation.{Situation}
 use Rattle.rulebook.specs.Phase.{Asked, Heard, Phase, opens, asks, hears, decides, commandOf, dueKind, decisionOf}
 use Rattle.rulebook.specs.Turn.{turn, allowed, after}
-use Rattle.rulebook.specs.Session.{isPayload}
 use Rattle.rulebook.specs.Machine.{Machine, at, owes, done}
 use Rattle.dol_fill.specs.Filled.{summed}
 use Rattle.rulebook_zeros.specs.Zeros.{unsuppliedIn}

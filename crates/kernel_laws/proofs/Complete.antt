@@ -15,12 +15,14 @@ use Rattle.slices.proofs.Choice.{and-both}
 use Rattle.slices.proofs.Writing.{zeros-length}
 use Rattle.tape_read.specs.Entries.{Entry, entry, command, answer, decision}
 use Rattle.commands.specs.Commands.{longest}
+use Rattle.sessions.specs.Session as Under
+use Rattle.sessions.specs.Machine.{run}
+use Rattle.sessions.proofs.Payloads.{payload-bytes}
+use Rattle.sessions.proofs.Running.{taken, session-run}
+use Rattle.sessions.proofs.Reading.{run-append}
 use Rattle.rulebook.specs.Phase.{Phase, opens}
-use Rattle.rulebook.proofs.Payloads.{payload-bytes}
-use Rattle.rulebook.specs.Session.{Plays, exchanged, heard, decided, Session as WholeSession}
-use Rattle.rulebook.specs.Machine.{at, done, run}
-use Rattle.rulebook.proofs.Running.{taken, session-run}
-use Rattle.rulebook.proofs.Reading.{run-append}
+use Rattle.rulebook.specs.Session.{rules, Plays, exchanged, heard, decided, Session as WholeSession}
+use Rattle.rulebook.specs.Machine.{at, done}
 use Rattle.rulebook.specs.Roles.{given, begins, RightKernel}
 use Rattle.kernel_laws.specs.Log.{Call, plays, allBytes}
 use Rattle.kernel_laws.specs.Replay.{callsIn, firstEntry, givenAfter}
@@ -51,7 +53,7 @@ plays-bytes buf (decided {d} f) = own-bytes buf (entry decision d) [] refl refl
 -- ---- the kernel plays every session
 -- with any buffer that is long enough
 pub session-logged : (buf : List ℕ) → longest ≤ length buf → (es : List Entry) → WholeSession es → begins es ≡ true → Reproduces buf es
-unfolding WholeSession
+unfolding Under.Session
 session-logged buf room es whole begun =
     let bytes = plays-bytes buf whole in
     let log = session-played buf room es whole begun in
@@ -85,10 +87,10 @@ module _ (buf : List ℕ) where
   unfolding RightKernel givenAfter firstEntry
   right room es e rest whole begun g =
       let split = append-assoc es (e ∷ []) rest in
-      let read = session-run (es ++ (e ∷ rest)) whole in
+      let read = session-run rules (es ++ (e ∷ rest)) whole in
       let t =
-      taken (run rest) (run (es ++ (e ∷ [])) (at opens)) done
-      (sym (run-append (es ++ (e ∷ [])) rest (at opens)) ∙ (ap (λ (l : List Entry). run l (at opens)) split ∙ read))
+      taken (run rules rest) (run rules (es ++ (e ∷ [])) (at opens)) done
+      (sym (run-append rules (es ++ (e ∷ [])) rest (at opens)) ∙ (ap (λ (l : List Entry). run rules l (at opens)) split ∙ read))
       in
       let log : plays (callsIn buf es) .log ≡ es ++ (e ∷ pending (t .0)) =
       ap (λ (cs : List Call). plays cs .log) (sym (calls-append es (e ∷ []) (no-call e g)))

@@ -15,15 +15,18 @@ use borrow.Author.Tests.{eqb-true, eqb-false}
 use Rattle.slices.proofs.Choice.{either, and-left, and-right}
 use Rattle.tape_read.specs.Entries.{Entry, entry, silence}
 use Rattle.dol_fill.specs.Filled.{summed}
+use Rattle.sessions.specs.Machine.{next, run}
+use Rattle.sessions.proofs.Lists.{snoc-same}
+use Rattle.sessions.proofs.Running.{takes-command, takes-decision}
+use Rattle.sessions.proofs.Reading.{awaits-run}
 use Rattle.rulebook.specs.Phase.{Phase, opens, asks, hears, decides}
-use Rattle.rulebook.specs.Machine.{Machine, at, owes, next, run}
-use Rattle.rulebook.proofs.Running.{takes-command, takes-decision}
-use Rattle.rulebook.proofs.Reading.{awaits-run}
-use Rattle.rulebook.proofs.Trichotomy.{snoc-same}
+use Rattle.rulebook.specs.Machine.{Machine, at, owes}
 use Rattle.rulebook_zeros.specs.Zeros.{unsuppliedIn, Zeros}
 use Rattle.rulebook_zeros.specs.Summing.{newIn, countOn, zerosFrom, zerosOf}
 use Rattle.rulebook_zeros.proofs.Summing.{zeros-on, zeros-stop, silence-stops, zeros-found}
 use Rattle.rulebook_zeros.proofs.Most.{zeros-most}
+use Rattle.rulebook.specs.Session.{rules}
+use Rattle.rulebook.proofs.Kept.{kept}
 use Rattle.session_events.specs.Events.{step}
 use Rattle.session_laws.specs.Logging.{logged as ruled, Reached}
 use Rattle.session_laws.proofs.Reaching.{reached-fresh}
@@ -38,12 +41,12 @@ use Rattle.kernel_laws.proofs.Lasting.{Stands, going, shut, not-closed,
 -- the command or the decision of a phase adds nothing
 own-zeros : (p : Phase) → zerosFrom (ruled p) (at p) ≡ 0
 unfolding ruled zerosFrom countOn newIn
-own-zeros (asks w) = ap (countOn (zerosFrom [])) (takes-command w)
+own-zeros (asks w) = ap (countOn (zerosFrom [])) (takes-command rules w)
 own-zeros (hears h) = refl
-own-zeros (decides outcome reason z) = ap (countOn (zerosFrom [])) (takes-decision outcome reason z)
+own-zeros (decides outcome reason z) = ap (countOn (zerosFrom [])) (takes-decision rules outcome reason z)
 
 -- an event that the machine takes, and what the phase puts on the tape
-event-zeros : (σ : Machine) (e : Entry) (p : Phase) → next σ e ≡ some (at p)
+event-zeros : (σ : Machine) (e : Entry) (p : Phase) → next rules σ e ≡ some (at p)
     → zerosFrom (e ∷ ruled p) σ ≡ unsuppliedIn p
 unfolding zerosFrom countOn newIn
 event-zeros σ e p h =
@@ -59,7 +62,7 @@ module _ (s : Session) (es : List Entry) (buf : List ℕ) (e : Entry) (counted :
   counts-refused h = subst Counts (sym (call-refused s e buf h)) (counted ∙ ap zerosOf (sym (append-nil es)))
 
   -- the log grows by an event that the machine takes, and by what the phase puts on the tape
-  longer : (σ : Machine) (p : Phase) → run es (at opens) ≡ some σ → next σ e ≡ some (at p)
+  longer : (σ : Machine) (p : Phase) → run rules es (at opens) ≡ some σ → next rules σ e ≡ some (at p)
       → zerosOf (es ++ (e ∷ ruled p)) ≡ zerosOf es + unsuppliedIn p
   longer σ p read taken = zeros-on es (e ∷ ruled p) (at opens) σ read ∙ ap (λ (n : ℕ). zerosOf es + n) (event-zeros σ e p taken)
 
@@ -81,8 +84,8 @@ module _ (s : Session) (es : List Entry) (buf : List ℕ) (e : Entry) (counted :
         let p = passed s e buf h in
         let silent = silence-taken s es buf there e p k in
         let same = snoc-same (silent .before) es (entry silence []) (entry silence []) (sym (silent .ends)) in
-        let owed = awaits-run (silent .before) (silent .awaits) in
-        let read = ap (λ (l : List Entry). run l (at opens)) (sym (same .0)) ∙ owed .1 in
+        let owed = awaits-run kept (silent .before) (silent .awaits) in
+        let read = ap (λ (l : List Entry). run rules l (at opens)) (sym (same .0)) ∙ owed .1 in
         let stops = zeros-stop es (entry silence []) [] (at opens) (owes (owed .0)) read (silence-stops (owed .0)) in
         let alone = silence-alone s es buf there e p k in
         subst Counts (sym (call-taken s e buf h ∙ taken-silence s e buf k))

@@ -13,8 +13,10 @@ use Rattle.slices.specs.Choice.{pick, firstOf}
 use Rattle.slices.proofs.Choice.{pick-yes, picked}
 use Rattle.tape_read.specs.Entries.{Entry}
 use Rattle.commands.specs.Commands.{longest}
+use Rattle.sessions.specs.Session as Under
+use Rattle.sessions.proofs.Reading.{not-closed}
 use Rattle.rulebook.specs.Session.{Session as WholeSession, Open, Closed as ClosedLog}
-use Rattle.rulebook.proofs.Reading.{not-closed}
+use Rattle.rulebook.proofs.Kept.{kept}
 use Rattle.session_phase.specs.Waiting.{awaited, isOver, isDecided, isClosed}
 use Rattle.session_phase.specs.declared.Waiting.{Waiting}
 use Rattle.session_phase.specs.declared.Waiting.the-variants.{ForCard, ForWord, Decided, Closed}
@@ -103,8 +105,8 @@ module _ (cs : List Call) (bytes : allBytes cs ≡ true) (k : isClosed (plays cs
       closed-log (plays cs .session) (plays cs .log) (stands-plays cs bytes) (is-closed (plays cs .session .state .waiting) k)
 
   pub silence-is-open : Open (plays cs .log)
-  unfolding Open
+  unfolding Under.Open
   silence-is-open = inr closed-by-silence
 
   pub silence-is-no-session : WholeSession (plays cs .log) → ⊥
-  silence-is-no-session play = not-closed (plays cs .log) play closed-by-silence
+  silence-is-no-session play = not-closed kept (plays cs .log) play closed-by-silence

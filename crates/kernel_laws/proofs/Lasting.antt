@@ -10,6 +10,7 @@ use lib.Pow.{areBytes}
 use borrow.Author.Tests.{eqb-true, eqb-false}
 use Rattle.slices.proofs.Choice.{either, and-left, and-right}
 use Rattle.tape_read.specs.Entries.{Entry, silence}
+use Rattle.sessions.specs.Session as Under
 use Rattle.rulebook.specs.Session.{Closed as ClosedLog}
 use Rattle.session_phase.specs.Waiting.{awaited, isOver}
 use Rattle.session_phase.specs.declared.Waiting.the-variants.{Closed}
@@ -30,7 +31,7 @@ pub data Stands (s : Session) (es : List Entry) : Type 0 where
 
 -- a silence closes the log too
 pub silenced-log : (s : Session) (es : List Entry) → Silenced s es → ClosedLog es
-unfolding ClosedLog
+unfolding Under.Closed
 silenced-log s es c = (c .before, (c .awaits, c .ends))
 
 module _ (s : Session) (es : List Entry) (buf : List ℕ) (e : Entry) where

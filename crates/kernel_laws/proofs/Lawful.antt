@@ -10,13 +10,15 @@ use Prim.Native.Nat.{ℕ}
 use native.Mathlib.Omega.{arith}
 use Rattle.slices.proofs.Choice.{either}
 use Rattle.tape_read.specs.Entries.{Entry}
+use Rattle.sessions.specs.Session as Under
+use Rattle.sessions.proofs.Running.{session-run}
+use Rattle.sessions.proofs.Reading.{not-closed}
+use Rattle.sessions.proofs.Trichotomy.{one-sort}
+use Rattle.sessions.proofs.States.{state-lawful}
 use Rattle.rulebook.specs.Phase.{Phase, asks, hears, decides}
-use Rattle.rulebook.specs.Session.{Session as WholeSession, Open, Lawful}
+use Rattle.rulebook.specs.Session.{rules, Session as WholeSession, Open, Lawful}
 use Rattle.rulebook.specs.Machine.{done}
-use Rattle.rulebook.proofs.Running.{session-run}
-use Rattle.rulebook.proofs.Reading.{not-closed}
-use Rattle.rulebook.proofs.Trichotomy.{one-sort}
-use Rattle.rulebook.proofs.States.{state-lawful}
+use Rattle.rulebook.proofs.Kept.{kept}
 use Rattle.session_phase.specs.Waiting.{isDecided}
 use Rattle.session_phase.specs.declared.Waiting.{Waiting}
 use Rattle.session_phase.specs.declared.Waiting.the-variants.{ForCard, ForWord, Decided, Closed}
@@ -53,31 +55,32 @@ module _ (s : Session) (es : List Entry) where
 
     going-decided : WholeSession es → isDecided (s .state .waiting) ≡ true
     going-decided play =
-        let same : some (landing (there .phase)) ≡ some done = sym (there .read) ∙ session-run es play in
+        let same : some (landing (there .phase)) ≡ some done = sym (there .read) ∙ session-run rules es play in
         decided-there (s .state) (there .phase) (there .stands) (cc same)
 
     going-open : isDecided (s .state .waiting) ≡ false → Open es
-    unfolding Lawful
+    unfolding Under.Lawful
     going-open n =
-        ⊎-elim (λ play. absurd (false≢true (sym n ∙ going-decided play))) (λ o. o) (state-lawful es (landing (there .phase)) (there .read))
+        ⊎-elim (λ play. absurd (false≢true (sym n ∙ going-decided play))) (λ o. o)
+        (state-lawful kept es (landing (there .phase)) (there .read))
 
   shut-undecided : s .state .waiting ≡ Closed → isDecided (s .state .waiting) ≡ false
   unfolding isDecided
   shut-undecided k = ap isDecided k
 
   pub stands-lawful : Stands s es → Lawfully s es
-  unfolding Open
+  unfolding Under.Open
   stands-lawful (going there) =
       record {
         finished = going-finished there;
         decided = going-decided there;
         unfinished = going-open there;
-        undecided = λ o. either (isDecided (s .state .waiting)) (λ y. absurd (one-sort es (going-finished there y) o)) (λ n. n);
+        undecided = λ o. either (isDecided (s .state .waiting)) (λ y. absurd (one-sort kept es (going-finished there y) o)) (λ n. n);
       }
   stands-lawful (shut c) =
       record {
         finished = λ e. absurd (false≢true (sym (shut-undecided (c .closed)) ∙ e));
-        decided = λ play. absurd (not-closed es play (silenced-log s es c));
+        decided = λ play. absurd (not-closed kept es play (silenced-log s es c));
         unfinished = λ n. inr (silenced-log s es c);
         undecided = λ o. shut-undecided (c .closed);
       }

@@ -15,16 +15,18 @@ use Rattle.slices.proofs.Choice.{pick-yes, pick-no}
 use Rattle.slices.proofs.Comparing.{alike-same}
 use Rattle.tape_read.specs.Entries.{Entry, entry, command, answer, silence, decision}
 use Rattle.commands.specs.Commands.{longest}
+use Rattle.sessions.specs.Session.{isPayload}
+use Rattle.sessions.specs.Machine.{due, sayable, next, run}
+use Rattle.sessions.proofs.Payloads.{payload-most}
+use Rattle.sessions.proofs.Running.{due-entry, due-test, said-allowed, said-payload, chosen, taken, no-state, session-run}
 use Rattle.rulebook.specs.Situation.{Situation}
 use Rattle.rulebook.specs.Phase.{Asked, Heard, terminal, says, Phase, opens}
 use Rattle.rulebook.specs.Phase.{asks, hears, decides, commandOf, dueKind, decisionOf}
 use Rattle.rulebook.specs.Turn.{opened, turn, allowed, after as afterWord}
-use Rattle.rulebook.specs.Session.{isPayload, Session as WholeSession}
-use Rattle.rulebook.specs.Machine.{Machine, at, owes, done, due, sayable, next, run}
+use Rattle.rulebook.specs.Session.{rules, Session as WholeSession}
+use Rattle.rulebook.specs.Machine.{Machine, at, owes, done}
 use Rattle.rulebook.specs.Roles.{given, begins}
 use Rattle.rulebook.proofs.Passing.{Holds, anything-lasts, turn-holds, after-holds}
-use Rattle.rulebook.proofs.Payloads.{payload-most}
-use Rattle.rulebook.proofs.Running.{due-entry, due-test, said-allowed, said-payload, chosen, taken, no-state, session-run}
 use Rattle.dol_fill.specs.Filled.{summed}
 use Rattle.session_moves.specs.Moves.{Moved, questionOf, speakerOf, keptAs}
 use Rattle.session_events.specs.Events.{step}
@@ -187,14 +189,16 @@ module _ (buf : List ℕ) (room : longest ≤ length buf) where
 
   -- ---- whatever the machine takes
   abbrev Onward : List Entry → Machine → Type 0
-  Onward es τ = (σ : Machine) → run es σ ≡ some τ → Willing σ es → Goes σ es τ
+  Onward es τ = (σ : Machine) → run rules es σ ≡ some τ → Willing σ es → Goes σ es τ
 
   module _ (es : List Entry) (τ : Machine) (on : Onward es τ) where
     -- the machine's next state is known
-    settled : (σ σ′ : Machine) (o : Option Machine) → o ≡ some σ → o ≡ some σ′ → run es σ ≡ some τ → Willing σ′ es → Goes σ′ es τ
-    settled σ σ′ o a b r w = let same : some σ ≡ some σ′ = sym a ∙ b in on σ′ (subst (λ (x : Machine). run es x ≡ some τ) (cc same) r) w
+    settled : (σ σ′ : Machine) (o : Option Machine) → o ≡ some σ → o ≡ some σ′ → run rules es σ ≡ some τ → Willing σ′ es → Goes σ′ es τ
+    settled σ σ′ o a b r w =
+        let same : some σ ≡ some σ′ = sym a ∙ b in
+        on σ′ (subst (λ (x : Machine). run rules es x ≡ some τ) (cc same) r) w
 
-    by-state : (e : Entry) (σ ρ : Machine) → next σ e ≡ some ρ → run es ρ ≡ some τ → Willing σ (e ∷ es) → Goes σ (e ∷ es) τ
+    by-state : (e : Entry) (σ ρ : Machine) → next rules σ e ≡ some ρ → run rules es ρ ≡ some τ → Willing σ (e ∷ es) → Goes σ (e ∷ es) τ
     unfolding next
     by-state e (at (asks w)) ρ h r will =
         let c = chosen (due command (alike (e .payload) (commandOf w)) e) (some (owes w)) ρ h in
@@ -203,10 +207,11 @@ module _ (buf : List ℕ) (room : longest ≤ length buf) where
         (command-goes w es τ (settled ρ (owes w) _ (c .1) refl r tt))
     by-state e (at (hears h)) ρ n r will =
         let p = e .payload in
-        let c = chosen (due (dueKind h) (sayable h p) e) (some (at (afterWord h p))) ρ n in
+        let c = chosen (due (dueKind h) (sayable rules h p) e) (some (at (afterWord h p))) ρ n in
         let said = due-test (dueKind h) _ e (c .0) in
         subst (λ (x : Entry). Goes (at (hears h)) (x ∷ es) τ) (sym (due-entry (dueKind h) _ e (c .0)))
-        (word-goes h p es τ (said-allowed h p said) (word-taken h e es (said-allowed h p said) will) (said-payload h p said)
+        (word-goes h p es τ (said-allowed rules h p said) (word-taken h e es (said-allowed rules h p said) will)
+        (said-payload rules h p said)
         (settled ρ (at (afterWord h p)) _ (c .1) refl r (word-willing h p es)))
     by-state e (at (decides outcome reason z)) ρ h r will =
         let c = chosen (due decision (alike (e .payload) (decisionOf outcome reason z)) e) (some done) ρ h in
@@ -227,11 +232,11 @@ module _ (buf : List ℕ) (room : longest ≤ length buf) where
       let same : σ ≡ τ = cc h in
       λ s a log. ap (λ (x : Machine). log ++ pending x) same ∙ ap (λ (l : List Entry). l ++ pending τ) (sym (append-nil log))
   goes (e ∷ es) τ σ h will =
-      let t = taken (run es) (next σ e) τ h in
+      let t = taken (run rules es) (next rules σ e) τ h in
       by-state es τ (goes es τ) e σ (t .0) (t .1 .0) (t .1 .1) will
 
   -- from fresh: the entries that were read, and what is pending
-  pub read-played : (es : List Entry) (τ : Machine) → run es (at opens) ≡ some τ → begins es ≡ true
+  pub read-played : (es : List Entry) (τ : Machine) → run rules es (at opens) ≡ some τ → begins es ≡ true
       → plays (callsIn buf es) .log ≡ es ++ pending τ
   unfolding plays freshSession Agrees pending ruled
   read-played es τ h begun = goes es τ (at opens) h begun freshSession fresh-stands []
@@ -239,4 +244,4 @@ module _ (buf : List ℕ) (room : longest ≤ length buf) where
   -- a whole session leaves nothing pending
   pub session-played : (es : List Entry) → WholeSession es → begins es ≡ true → plays (callsIn buf es) .log ≡ es
   unfolding pending
-  session-played es whole begun = read-played es done (session-run es whole) begun ∙ append-nil es
+  session-played es whole begun = read-played es done (session-run rules es whole) begun ∙ append-nil es

@@ -16,14 +16,16 @@ use Rattle.slices.proofs.Choice.{pick-yes, pick-no, and-left, and-right}
 use Rattle.slices.proofs.Cutting.{none-left}
 use Rattle.tape_read.specs.Entries.{Entry, entry, answer, silence, payloadMost}
 use Rattle.commands.specs.Commands.{longest}
+use Rattle.sessions.specs.Machine.{run}
+use Rattle.sessions.proofs.Payloads.{payload}
+use Rattle.sessions.proofs.Sorting.{run-awaits}
+use Rattle.sessions.proofs.States.{state-next}
+use Rattle.sessions.proofs.Leading.{at-leads, owes-leads}
 use Rattle.rulebook.specs.Phase.{Phase, opens, hears, dueKind, tvrOf, tsiOf}
 use Rattle.rulebook.specs.Turn.{turn, allowed, after}
-use Rattle.rulebook.proofs.Payloads.{payload}
-use Rattle.rulebook.specs.Machine.{Machine, at, owes, run}
-use Rattle.rulebook.proofs.Sorting.{run-awaits}
-use Rattle.rulebook.proofs.Ends.{finishes}
-use Rattle.rulebook.proofs.States.{state-next}
-use Rattle.rulebook.proofs.Leading.{at-leads, owes-leads}
+use Rattle.rulebook.specs.Machine.{Machine, at, owes}
+use Rattle.rulebook.specs.Session.{rules}
+use Rattle.rulebook.proofs.Kept.{kept}
 use Rattle.session_phase.specs.Waiting.{kindOf, awaited, isOver}
 use Rattle.session_phase.specs.declared.Question.{Question}
 use Rattle.session_phase.specs.declared.Speaker.{Speaker}
@@ -79,7 +81,7 @@ waits-card Closed e = absurd (omega arith)
 -- ---- an event that is taken, and is no silence: the machine stands where it is due, and the call is a step of the session's
 pub record Taken (es : List Entry) (e : Entry) (buf : List ℕ) (before : ℕ) (r : Called) : Type 0 where
   pub from : Machine
-  pub read : run es (at opens) ≡ some from
+  pub read : run rules es (at opens) ≡ some from
   pub to : Phase
   pub moved : Moved
   pub steps : Steps from e to buf moved
@@ -160,8 +162,8 @@ module _ (s : Session) (es : List Entry) (buf : List ℕ) (there : Reached (s .s
         record {
           before = es;
           asked = w .0;
-          awaits = run-awaits finishes es (w .0) (w .1 .0);
-          leads = owes-leads es (w .0) (w .1 .0);
+          awaits = run-awaits kept es (w .0) (w .1 .0);
+          leads = owes-leads kept es (w .0) (w .1 .0);
           ends = refl;
           closed = refl;
           tvr = w .1 .1 .tvr;
@@ -192,7 +194,7 @@ module _ (es : List Entry) (e : Entry) (buf : List ℕ) (before : ℕ) (r : Call
   taken-follows =
       record {
         phase = t .to;
-        leads = at-leads (es ++ (e ∷ [])) (t .to) (state-next es (t .from) e (t .read) (at (t .to)) (t .steps .taken));
+        leads = at-leads kept (es ++ (e ∷ [])) (t .to) (state-next kept es (t .from) e (t .read) (at (t .to)) (t .steps .taken));
         gives = taken-gives;
         waits = taken-stands .waits;
         tvr = taken-stands .tvr;

@@ -20,14 +20,14 @@ use Rattle.decimal_dates.specs.Decimal.{decimalFrom, decimal, decimalByte, digi
 use Rattle.decimal_dates.specs.Dates.{monthAndDay, validStartDate}
 use Rattle.tape_read.specs.Entries.{Entry, entry, command, decision}
 use Rattle.commands.specs.Commands.{longest, selectCommand}
+use Rattle.sessions.specs.Session.{isPayload}
+use Rattle.sessions.proofs.Lists.{snoc-same}
 use Rattle.rulebook.specs.Situation.{begun}
 use Rattle.rulebook.specs.Phase.{selecting, terminal, opens, commandOf, dueKind}
 use Rattle.rulebook.specs.Turn.{opened, allowed, after}
-use Rattle.rulebook.specs.Session.{isPayload}
 use Rattle.rulebook.specs.Machine.{at}
 use Rattle.rulebook.proofs.Made.{startOf, tc, aac, given as cryptogram, opening, exchange, firstAsked}
 use Rattle.rulebook.proofs.Offline.{offline, approved-offline}
-use Rattle.rulebook.proofs.Trichotomy.{snoc-same}
 use Rattle.rulebook_worked.proofs.ShutOut.{Parts, begun as offlineBegins, not-terminating, not-always-aac, not-idle, not-settled}
 use Rattle.session_phase.specs.Waiting.{kindOf, isDecided, outcomeOf}
 use Rattle.session_phase.specs.declared.Speaker.the-variants.{Terminal}

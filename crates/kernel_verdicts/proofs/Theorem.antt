@@ -15,9 +15,11 @@ use Rattle.slices.proofs.Choice.{either}
 use Rattle.tape_read.specs.Entries.{Entry, entry, silence, storable, blockSize, blocksMost, tapeMost}
 use Rattle.tape_read.specs.Tapes.{written}
 use Rattle.tape_read.proofs.Roundtrip.{tape-back, cut-back}
+use Rattle.sessions.specs.Session as Under
+use Rattle.sessions.proofs.Breaks.{part-begins}
 use Rattle.rulebook.specs.Session.{Beginning, AwaitsCard, Closed, Open, Lawful}
 use Rattle.rulebook.proofs.Bound.{session-bound}
-use Rattle.rulebook.proofs.Breaks.{part-begins}
+use Rattle.rulebook.proofs.Kept.{kept}
 use Rattle.verdict.specs.Saying.{says}
 use Rattle.verdict_judged.specs.Judged.{Judges, passes, undecided, Judged, readable}
 use Rattle.verdict_judged.specs.Zeroed.{Zeroed, readable as counted}
@@ -38,13 +40,13 @@ use Rattle.kernel_verdicts.proofs.Taping.{recorded-session, recorded-ke
 
 -- what is not finished fits a tape too
 begun-fits : (es : List Entry) → Beginning es → length es < blocksMost
-unfolding Beginning
+unfolding Under.Beginning
 begun-fits es b =
     let rest = b .0 ∷ b .1 .0 in
     omega (arith, session-bound (es ++ rest) (b .1 .1), length-append es rest)
 
 open-fits : (es : List Entry) → Open es → length es ≤ blocksMost
-unfolding Open Closed AwaitsCard
+unfolding Under.Open Under.Closed Under.AwaitsCard
 open-fits es (inl b) = let h = begun-fits es b in omega arith
 open-fits es (inr c) =
     let before = c .0 in
@@ -58,24 +60,24 @@ open-fits es (inr c) =
     )
 
 lawful-fits : (es : List Entry) → Lawful es → length es ≤ blocksMost
-unfolding Lawful
+unfolding Under.Lawful
 lawful-fits es (inl s) = session-fits es s
 lawful-fits es (inr o) = open-fits es o
 
 -- whatever breaks no rule, cut after any block before its last: as many entries as are left
 lawful-cut : (number : ℕ) → number < 2 ^ 32 → (es : List Entry) → Lawful es → (k : ℕ) → k < length es
     → Judged (take (k * blockSize) (written 0 number es)) (says Inconclusive k 0)
-unfolding Open
+unfolding Under.Open
 lawful-cut number known es l k h =
     readable (take k es) (cut-back k number es (lawful-storable es l) (lawful-fits es l) known)
-    (undecided (inl (part-begins es k h l)) (ap (λ (n : ℕ). says Inconclusive n 0) (sym (length-take-le k es (omega arith)))))
+    (undecided (inl (part-begins kept es k h l)) (ap (λ (n : ℕ). says Inconclusive n 0) (sym (length-take-le k es (omega arith)))))
 
 module _ (cs : List Call) (bytes : allBytes cs ≡ true) where
   said : Lawfully (plays cs .session) (plays cs .log)
   said = any-calls cs bytes
 
   lawful : Lawful (plays cs .log)
-  unfolding Lawful
+  unfolding Under.Lawful
   lawful = either (isDecided (plays cs .session .state .waiting)) (λ d. inl (said .finished d)) (λ n. inr (said .unfinished n))
 
   module _ (number : ℕ) (known : number < 2 ^ 32) where

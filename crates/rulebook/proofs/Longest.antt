@@ -26,13 +26,15 @@ use Rattle.answer_common.specs.Named.{listed, direct, times, told, wrongValue, 
 use Rattle.answer_record.specs.Records.{again, anyAgain, recordTwice, recordLines, recordReason, valueIn, namedIn}
 use Rattle.facts.specs.Facts.{orElse}
 use Rattle.commands.specs.Commands.{recordCommand}
+use Rattle.sessions.specs.Session.{isPayload}
+use Rattle.sessions.specs.Machine.{andOn, run}
+use Rattle.sessions.proofs.Running.{ends-follow, follows-ends, run-session}
+use Rattle.sessions.proofs.Reading.{run-append}
 use Rattle.rulebook.specs.Situation.{Situation, begun}
 use Rattle.rulebook.specs.Phase.{Phase, opens, reading, commandOf}
 use Rattle.rulebook.specs.Turn.{goesOn, allRead, readOn, withProfile, withRecord, recorded as afterRecord, turn}
-use Rattle.rulebook.specs.Session.{longest, isPayload, Plays, exchanged, Session}
-use Rattle.rulebook.specs.Machine.{at, done, andOn, run}
-use Rattle.rulebook.proofs.Running.{ends-follow, follows-ends, run-session}
-use Rattle.rulebook.proofs.Reading.{run-append}
+use Rattle.rulebook.specs.Session.{rules, longest, Plays, exchanged, Session}
+use Rattle.rulebook.specs.Machine.{at, done}
 use Rattle.rulebook.proofs.Opening.{reached}
 use Rattle.rulebook.proofs.Made.{startOf, select, withList, withNumber, recorded, number}
 use Rattle.rulebook.proofs.Made.{firstAsked, secondAsked, given, tc, arqc, decides, exchange}
@@ -163,11 +165,11 @@ afterwards =
 abbrev optioned : Situation
 optioned = withProfile (begun (readingOf (startOf 2))) (0x10 ∷ 0x00 ∷ [])
 
-before-run : run before (at opens) ≡ some (at (readOn optioned (toRead (locator files))))
+before-run : run rules before (at opens) ≡ some (at (readOn optioned (toRead (locator files))))
 unfolding reached
 before-run = refl
 
-afterwards-run : run afterwards (at (allRead (withRecord optioned full))) ≡ some done
+afterwards-run : run rules afterwards (at (allRead (withRecord optioned full))) ≡ some done
 unfolding reached
 afterwards-run = refl
 
@@ -198,7 +200,7 @@ records-read [] some-named = absurd (omega arith)
 records-read (r ∷ rest) some-named =
     exchanged refl full-payload
     (subst (λ (p : Phase). Plays p (readAs empty rest ++ afterwards)) (sym (full-read (r .0) (r .1) rest))
-    (read-empty (withRecord optioned full) rest (ends-follow afterwards (at (allRead (withRecord optioned full))) afterwards-run)))
+    (read-empty (withRecord optioned full) rest (ends-follow rules afterwards (at (allRead (withRecord optioned full))) afterwards-run)))
 
 abbrev pub fullest : List Entry
 fullest = before ++ (records (toRead (locator files)) ++ afterwards)
@@ -212,10 +214,10 @@ unfolding andOn
 fullest-played =
     let play = records-read (toRead (locator files)) (let n = most-named in omega arith) in
     let σ = at (readOn optioned (toRead (locator files))) in
-    run-session fullest
-    (run-append before (records (toRead (locator files)) ++ afterwards) (at opens)
-    ∙ (ap (andOn (run (records (toRead (locator files)) ++ afterwards))) before-run
-    ∙ follows-ends (records (toRead (locator files)) ++ afterwards) σ play))
+    run-session rules fullest
+    (run-append rules before (records (toRead (locator files)) ++ afterwards) (at opens)
+    ∙ (ap (andOn (run rules (records (toRead (locator files)) ++ afterwards))) before-run
+    ∙ follows-ends rules (records (toRead (locator files)) ++ afterwards) σ play))
 
 pub bound-reached : Session fullest × (length fullest ≡ longest)
 bound-reached = (

@@ -13,13 +13,16 @@ use borrow.Author.Tests.{eqb-false}
 use Rattle.slices.specs.Tests.{isSome}
 use Rattle.start_fields.proofs.Sample.{filled}
 use Rattle.tape_read.specs.Entries.{Entry, entry, start, command, answer, silence, decision}
+use Rattle.sessions.specs.Machine.{run}
+use Rattle.sessions.proofs.Running.{run-session}
+use Rattle.sessions.proofs.Reading.{silence-refused}
+use Rattle.sessions.proofs.Breaks.{break-here}
+use Rattle.sessions.proofs.States.{state-lawful, stopped-breaks, refused-breaks}
 use Rattle.rulebook.specs.Phase.{Phase, opens}
-use Rattle.rulebook.specs.Session.{Session, BreaksAt}
-use Rattle.rulebook.specs.Machine.{Machine, at, owes, done, run}
-use Rattle.rulebook.proofs.Running.{run-session}
-use Rattle.rulebook.proofs.Breaks.{break-here}
-use Rattle.rulebook.proofs.States.{silence-refused, state-lawful, stopped-breaks, refused-breaks}
+use Rattle.rulebook.specs.Session.{rules, Session, BreaksAt}
+use Rattle.rulebook.specs.Machine.{Machine, at, owes, done}
 use Rattle.rulebook.proofs.Opening.{reached}
+use Rattle.rulebook.proofs.Kept.{kept}
 
 -- a terminal of a type with an amount, the year of its date, and the first byte of its denial code: floor limit 10000, random number
 -- 40, target 10, threshold 5000, maximum 70, 30 June, all other action codes zero, AID A000000003; without Terminal Capabilities
@@ -142,7 +145,7 @@ opening kind = openingWith kind (recorded number)
 -- a list that the machine reads to its end is a session
 pub reads : (es : List Entry) → reached es ≡ some done → Session es
 unfolding reached
-reads es h = run-session es h
+reads es h = run-session rules es h
 
 some-state : (o : Option Machine) → isSome o ≡ true → (σ : Machine) × (o ≡ some σ)
 unfolding isSome
@@ -154,9 +157,9 @@ pub breaks : (es : List Entry) (e : Entry) (more : List Entry) → isSome (reach
     → eqb (e .kind) silence ≡ false → BreaksAt (es ++ (e ∷ more)) (length es)
 unfolding reached
 breaks es e more read stopped other =
-    let there = some-state (run es (at opens)) read in
-    break-here es e more (state-lawful es (there .0) (there .1))
-    (stopped-breaks es e stopped (λ same. eqb-false (e .kind) silence other (ap (λ (x : Entry). x .kind) same)))
+    let there = some-state (run rules es (at opens)) read in
+    break-here kept es e more (state-lawful kept es (there .0) (there .1))
+    (stopped-breaks kept es e stopped (λ same. eqb-false (e .kind) silence other (ap (λ (x : Entry). x .kind) same)))
 
 -- a phase, and no command that awaits its answer
 unfoldable pub isPhase : Option Machine → Bool
@@ -176,7 +179,8 @@ some-phase (some done) h = absurd (false≢true h)
 pub silent : (es more : List Entry) → isPhase (reached es) ≡ true → BreaksAt (es ++ (entry silence [] ∷ more)) (length es)
 unfolding reached
 silent es more read =
-    let there = some-phase (run es (at opens)) read in
+    let there = some-phase (run rules es (at opens)) read in
     let σ = at (there .0) in
-    break-here es (entry silence []) more (state-lawful es σ (there .1))
-    (refused-breaks es σ (entry silence []) (there .1) (silence-refused σ []) (λ w e same. let z : _≡_ {A = ℕ} 0 1 = cc in omega arith))
+    break-here kept es (entry silence []) more (state-lawful kept es σ (there .1))
+    (refused-breaks kept es σ (entry silence []) (there .1) (silence-refused kept σ [])
+    (λ w e same. let z : _≡_ {A = ℕ} 0 1 = cc in omega arith))

@@ -14,17 +14,19 @@ use Rattle.decide_requests.specs.declared.reply.HostHeard.{HostHeard}
 use Rattle.decide_requests.specs.declared.reply.HostHeard.the-variants.{Said}
 use Rattle.words.specs.Words.{wordKind, wordAllowed}
 use Rattle.words.specs.declared.Word.the-variants.{Host}
+use Rattle.sessions.specs.Session.{isPayload}
+use Rattle.sessions.specs.Machine.{next}
+use Rattle.sessions.proofs.Running.{takes-heard}
 use Rattle.rulebook.specs.Situation.{Situation}
 use Rattle.rulebook.specs.Phase.{terminal, says, Phase, opens, hears, dueKind}
 use Rattle.rulebook.specs.Turn.{opened, allowed, replyMade, heard, after}
-use Rattle.rulebook.specs.Session.{isPayload}
-use Rattle.rulebook.specs.Machine.{at, next}
-use Rattle.rulebook.proofs.Running.{takes-heard}
+use Rattle.rulebook.specs.Machine.{at}
+use Rattle.rulebook.specs.Session.{rules}
 
 pub takes-start : (b : List ℕ) → validStart b ≡ true → isPayload b ≡ true
-    → next (at opens) (entry start b) ≡ some (at (opened (readingOf b)))
+    → next rules (at opens) (entry start b) ≡ some (at (opened (readingOf b)))
 unfolding allowed after dueKind
-takes-start b valid ok = takes-heard terminal b valid ok
+takes-start b valid ok = takes-heard rules terminal b valid ok
 
 module _ (s : Situation) (p : List ℕ) (r : HostReply) (said : replyOf p ≡ Said r) where
   pub reply-allowed : allowed (says Host s) p ≡ true
@@ -35,6 +37,6 @@ module _ (s : Situation) (p : List ℕ) (r : HostReply) (said : replyOf p ≡ Sa
   unfolding after replyMade
   after-reply = ap (λ (x : HostHeard). heard s (replyMade x) p) said
 
-  pub takes-reply : isPayload p ≡ true → next (at (hears (says Host s))) (entry host p) ≡ some (at (heard s r p))
+  pub takes-reply : isPayload p ≡ true → next rules (at (hears (says Host s))) (entry host p) ≡ some (at (heard s r p))
   unfolding dueKind wordKind
-  takes-reply ok = takes-heard (says Host s) p reply-allowed ok ∙ ap (λ (q : Phase). some (at q)) after-reply
+  takes-reply ok = takes-heard rules (says Host s) p reply-allowed ok ∙ ap (λ (q : Phase). some (at q)) after-reply

@@ -4,8 +4,10 @@
 use mathlib.Core.List.{List}
 use mathlib.Core.Option.{Option}
 use Rattle.tape_read.specs.Entries.{Entry}
+use Rattle.sessions.specs.Machine.{run}
 use Rattle.rulebook.specs.Phase.{opens}
-use Rattle.rulebook.specs.Machine.{Machine, at, run}
+use Rattle.rulebook.specs.Session.{rules}
+use Rattle.rulebook.specs.Machine.{Machine, at}
 use Rattle.slices.specs.Choice.{pick as o0, firstOf as o1, unlessEmpty as o2}
 use Rattle.slices.specs.Shorter.{counted as o3, shorter as o4}
 use Rattle.slices.specs.Tables.{anyOf as o5, beside as o6}
@@ -33,73 +35,73 @@ use Rattle.tape_read.specs.Entries.{isKind as o83, storable as o84, allStorable
 use Rattle.tape_read.specs.Numbers.{numberOf as o86, bytesOf as o87}
 use Rattle.tape_read.specs.Tapes.{preceded as o88, blockAt as o89, cut as o90, blocksOf as o91, readBlocks as o92}
 use Rattle.tape_read.specs.Tapes.{readFrom as o93, sessionOf as o94, readTape as o95, written as o96}
-use Rattle.decimal_dates.specs.Dates.{dateKey as o97, monthAndDay as o98, validStartDate as o99, validCardDate as o100}
-use Rattle.decimal_dates.specs.Decimal.{decimalFrom as o101, decimal as o102, decimalByte as o103, digitsOnly as o104}
-use Rattle.decimal_dates.specs.Decimal.{zerosOnly as o105}
-use Rattle.start_fields.specs.Layout.{isLength as o106}
-use Rattle.start_fields.specs.Reading.{readingOf as o107}
-use Rattle.start_valid.specs.Start.{validKind as o108, validDigits as o109, validRandom as o110, validPercentages as o111}
-use Rattle.start_valid.specs.Start.{validThreshold as o112, validAid as o113, validStart as o114, terminalOf as o115}
-use Rattle.start_valid.specs.Start.{beginsSession as o116}
-use Rattle.decide_cryptogram.specs.Cryptograms.{givenBy as o117, allowedBy as o118}
-use Rattle.answer_afl.specs.Cursor.{fromEntry as o119, entryAt as o120, start as o121, isLeft as o122, recordAt as o123}
-use Rattle.answer_afl.specs.Cursor.{stepped as o124, remaining as o125}
-use Rattle.answer_afl.specs.Entries.{firstEntry as o126, entries as o127, wholeEntries as o128, sfi as o129, records as o130}
-use Rattle.answer_afl.specs.Entries.{fileRight as o131, entryRight as o132, entriesRight as o133, recordsOf as o134}
-use Rattle.answer_afl.specs.Entries.{recordCount as o135, tooMany as o136, run as o137, readEntry as o138, readAll as o139}
-use Rattle.answer_afl.specs.Entries.{toRead as o140}
-use Rattle.answer_common.specs.Answer.{sizeBad as o141, statusBad as o142, only as o143, outer as o144, theOne as o145}
-use Rattle.answer_common.specs.Answer.{tagged as o146, valueUnder as o147, isOne as o148, inside as o149, outerBad as o150}
-use Rattle.answer_common.specs.Answer.{frame as o151}
-use Rattle.answer_common.specs.CardNumber.{halves as o152, digits as o153, onlyF as o154, cardNumber as o155}
-use Rattle.answer_common.specs.Content.{meets as o156, rowsFor as o157, namesFor as o158, rules as o159, ruleFor as o160}
-use Rattle.answer_common.specs.Content.{rightValue as o161}
-use Rattle.answer_common.specs.Forms.{lacks as o162}
-use Rattle.answer_common.specs.Named.{membersIn as o163, listed as o164, named as o165, among as o166, direct as o167}
-use Rattle.answer_common.specs.Named.{standing as o168, times as o169, told as o170, valueOf as o171, wrongValue as o172}
-use Rattle.answer_common.specs.Named.{anyTimes as o173, anyWrong as o174}
-use Rattle.cvm_rules.specs.Conditions.{satisfied as o175}
-use Rattle.cvm_rules.specs.Methods.{methodOf as o176, supported as o177, succeeds as o178, pinBits as o179, triedBits as o180}
-use Rattle.cvm_rules.specs.Turns.{triedTurn as o181, tried as o182, turnOf as o183}
-use Rattle.cvm.specs.Lists.{limitOf as o184, limitX as o185, limitY as o186, rulesOf as o187, rulesIn as o188, isResult as o189}
-use Rattle.cvm.specs.Lists.{areResults as o190, inApplicationCurrency as o191}
-use Rattle.cvm.specs.Verified.{following as o192, verifiedFrom as o193, verified as o194}
-use Rattle.decide_tvr.specs.Bits.{joined as o195, meet as o196, flag as o197}
-use Rattle.decide_tvr.specs.Results.{differentVersions as o198, expired as o199, notYetEffective as o200, riskManaged as o201}
-use Rattle.decide_tvr.specs.Results.{atFloorLimit as o202, drawn as o203, restrictions as o204, risks as o205}
-use Rattle.decide_tvr.specs.Results.{tvrAfterRecords as o206, tsiAfterRecords as o207, tsiAfterFirstAnswer as o208}
-use Rattle.decide_tvr.specs.Selection.{biased as o209, chosen as o210, selected as o211}
-use Rattle.decide_requests.specs.Replies.{codeIn as o212, saidBy as o213, replyOf as o214, isReply as o215, responseCode as o216}
-use Rattle.decide_requests.specs.Requests.{issuerCode as o217, codeMatch as o218, byType as o219, firstRequest as o220}
-use Rattle.decide_requests.specs.Requests.{whenUnable as o221, secondRequest as o222}
-use Rattle.decide_verification.specs.Verification.{verificationSupported as o223, resultsDue as o224, verificationList as o225}
-use Rattle.decide_verification.specs.Verification.{resultsWanted as o226, circumstancesOf as o227, tvrAfterResults as o228}
-use Rattle.decide_verification.specs.Verification.{tsiAfterResults as o229}
-use Rattle.dol_wanted.specs.Wanted.{andThen as o230, sizeAt as o231, firstWanted as o232, asks as o233, wantedStep as o234}
-use Rattle.dol_wanted.specs.Wanted.{entriesOf as o235, total as o236, totalBy as o237, totalOf as o238, fits as o239}
-use Rattle.dol_wanted.specs.Wanted.{fillable as o240, tally as o241}
-use Rattle.dol_values.specs.Known.{ownField as o242, valueBy as o243, valueFor as o244, withFormat as o245, supplied as o246}
-use Rattle.dol_values.specs.Shape.{shaped as o247, formatOf as o248}
-use Rattle.dol_fill.specs.Filled.{entryBytes as o249, firstBytes as o250, filled as o251, filledBy as o252, filledList as o253}
-use Rattle.dol_fill.specs.Filled.{filling as o254, missing as o255, missingIn as o256, missingBy as o257, unsupplied as o258}
-use Rattle.dol_fill.specs.Filled.{summed as o259}
-use Rattle.commands.specs.Commands.{selectCommand as o260, optionsCommand as o261, recordCommand as o262, withLength as o263}
-use Rattle.commands.specs.Commands.{cryptogramCommand as o264, sizeIn as o265, dataSize as o266}
-use Rattle.answer_select.specs.Select.{inner as o267, pdolOf as o268, begins as o269, nameWrong as o270, selectTwice as o271}
-use Rattle.answer_select.specs.Select.{selectWrong as o272, selectLines as o273, selectReason as o274}
-use Rattle.answer_record.specs.Records.{again as o275, anyAgain as o276, recordTwice as o277, recordLines as o278}
-use Rattle.answer_record.specs.Records.{recordReason as o279, valueIn as o280, namedIn as o281, incomplete as o282}
-use Rattle.answer_record.specs.Records.{completeReason as o283, afterRecords as o284}
-use Rattle.answer_gpo.specs.Options.{profileOf as o285, locatorOf as o286, optionsWrong as o287, optionsLines as o288}
-use Rattle.answer_gpo.specs.Options.{optionsReason as o289}
-use Rattle.answer_cryptogram.specs.Cryptogram.{informationOf as o290, cryptogramOf as o291, cryptogramWrong as o292}
-use Rattle.answer_cryptogram.specs.Cryptogram.{cryptogramLines as o293, cryptogramReason as o294}
-use Rattle.words.specs.Words.{wordKind as o295, wordAllowed as o296, wordRefusal as o297}
-use Rattle.rulebook.specs.Machine.{due as o298, sayable as o299, next as o300, andOn as o301}
-use Rattle.rulebook.specs.Phase.{situationOf as o302, commandOf as o303, dueKind as o304, decisionOf as o305}
-use Rattle.rulebook.specs.Phase.{decided as o306, ended as o307, tvrOf as o308, tsiOf as o309}
-use Rattle.rulebook.specs.Roles.{given as o310, begins as o311}
-use Rattle.rulebook.specs.Session.{isPayload as o312, phasesOf as o313}
+use Rattle.sessions.specs.Machine.{due as o97, andOn as o98, sayable as o99, next as o100}
+use Rattle.sessions.specs.Session.{isPayload as o101, phasesOf as o102}
+use Rattle.decimal_dates.specs.Dates.{dateKey as o103, monthAndDay as o104, validStartDate as o105, validCardDate as o106}
+use Rattle.decimal_dates.specs.Decimal.{decimalFrom as o107, decimal as o108, decimalByte as o109, digitsOnly as o110}
+use Rattle.decimal_dates.specs.Decimal.{zerosOnly as o111}
+use Rattle.start_fields.specs.Layout.{isLength as o112}
+use Rattle.start_fields.specs.Reading.{readingOf as o113}
+use Rattle.start_valid.specs.Start.{validKind as o114, validDigits as o115, validRandom as o116, validPercentages as o117}
+use Rattle.start_valid.specs.Start.{validThreshold as o118, validAid as o119, validStart as o120, terminalOf as o121}
+use Rattle.start_valid.specs.Start.{beginsSession as o122}
+use Rattle.decide_cryptogram.specs.Cryptograms.{givenBy as o123, allowedBy as o124}
+use Rattle.answer_afl.specs.Cursor.{fromEntry as o125, entryAt as o126, start as o127, isLeft as o128, recordAt as o129}
+use Rattle.answer_afl.specs.Cursor.{stepped as o130, remaining as o131}
+use Rattle.answer_afl.specs.Entries.{firstEntry as o132, entries as o133, wholeEntries as o134, sfi as o135, records as o136}
+use Rattle.answer_afl.specs.Entries.{fileRight as o137, entryRight as o138, entriesRight as o139, recordsOf as o140}
+use Rattle.answer_afl.specs.Entries.{recordCount as o141, tooMany as o142, run as o143, readEntry as o144, readAll as o145}
+use Rattle.answer_afl.specs.Entries.{toRead as o146}
+use Rattle.answer_common.specs.Answer.{sizeBad as o147, statusBad as o148, only as o149, outer as o150, theOne as o151}
+use Rattle.answer_common.specs.Answer.{tagged as o152, valueUnder as o153, isOne as o154, inside as o155, outerBad as o156}
+use Rattle.answer_common.specs.Answer.{frame as o157}
+use Rattle.answer_common.specs.CardNumber.{halves as o158, digits as o159, onlyF as o160, cardNumber as o161}
+use Rattle.answer_common.specs.Content.{meets as o162, rowsFor as o163, namesFor as o164, rules as o165, ruleFor as o166}
+use Rattle.answer_common.specs.Content.{rightValue as o167}
+use Rattle.answer_common.specs.Forms.{lacks as o168}
+use Rattle.answer_common.specs.Named.{membersIn as o169, listed as o170, named as o171, among as o172, direct as o173}
+use Rattle.answer_common.specs.Named.{standing as o174, times as o175, told as o176, valueOf as o177, wrongValue as o178}
+use Rattle.answer_common.specs.Named.{anyTimes as o179, anyWrong as o180}
+use Rattle.cvm_rules.specs.Conditions.{satisfied as o181}
+use Rattle.cvm_rules.specs.Methods.{methodOf as o182, supported as o183, succeeds as o184, pinBits as o185, triedBits as o186}
+use Rattle.cvm_rules.specs.Turns.{triedTurn as o187, tried as o188, turnOf as o189}
+use Rattle.cvm.specs.Lists.{limitOf as o190, limitX as o191, limitY as o192, rulesOf as o193, rulesIn as o194, isResult as o195}
+use Rattle.cvm.specs.Lists.{areResults as o196, inApplicationCurrency as o197}
+use Rattle.cvm.specs.Verified.{following as o198, verifiedFrom as o199, verified as o200}
+use Rattle.decide_tvr.specs.Bits.{joined as o201, meet as o202, flag as o203}
+use Rattle.decide_tvr.specs.Results.{differentVersions as o204, expired as o205, notYetEffective as o206, riskManaged as o207}
+use Rattle.decide_tvr.specs.Results.{atFloorLimit as o208, drawn as o209, restrictions as o210, risks as o211}
+use Rattle.decide_tvr.specs.Results.{tvrAfterRecords as o212, tsiAfterRecords as o213, tsiAfterFirstAnswer as o214}
+use Rattle.decide_tvr.specs.Selection.{biased as o215, chosen as o216, selected as o217}
+use Rattle.decide_requests.specs.Replies.{codeIn as o218, saidBy as o219, replyOf as o220, isReply as o221, responseCode as o222}
+use Rattle.decide_requests.specs.Requests.{issuerCode as o223, codeMatch as o224, byType as o225, firstRequest as o226}
+use Rattle.decide_requests.specs.Requests.{whenUnable as o227, secondRequest as o228}
+use Rattle.decide_verification.specs.Verification.{verificationSupported as o229, resultsDue as o230, verificationList as o231}
+use Rattle.decide_verification.specs.Verification.{resultsWanted as o232, circumstancesOf as o233, tvrAfterResults as o234}
+use Rattle.decide_verification.specs.Verification.{tsiAfterResults as o235}
+use Rattle.dol_wanted.specs.Wanted.{andThen as o236, sizeAt as o237, firstWanted as o238, asks as o239, wantedStep as o240}
+use Rattle.dol_wanted.specs.Wanted.{entriesOf as o241, total as o242, totalBy as o243, totalOf as o244, fits as o245}
+use Rattle.dol_wanted.specs.Wanted.{fillable as o246, tally as o247}
+use Rattle.dol_values.specs.Known.{ownField as o248, valueBy as o249, valueFor as o250, withFormat as o251, supplied as o252}
+use Rattle.dol_values.specs.Shape.{shaped as o253, formatOf as o254}
+use Rattle.dol_fill.specs.Filled.{entryBytes as o255, firstBytes as o256, filled as o257, filledBy as o258, filledList as o259}
+use Rattle.dol_fill.specs.Filled.{filling as o260, missing as o261, missingIn as o262, missingBy as o263, unsupplied as o264}
+use Rattle.dol_fill.specs.Filled.{summed as o265}
+use Rattle.commands.specs.Commands.{selectCommand as o266, optionsCommand as o267, recordCommand as o268, withLength as o269}
+use Rattle.commands.specs.Commands.{cryptogramCommand as o270, sizeIn as o271, dataSize as o272}
+use Rattle.answer_select.specs.Select.{inner as o273, pdolOf as o274, begins as o275, nameWrong as o276, selectTwice as o277}
+use Rattle.answer_select.specs.Select.{selectWrong as o278, selectLines as o279, selectReason as o280}
+use Rattle.answer_record.specs.Records.{again as o281, anyAgain as o282, recordTwice as o283, recordLines as o284}
+use Rattle.answer_record.specs.Records.{recordReason as o285, valueIn as o286, namedIn as o287, incomplete as o288}
+use Rattle.answer_record.specs.Records.{completeReason as o289, afterRecords as o290}
+use Rattle.answer_gpo.specs.Options.{profileOf as o291, locatorOf as o292, optionsWrong as o293, optionsLines as o294}
+use Rattle.answer_gpo.specs.Options.{optionsReason as o295}
+use Rattle.answer_cryptogram.specs.Cryptogram.{informationOf as o296, cryptogramOf as o297, cryptogramWrong as o298}
+use Rattle.answer_cryptogram.specs.Cryptogram.{cryptogramLines as o299, cryptogramReason as o300}
+use Rattle.words.specs.Words.{wordKind as o301, wordAllowed as o302, wordRefusal as o303}
+use Rattle.rulebook.specs.Phase.{situationOf as o304, commandOf as o305, dueKind as o306, decisionOf as o307}
+use Rattle.rulebook.specs.Phase.{decided as o308, ended as o309, tvrOf as o310, tsiOf as o311}
+use Rattle.rulebook.specs.Roles.{given as o312, begins as o313}
 use Rattle.rulebook.specs.Situation.{begun as o314, knownIn as o315, listIn as o316}
 use Rattle.rulebook.specs.Turn.{goesOn as o317, opened as o318, selected as o319, managed as o320, requested as o321}
 use Rattle.rulebook.specs.Turn.{verifying as o322, allRead as o323, readOn as o324, withProfile as o325, optioned as o326}
@@ -123,4 +125,4 @@ unfolding o0 o1 o2 o3 o4 o5 o6 o7 o8 o9 o10 o11 o12 o13 o14 o15 o16 o17 o18 o19 
     o270 o271 o272 o273 o274 o275 o276 o277 o278 o279 o280 o281 o282 o283 o284 o285 o286 o287 o288 o289 o290 o291 o292 o293 o294
     o295 o296 o297 o298 o299 o300 o301 o302 o303 o304 o305 o306 o307 o308 o309 o310 o311 o312 o313 o314 o315 o316 o317 o318 o319
     o320 o321 o322 o323 o324 o325 o326 o327 o328 o329 o330 o331 o332 o333 o334 o335 o336 o337 o338 o339 o340 o341 o342 run
-reached es = run es (at opens)
+reached es = run rules es (at opens)

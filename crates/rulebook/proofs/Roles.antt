@@ -8,19 +8,21 @@ use mathlib.Core.Logic.{inl, inr, ⊎-elim}
 use mathlib.Core.Option.{Option, none, some}
 use Prim.Native.Nat.{ℕ}
 use Rattle.tape_read.specs.Entries.{Entry, entry, command, answer, decision}
+use Rattle.sessions.specs.Session as Under
+use Rattle.sessions.specs.Stated.{Sort, finished, unfinished, neither}
+use Rattle.sessions.specs.Machine.{due, next, run}
+use Rattle.sessions.proofs.Running.{due-entry, due-test, chosen, taken, no-state, session-run}
+use Rattle.sessions.proofs.Reading.{run-append}
+use Rattle.sessions.proofs.Trichotomy.{sorted, one-sort}
+use Rattle.sessions.proofs.Breaks.{one-break, break-unlawful, break-found}
 use Rattle.rulebook.specs.Phase.{opens, asks, hears, decides, commandOf, dueKind, decisionOf}
-use Rattle.rulebook.specs.Session.{Session, Open, Lawful, BreaksAt}
+use Rattle.rulebook.specs.Session.{rules, Session, Open, Lawful, BreaksAt}
 use Rattle.rulebook.specs.Roles.{given, Kernel, RightKernel, Verdict, pass, inconclusive, fail, Judge, RightJudge}
 use Rattle.slices.specs.Tests.{alike}
 use Rattle.slices.proofs.Comparing.{alike-same}
 use Rattle.rulebook.proofs.Said.{other-kinds}
-use Rattle.rulebook.specs.Machine.{Machine, at, owes, done, due, next, run}
-use Rattle.rulebook.proofs.Running.{due-entry, due-test, chosen, taken, no-state, session-run}
-use Rattle.rulebook.proofs.Reading.{run-append}
-use Rattle.rulebook.proofs.Trichotomy.{sorted, one-sort}
-use Rattle.rulebook.specs.Stated.{Sort, finished, unfinished, neither}
-use Rattle.rulebook.proofs.Ends.{finishes}
-use Rattle.rulebook.proofs.Breaks.{one-break, break-unlawful, break-found}
+use Rattle.rulebook.specs.Machine.{Machine, at, owes, done}
+use Rattle.rulebook.proofs.Kept.{kept}
 
 -- ---- kernels
 
@@ -40,7 +42,7 @@ not-given : {A : Type 0} (k : ℕ) (test : Bool) (e : Entry) → given (entry k 
 not-given k test e other d g = absurd (false≢true (sym other ∙ (sym (ap given (due-entry k test e d)) ∙ g)))
 
 -- whatever is given is what is due
-given-due : (σ τ : Machine) (e : Entry) → next σ e ≡ some τ → given e ≡ true → dueIn σ ≡ e
+given-due : (σ τ : Machine) (e : Entry) → next rules σ e ≡ some τ → given e ≡ true → dueIn σ ≡ e
 unfolding next dueIn given
 given-due (at (asks w)) τ e h g =
     let d = chosen (due command (alike (e .payload) (commandOf w)) e) _ τ h .0 in
@@ -58,15 +60,15 @@ given-due done τ e h g = no-state τ h
 
 -- there is a right kernel
 pub rightKernel : Kernel
-rightKernel es = after (run es (at opens))
+rightKernel es = after (run rules es (at opens))
 
 -- whichever START a session has
 gives-due : (es : List Entry) (e : Entry) (rest : List Entry) → Session (es ++ (e ∷ rest)) → given e ≡ true → rightKernel es ≡ e
 unfolding rightKernel after run
 gives-due es e rest play g =
-    let whole = sym (run-append es (e ∷ rest) (at opens)) ∙ session-run (es ++ (e ∷ rest)) play in
-    let t = taken (run (e ∷ rest)) (run es (at opens)) done whole in
-    let n = taken (run rest) (next (t .0) e) done (t .1 .1) in
+    let whole = sym (run-append rules es (e ∷ rest) (at opens)) ∙ session-run rules (es ++ (e ∷ rest)) play in
+    let t = taken (run rules (e ∷ rest)) (run rules es (at opens)) done whole in
+    let n = taken (run rules rest) (next rules (t .0) e) done (t .1 .1) in
     ap after (t .1 .0) ∙ given-due (t .0) (n .0) e (n .1 .0) g
 
 pub right-kernel : RightKernel rightKernel
@@ -81,41 +83,41 @@ one-given es d e rest more a b g h = sym (gives-due es d rest a g) ∙ gives-due
 -- ---- judges
 
 unlawful : (es : List Entry) → (Session es → ⊥) → (Open es → ⊥) → Lawful es → ⊥
-unfolding Lawful
+unfolding Under.Lawful
 unlawful es s o l = ⊎-elim s o l
 
-verdictOf : (es : List Entry) → Sort es → Verdict
+verdictOf : (es : List Entry) → Sort rules es → Verdict
 verdictOf es (finished s) = pass
 verdictOf es (unfinished o) = inconclusive
-verdictOf es (neither s o) = fail (break-found es (unlawful es s o) .0)
+verdictOf es (neither s o) = fail (break-found kept es (unlawful es s o) .0)
 
 -- there is a right judge
 pub rightJudge : Judge
-rightJudge es = verdictOf es (sorted finishes es)
+rightJudge es = verdictOf es (sorted kept es)
 
-of-session : (es : List Entry) (s : Session es) (t : Sort es) → verdictOf es t ≡ pass
+of-session : (es : List Entry) (s : Session es) (t : Sort rules es) → verdictOf es t ≡ pass
 unfolding verdictOf
 of-session es s (finished t) = refl
-of-session es s (unfinished o) = absurd (one-sort es s o)
+of-session es s (unfinished o) = absurd (one-sort kept es s o)
 of-session es s (neither t o) = absurd (t s)
 
-of-open : (es : List Entry) (o : Open es) (t : Sort es) → verdictOf es t ≡ inconclusive
+of-open : (es : List Entry) (o : Open es) (t : Sort rules es) → verdictOf es t ≡ inconclusive
 unfolding verdictOf
-of-open es o (finished s) = absurd (one-sort es s o)
+of-open es o (finished s) = absurd (one-sort kept es s o)
 of-open es o (unfinished p) = refl
 of-open es o (neither s p) = absurd (p o)
 
-of-broken : (es : List Entry) (k : ℕ) (b : BreaksAt es k) (t : Sort es) → verdictOf es t ≡ fail k
-unfolding verdictOf Lawful
-of-broken es k b (finished s) = absurd (break-unlawful es k b (inl s))
-of-broken es k b (unfinished o) = absurd (break-unlawful es k b (inr o))
-of-broken es k b (neither s o) = let f = break-found es (unlawful es s o) in ap fail (one-break es (f .0) k (f .1) b)
+of-broken : (es : List Entry) (k : ℕ) (b : BreaksAt es k) (t : Sort rules es) → verdictOf es t ≡ fail k
+unfolding verdictOf Under.Lawful
+of-broken es k b (finished s) = absurd (break-unlawful kept es k b (inl s))
+of-broken es k b (unfinished o) = absurd (break-unlawful kept es k b (inr o))
+of-broken es k b (neither s o) = let f = break-found kept es (unlawful es s o) in ap fail (one-break kept es (f .0) k (f .1) b)
 
 pub right-judge : RightJudge rightJudge
 unfolding rightJudge
 right-judge =
     record {
-      finished = λ es s. of-session es s (sorted finishes es);
-      unfinished = λ es o. of-open es o (sorted finishes es);
-      broken = λ es k b. of-broken es k b (sorted finishes es);
+      finished = λ es s. of-session es s (sorted kept es);
+      unfinished = λ es o. of-open es o (sorted kept es);
+      broken = λ es k b. of-broken es k b (sorted kept es);
     }

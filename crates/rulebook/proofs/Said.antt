@@ -18,12 +18,13 @@ use Rattle.tape_read.specs.Entries.{isKind, payloadMost}
 use Rattle.decide_verification.proofs.Laws.{wanted-few}
 use Rattle.words.specs.declared.Word.{Word}
 use Rattle.words.specs.declared.Word.the-variants.{Host, Results}
-use Rattle.words.proofs.Laws.{OtherKind, other-kind, can-say as can-say-word}
+use Rattle.words.proofs.Laws.{other-kind, can-say as can-say-word}
+use Rattle.sessions.specs.Session.{isPayload}
+use Rattle.sessions.specs.Kept.{OtherKind}
+use Rattle.sessions.proofs.Payloads.{payload}
 use Rattle.rulebook.specs.Situation.{Situation}
 use Rattle.rulebook.specs.Phase.{Heard, terminal, says, dueKind}
 use Rattle.rulebook.specs.Turn.{wantedIn, allowed}
-use Rattle.rulebook.specs.Session.{isPayload}
-use Rattle.rulebook.proofs.Payloads.{payload}
 
 pub other-kinds : (h : Heard) → OtherKind (dueKind h)
 unfolding dueKind isKind

@@ -8,16 +8,19 @@ use mathlib.Core.List.{List, [], _++_}
 use Prim.Native.Nat.{ℕ, _≤_}
 use lib.ListN.{length}
 use Rattle.tape_read.specs.Entries.{Entry}
+use Rattle.sessions.specs.Session as Under
+use Rattle.sessions.specs.Stated.{Finished, Sort}
+use Rattle.sessions.proofs.Single.{prefix-free, reads-once, session-reads, beginning-reads, reads-lawful}
+use Rattle.sessions.proofs.Ends.{finishes}
+use Rattle.sessions.proofs.Trichotomy.{sorted, one-sort}
+use Rattle.sessions.proofs.Breaks.{one-break, break-unlawful, break-found}
 use Rattle.rulebook.specs.Phase.{Phase, opens}
-use Rattle.rulebook.specs.Session.{longest, Session, Beginning, Open, Lawful, BreaksAt, Reads}
-use Rattle.rulebook.specs.Stated.{Finished, Sort, Growing}
-use Rattle.rulebook.proofs.Single.{prefix-free, reads-once, session-reads, beginning-reads, reads-lawful}
+use Rattle.rulebook.specs.Session.{rules, longest, Session, Beginning, Open, Lawful, BreaksAt, Reads}
+use Rattle.rulebook.specs.Stated.{Growing}
 use Rattle.rulebook.proofs.Growing.{reading-grows}
-use Rattle.rulebook.proofs.Trichotomy.{sorted, one-sort}
-use Rattle.rulebook.proofs.Ends.{finishes}
-use Rattle.rulebook.proofs.Breaks.{one-break, break-unlawful, break-found}
 use Rattle.rulebook.proofs.Bound.{session-bound}
 use Rattle.rulebook.proofs.Longest.{fullest, bound-reached}
+use Rattle.rulebook.proofs.Kept.{kept}
 
 pub record Rulebook : Type 0 where
   pub inhabited : (es : List Entry) × Session es
@@ -26,8 +29,8 @@ pub record Rulebook : Type 0 where
   pub session-read : (es : List Entry) → Session es → (ps : List Phase) × Reads es ps
   pub beginning-read : (es : List Entry) → Beginning es → (ps : List Phase) × Reads es ps
   pub read-lawful : (es : List Entry) (ps : List Phase) → Reads es ps → Lawful es
-  pub finished : (p : Phase) → Finished p
-  pub sort : (es : List Entry) → Sort es
+  pub finished : (p : Phase) → Finished rules p
+  pub sort : (es : List Entry) → Sort rules es
   pub apart : (es : List Entry) → Session es → Open es → ⊥
   pub place : (es : List Entry) → (Lawful es → ⊥) → (k : ℕ) × BreaksAt es k
   pub one-place : (es : List Entry) (k m : ℕ) → BreaksAt es k → BreaksAt es m → k ≡ m
@@ -37,21 +40,21 @@ pub record Rulebook : Type 0 where
   pub bound-met : (es : List Entry) × (Session es × (length es ≡ longest))
 
 pub rulebook : Rulebook
-unfolding Session
+unfolding Under.Session
 rulebook =
     record {
-      inhabited = finishes opens;
-      no-longer = prefix-free;
-      one-reading = reads-once;
-      session-read = session-reads;
-      beginning-read = beginning-reads;
-      read-lawful = reads-lawful;
-      finished = finishes;
-      sort = sorted finishes;
-      apart = one-sort;
-      place = break-found;
-      one-place = one-break;
-      no-place = break-unlawful;
+      inhabited = finishes kept opens;
+      no-longer = prefix-free rules;
+      one-reading = reads-once rules;
+      session-read = session-reads rules;
+      beginning-read = beginning-reads rules;
+      read-lawful = reads-lawful rules;
+      finished = finishes kept;
+      sort = sorted kept;
+      apart = one-sort kept;
+      place = break-found kept;
+      one-place = one-break kept;
+      no-place = break-unlawful kept;
       growing = reading-grows;
       bounded = session-bound;
       bound-met = (fullest, bound-reached);

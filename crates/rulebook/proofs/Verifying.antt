@@ -33,12 +33,13 @@ use Rattle.decide_requests.specs.Requests.{firstRequest}
 use Rattle.words.proofs.Laws.{results-kind}
 use Rattle.words.specs.declared.Word.{Word}
 use Rattle.words.specs.declared.Word.the-variants.{Results}
+use Rattle.sessions.specs.Session.{phasesOf}
 use Rattle.rulebook.specs.Situation.{Situation, begun, listIn}
 use Rattle.rulebook.specs.Phase.{Asked, first, terminal, says, Phase, opens, asks, hears}
 use Rattle.rulebook.specs.Phase.{decides, situationOf, dueKind, terminated, ended, tvrOf, tsiOf}
 use Rattle.rulebook.specs.Turn.{goesOn, opened, managed, requested, withProfile, withRecord}
 use Rattle.rulebook.specs.Turn.{answered, turn, verifiedBy, after}
-use Rattle.rulebook.specs.Session.{Plays, exchanged, heard, decided, phasesOf}
+use Rattle.rulebook.specs.Session.{rules, Plays, exchanged, heard, decided}
 use Rattle.rulebook.proofs.Passing.{Past, Due, leaving, left, Lasting, Holds, holds-seen, turn-holds}
 use Rattle.rulebook.proofs.Passing.{after-holds, Awaited, Awaiting, turn-awaiting, after-awaiting}
 
@@ -244,7 +245,7 @@ bare-lasts =
       first = λ t h. (h .0, (h .1 .0, b7-stays-on (t .tsi) ∙ h .1 .1));
     }
 
-bare-plays : {q : Phase} {es : List Entry} (play : Plays q es) → Holds Bare q → Awaiting q → Without es × Clear (phasesOf play)
+bare-plays : {q : Phase} {es : List Entry} (play : Plays q es) → Holds Bare q → Awaiting q → Without es × Clear (phasesOf rules play)
 unfolding Holds Awaiting Due phasesOf tvrOf tsiOf dueKind
 bare-plays (exchanged {w} {a} c ok play) h aw =
     let rest = bare-plays play (turn-holds Bare bare-lasts w a h) (turn-awaiting w a) in
@@ -260,7 +261,7 @@ bare-plays (decided d) h aw = (((λ e. omega arith), tt), (h .1 .0, (h .1 .1, tt
 
 -- a session whose START has 74 bytes hands no results in, and sets neither
 pub old-session : (b : List ℕ) (es : List Entry) → length b ≤ startLength → (session : Plays opens (entry start b ∷ es))
-    → Without (entry start b ∷ es) × Clear (phasesOf session)
+    → Without (entry start b ∷ es) × Clear (phasesOf rules session)
 unfolding Holds Awaiting phasesOf tvrOf tsiOf after opened begun situationOf zeros
 old-session b es few (heard k fits ok play) =
     let rest = bare-plays play (no-capabilities b few, (refl, refl)) tt in

@@ -1,46 +1,9 @@
--- The rulebook as a machine that reads one entry at a time: at each state at most one entry kind is due, and its payload settles the
--- next state. It is derived from the same transition as the sessions, and nobody need believe it: that a list of entries is a session
--- exactly where the machine ends on it is proved (proofs/Running).
+-- The states of the machine that reads one entry at a time (Machine of sessions) under our rules. Nobody need believe it.
 -- Assumes nothing.
-use mathlib.Core.Bool.{Bool, _&&_}
-use mathlib.Core.List.{List, [], _∷_}
-use mathlib.Core.Option.{Option, none, some}
-use Prim.Native.Nat.{ℕ}
-use lib.Dec.{eqb}
-use Rattle.slices.specs.Choice.{pick}
-use Rattle.slices.specs.Tests.{alike}
-use Rattle.tape_read.specs.Entries.{Entry, command, answer, decision}
-use Rattle.rulebook.specs.Phase.{Asked, Heard, Phase, asks, hears, decides, commandOf, dueKind, decisionOf}
-use Rattle.rulebook.specs.Turn.{turn, allowed, after}
-use Rattle.rulebook.specs.Session.{isPayload}
+use Rattle.sessions.specs.Machine as Under
+pub use Rattle.sessions.specs.Machine.{at, owes, done}
+use Rattle.rulebook.specs.Situation.{Situation}
+use Rattle.rulebook.specs.Phase.{Asked, Heard}
 
--- a phase, or a command that was sent and awaits its answer, or the end
-pub data Machine : Type 0 where
-  at : Phase → Machine
-  owes : Asked → Machine
-  done : Machine
-
--- an entry of a kind, where its payload passes a test
-unfoldable pub due : ℕ → Bool → Entry → Bool
-due kind test e = eqb (e .kind) kind && test
-
--- what may be said, in a payload that a tape can hold
-unfoldable pub sayable : Heard → List ℕ → Bool
-sayable h p = allowed h p && isPayload p
-
--- the state after an entry; none where the entry cannot be
-unfoldable pub next : Machine → Entry → Option Machine
-next (at (asks w)) e = pick (due command (alike (e .payload) (commandOf w)) e) (some (owes w)) none
-next (at (hears h)) e = pick (due (dueKind h) (sayable h (e .payload)) e) (some (at (after h (e .payload)))) none
-next (at (decides outcome reason s)) e = pick (due decision (alike (e .payload) (decisionOf outcome reason s)) e) (some done) none
-next (owes w) e = pick (due answer (isPayload (e .payload)) e) (some (at (turn w (e .payload)))) none
-next done e = none
-
--- the state after several entries
-unfoldable pub andOn : (Machine → Option Machine) → Option Machine → Option Machine
-andOn f none = none
-andOn f (some σ) = f σ
-
-unfoldable pub run : List Entry → Machine → Option Machine
-run [] σ = some σ
-run (e ∷ es) σ = andOn (run es) (next σ e)
+abbrev pub Machine : Type 0
+Machine = Under.Machine Asked Heard Situation

@@ -11,6 +11,8 @@ use Rattle.words.specs.declared.Word.{Word}
 use Rattle.commands.specs.Commands.{selectCommand, optionsCommand, recordCommand, cryptogramCommand}
 use Rattle.decide_cryptogram.specs.Cryptograms.{p1Of}
 use Rattle.decide_cryptogram.specs.declared.Cryptogram.{Cryptogram}
+use Rattle.sessions.specs.Rules as Under
+pub use Rattle.sessions.specs.Rules.{asks, hears, decides}
 use Rattle.rulebook.specs.Situation.{Situation, knownIn, listIn}
 
 -- what the card was asked
@@ -33,13 +35,9 @@ pub data Heard : Type 0 where
   -- a word that is due in a situation: the issuer's reply, or the results of cardholder verification (02, R-7)
   says : Word → Situation → Heard
 
-pub data Phase : Type 0 where
-  -- a command is due, and then the card's answer
-  asks : Asked → Phase
-  -- what somebody else says is due
-  hears : Heard → Phase
-  -- the decision is due: its outcome, its reason or 0, and the situation that it was made in
-  decides : ℕ → ℕ → Situation → Phase
+-- where a session stands (Phase of sessions): a command is due (`asks`), a word of somebody else (`hears`), or the decision (`decides`)
+abbrev pub Phase : Type 0
+Phase = Under.Phase Asked Heard Situation
 
 -- a session opens with START
 abbrev pub opens : Phase

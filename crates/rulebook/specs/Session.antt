@@ -1,35 +1,37 @@
--- Whole sessions, as entries of a tape: commands and answers in turn, what somebody else says where it is due (START first), DECISION
--- last. 01, "What the kernel plays and who decides"; demand 3.
+-- The rules of 01 as one value, and the sessions that they allow: commands and answers in turn, what somebody else says where it is due
+-- (START first), DECISION last. What a session, a beginning or a break is under given rules stands word for word in the crate sessions
+-- (Session there). 01, "What the kernel plays and who decides"; demand 3.
 -- Assumes nothing.
-use mathlib.Core.Path.{_≡_}
-use mathlib.Core.Bool.{Bool, true, _&&_}
-use mathlib.Core.List.{List, [], _∷_, _++_}
-use mathlib.Core.Logic.{_⊎_}
-use Prim.Native.Nat.{ℕ, _+_, _*_, _≤_}
-use lib.Dec.{leb}
-use lib.ListN.{length, take}
-use lib.Pow.{areBytes}
-use Rattle.tape_read.specs.Entries.{Entry, entry, command, answer, silence, decision, payloadMost}
+use mathlib.Core.List.{List}
+use Prim.Native.Nat.{ℕ, _+_, _*_}
+use Rattle.tape_read.specs.Entries.{Entry}
 use Rattle.answer_afl.specs.Entries.{mostRecords}
+use Rattle.sessions.specs.Rules.{Rules}
+use Rattle.sessions.specs.Session as Under
+pub use Rattle.sessions.specs.Session.{exchanged, heard, decided}
 use Rattle.rulebook.specs.Situation.{Situation}
-use Rattle.rulebook.specs.Phase.{Asked, Heard, Phase, opens, asks, hears, decides, commandOf, dueKind, decisionOf}
+use Rattle.rulebook.specs.Phase.{Asked, Heard, Phase, opens, commandOf, dueKind, decisionOf}
 use Rattle.rulebook.specs.Turn.{turn, allowed, after}
 
--- a payload that a tape can hold: bytes, and not too many
-unfoldable pub isPayload : List ℕ → Bool
-isPayload p = leb (length p) payloadMost && areBytes p
+-- the rules: `Phase` says what is due and how it is asked, `Turn` how it goes on
+abbrev pub rules : Rules Asked Heard Situation
+rules =
+    record {
+      opens = opens;
+      commandOf = commandOf;
+      turn = turn;
+      dueKind = dueKind;
+      allowed = allowed;
+      after = after;
+      decisionOf = decisionOf;
+    }
 
 -- the entries from a phase on, to the end of the session
-pub data Plays : Phase → List Entry → Type 0 where
-  exchanged : {w : Asked} {c a : List ℕ} {es : List Entry} → c ≡ commandOf w → isPayload a ≡ true
-      → Plays (turn w a) es → Plays (asks w) (entry command c ∷ entry answer a ∷ es)
-  heard : {h : Heard} {k : ℕ} {p : List ℕ} {es : List Entry} → k ≡ dueKind h → allowed h p ≡ true → isPayload p ≡ true
-      → Plays (after h p) es → Plays (hears h) (entry k p ∷ es)
-  decided : {outcome reason : ℕ} {s : Situation} {d : List ℕ} → d ≡ decisionOf outcome reason s
-      → Plays (decides outcome reason s) (entry decision d ∷ [])
+abbrev pub Plays : Phase → List Entry → Type 0
+Plays = Under.Plays rules
 
-unfoldable pub Session : List Entry → Type 0
-Session es = Plays opens es
+abbrev pub Session : List Entry → Type 0
+Session = Under.Session rules
 
 -- no session has more entries (01, "The tape"; 02, R-7 and R-8): START; SELECT, GPO and two requests, each with its answer; HOST, the
 -- results of cardholder verification, DECISION; and each record with its answer
@@ -37,41 +39,33 @@ abbrev pub longest : ℕ
 longest = 12 + 2 * mostRecords
 
 -- an unfinished beginning: something is left to come
-unfoldable pub Beginning : List Entry → Type 0
-Beginning es = (e : Entry) × ((rest : List Entry) × Session (es ++ (e ∷ rest)))
+abbrev pub Beginning : List Entry → Type 0
+Beginning = Under.Beginning rules
 
 -- a beginning that waits for the card's answer
-unfoldable pub AwaitsCard : List Entry → Type 0
-AwaitsCard es = (a : List ℕ) × ((rest : List Entry) × Session (es ++ (entry answer a ∷ rest)))
+abbrev pub AwaitsCard : List Entry → Type 0
+AwaitsCard = Under.AwaitsCard rules
 
 -- one closing silence after a beginning that waits for the card
-unfoldable pub Closed : List Entry → Type 0
-Closed es = (before : List Entry) × (AwaitsCard before × (es ≡ before ++ (entry silence [] ∷ [])))
+abbrev pub Closed : List Entry → Type 0
+Closed = Under.Closed rules
 
 -- what a session can be while it is not finished
-unfoldable pub Open : List Entry → Type 0
-Open es = Beginning es ⊎ Closed es
+abbrev pub Open : List Entry → Type 0
+Open = Under.Open rules
 
 -- no rule is broken: finished, or open
-unfoldable pub Lawful : List Entry → Type 0
-Lawful es = Session es ⊎ Open es
+abbrev pub Lawful : List Entry → Type 0
+Lawful = Under.Lawful rules
 
--- the entry, counted from 0, at which the rules are first broken: the last one of the shortest beginning that is neither finished
--- nor open (demand 3)
-pub record BreaksAt (es : List Entry) (k : ℕ) : Type 0 where
-  pub before : (n : ℕ) → n ≤ k → Lawful (take n es)
-  pub broken : Lawful (take (k + 1) es) → ⊥
+-- the entry, counted from 0, at which the rules are first broken (demand 3)
+abbrev pub BreaksAt : List Entry → ℕ → Type 0
+BreaksAt = Under.BreaksAt rules
 
--- the phase that each entry stands in
-unfoldable pub phasesOf : {p : Phase} {es : List Entry} → Plays p es → List Phase
-phasesOf (exchanged {w} c ok play) = asks w ∷ asks w ∷ phasesOf play
-phasesOf (heard {h} k fits ok play) = hears h ∷ phasesOf play
-phasesOf (decided {outcome} {reason} {s} d) = decides outcome reason s ∷ []
+-- the phases that are passed while entries are read
+abbrev pub Reads : List Entry → List Phase → Type 0
+Reads = Under.Reads rules
 
--- the phases that are passed while entries are read: those of a session that begins with them, up to the phase that they lead to
-unfoldable pub Reads : List Entry → List Phase → Type 0
-Reads es ps = (rest : List Entry) × ((play : Plays opens (es ++ rest)) × (ps ≡ take (length es + 1) (phasesOf play)))
-
--- entries lead to a phase: of those that are passed while they are read it is the last
-unfoldable pub LeadsTo : List Entry → Phase → Type 0
-LeadsTo es p = (before : List Phase) × Reads es (before ++ (p ∷ []))
+-- entries lead to a phase: the last of those that are passed while they are read
+abbrev pub LeadsTo : List Entry → Phase → Type 0
+LeadsTo = Under.LeadsTo rules

@@ -8,76 +8,78 @@ use mathlib.Core.Option.{Option, none, some}
 use Prim.Native.Nat.{ℕ}
 use native.Mathlib.Omega.{arith}
 use Rattle.tape_read.specs.Entries.{Entry}
+use Rattle.sessions.specs.Session as Under
+use Rattle.sessions.specs.Machine.{run}
+use Rattle.sessions.proofs.Running.{no-state, run-session}
+use Rattle.sessions.proofs.Reading.{beginning-run, awaits-run, not-both}
+use Rattle.sessions.proofs.Sorting.{run-beginning, run-awaits}
+use Rattle.sessions.proofs.Leading.{standing, at-leads, leads-run}
 use Rattle.rulebook.specs.Phase.{Asked, Phase, opens, asks, hears, decides}
-use Rattle.rulebook.specs.Session.{Beginning, AwaitsCard, Open, Lawful}
-use Rattle.rulebook.specs.Machine.{Machine, at, owes, done, run}
-use Rattle.rulebook.proofs.Running.{no-state, run-session}
-use Rattle.rulebook.proofs.Reading.{beginning-run, awaits-run, not-both}
-use Rattle.rulebook.proofs.Sorting.{run-beginning, run-awaits}
-use Rattle.rulebook.proofs.Leading.{standing, at-leads, leads-run}
-use Rattle.rulebook.proofs.Ends.{finishes}
+use Rattle.rulebook.specs.Session.{rules, Beginning, AwaitsCard, Open, Lawful}
+use Rattle.rulebook.specs.Machine.{Machine, at, owes, done}
 use Rattle.rulebook_due.specs.Due.{Due, asking, answering, saying, deciding, nothing}
 use Rattle.rulebook_due.specs.After.{StandsIn, DueAfter, command-due, answer-due, word-due, decision-due, nothing-due}
 use Rattle.rulebook_due.specs.After.{dueAt, dueIn, dueAfter}
+use Rattle.rulebook.proofs.Kept.{kept}
 
 at-not-owes : {A : Type 0} (p : Phase) (w : Asked) → some (at p) ≡ some (owes w) → A
 at-not-owes p w e = absurd (let z : _≡_ {A = ℕ} 0 1 = cc in omega arith)
 
 module _ (es : List Entry) where
-  module _ (p : Phase) (h : run es (at opens) ≡ some (at p)) where
+  module _ (p : Phase) (h : run rules es (at opens) ≡ some (at p)) where
     pub at-begins : Beginning es
-    at-begins = run-beginning finishes es (at p) h (λ e. let z : _≡_ {A = ℕ} 0 1 = cc in omega arith)
+    at-begins = run-beginning kept es (at p) h (λ e. let z : _≡_ {A = ℕ} 0 1 = cc in omega arith)
 
     stands : StandsIn es p
     unfolding StandsIn
-    stands = (at-begins, at-leads es p h)
+    stands = (at-begins, at-leads kept es p h)
 
     not-waiting : AwaitsCard es → ⊥
-    not-waiting a = let w = awaits-run es a in at-not-owes p (w .0) (sym h ∙ w .1)
+    not-waiting a = let w = awaits-run kept es a in at-not-owes p (w .0) (sym h ∙ w .1)
 
-  owes-begins : (w : Asked) → run es (at opens) ≡ some (owes w) → Beginning es
-  owes-begins w h = run-beginning finishes es (owes w) h (λ e. let z : _≡_ {A = ℕ} 0 1 = cc in omega arith)
+  owes-begins : (w : Asked) → run rules es (at opens) ≡ some (owes w) → Beginning es
+  owes-begins w h = run-beginning kept es (owes w) h (λ e. let z : _≡_ {A = ℕ} 0 1 = cc in omega arith)
 
-  by-state : (o : Option Machine) → run es (at opens) ≡ o → DueAfter es (dueIn o)
+  by-state : (o : Option Machine) → run rules es (at opens) ≡ o → DueAfter es (dueIn o)
   unfolding dueIn dueAt
   by-state (some (at (asks w))) h = command-due w refl (stands (asks w) h) (not-waiting (asks w) h)
   by-state (some (at (hears x))) h = word-due (stands (hears x) h)
   by-state (some (at (decides outcome reason s))) h = decision-due outcome reason s refl (stands (decides outcome reason s) h)
-  by-state (some (owes w)) h = answer-due (run-awaits finishes es w h)
-  by-state (some done) h = nothing-due (not-both es (run-session es h))
-  by-state none h = nothing-due (λ b. let r = beginning-run es b in no-state (r .0) (sym h ∙ r .1 .0))
+  by-state (some (owes w)) h = answer-due (run-awaits kept es w h)
+  by-state (some done) h = nothing-due (not-both rules es (run-session rules es h))
+  by-state none h = nothing-due (λ b. let r = beginning-run rules es b in no-state (r .0) (sym h ∙ r .1 .0))
 
   -- what is found is what the sessions say
   pub found : DueAfter es (dueAfter es)
   unfolding dueAfter
-  found = by-state (run es (at opens)) refl
+  found = by-state (run rules es (at opens)) refl
 
   -- an unfinished beginning in a phase: the machine is at it, or the card owes it an answer
-  in-phase : (p : Phase) → StandsIn es p → (σ : Machine) × ((run es (at opens) ≡ some σ) × (standing σ ≡ p ∷ []))
+  in-phase : (p : Phase) → StandsIn es p → (σ : Machine) × ((run rules es (at opens) ≡ some σ) × (standing σ ≡ p ∷ []))
   unfolding StandsIn
   in-phase p s =
-      let l = leads-run es p (s .1) in
-      let b = beginning-run es (s .0) in
+      let l = leads-run rules es p (s .1) in
+      let b = beginning-run rules es (s .0) in
       let same : some (b .0) ≡ some (l .0) = sym (b .1 .0) ∙ l .1 .0 in
       (l .0, (l .1 .0, ⊎-elim (λ e. absurd (b .1 .1 (cc (same, e)))) (λ e. e) (l .1 .1)))
 
   -- what is due in a state, where its phase is known
   module _ (p : Phase) where
-    asked-there : (σ : Machine) → run es (at opens) ≡ some σ → standing σ ≡ p ∷ [] → ((w : Asked) → σ ≡ owes w → p ≡ asks w → ⊥)
+    asked-there : (σ : Machine) → run rules es (at opens) ≡ some σ → standing σ ≡ p ∷ [] → ((w : Asked) → σ ≡ owes w → p ≡ asks w → ⊥)
         → σ ≡ at p
     unfolding standing
     asked-there (at q) h e other = let same : q ≡ p = cc in ap at same
     asked-there (owes w) h e other = let same : p ≡ asks w = cc in absurd (other w refl same)
     asked-there done h e other = absurd (let z : _≡_ {A = ℕ} 0 1 = cc in omega arith)
 
-    phase-due : StandsIn es p → ((w : Asked) → run es (at opens) ≡ some (owes w) → p ≡ asks w → ⊥) → dueAfter es ≡ dueAt (at p)
+    phase-due : StandsIn es p → ((w : Asked) → run rules es (at opens) ≡ some (owes w) → p ≡ asks w → ⊥) → dueAfter es ≡ dueAt (at p)
     unfolding dueAfter dueIn
     phase-due s other =
         let f = in-phase p s in
         let there = asked-there (f .0) (f .1 .0) (f .1 .1) (λ w e q. other w (f .1 .0 ∙ ap some e) q) in
         ap dueIn (f .1 .0 ∙ ap some there)
 
-  over : (Beginning es → ⊥) → (o : Option Machine) → run es (at opens) ≡ o → dueIn o ≡ nothing
+  over : (Beginning es → ⊥) → (o : Option Machine) → run rules es (at opens) ≡ o → dueIn o ≡ nothing
   unfolding dueIn dueAt
   over never (some (at p)) h = absurd (never (at-begins p h))
   over never (some (owes w)) h = absurd (never (owes-begins w h))
@@ -87,19 +89,19 @@ module _ (es : List Entry) where
   -- where nothing is left to come nothing is due
   pub none-due : (Beginning es → ⊥) → dueAfter es ≡ nothing
   unfolding dueAfter
-  none-due never = over never (run es (at opens)) refl
+  none-due never = over never (run rules es (at opens)) refl
 
   -- nor where the rules are broken
   pub unlawful-due : (Lawful es → ⊥) → dueAfter es ≡ nothing
-  unfolding Lawful Open
+  unfolding Under.Lawful Under.Open
   unlawful-due never = none-due (λ b. never (inr (inl b)))
 
   -- and what the sessions say is found
   pub only : (d : Due) → DueAfter es d → dueAfter es ≡ d
   unfolding dueAt dueAfter dueIn
   only (asking c) (command-due w f s never) =
-      phase-due (asks w) s (λ v h e. never (run-awaits finishes es v h)) ∙ ap asking (sym f)
-  only answering (answer-due a) = let w = awaits-run es a in ap dueIn (w .1)
+      phase-due (asks w) s (λ v h e. never (run-awaits kept es v h)) ∙ ap asking (sym f)
+  only answering (answer-due a) = let w = awaits-run kept es a in ap dueIn (w .1)
   only (saying h) (word-due s) = phase-due (hears h) s (λ w r e. let z : _≡_ {A = ℕ} 0 1 = cc in omega arith)
   only (deciding d) (decision-due outcome reason z f s) =
       phase-due (decides outcome reason z) s (λ w r e. let k : _≡_ {A = ℕ} 0 1 = cc in omega arith) ∙ ap deciding (sym f)

@@ -7,15 +7,16 @@ use Prim.Native.Nat.{ℕ, _+_}
 use lib.ListN.{length}
 use lib.Seq.{take-append-add}
 use Rattle.tape_read.specs.Entries.{Entry, entry, command, decision}
-use Rattle.rulebook.specs.Session.{Lawful, BreaksAt}
-use Rattle.rulebook.specs.Machine.{run}
-use Rattle.rulebook.proofs.Reading.{not-both, not-begun}
-use Rattle.rulebook.proofs.Breaks.{break-here}
+use Rattle.sessions.specs.Machine.{run}
+use Rattle.sessions.proofs.Reading.{not-both, not-begun}
+use Rattle.sessions.proofs.Breaks.{break-here}
+use Rattle.rulebook.specs.Session.{rules, Lawful, BreaksAt}
 use Rattle.rulebook_due.specs.Due.{Due, asking, deciding, Fits}
 use Rattle.rulebook_due.specs.After.{dueAt, dueIn, dueAfter}
 use Rattle.rulebook_due.specs.Theorem.{OnlyOne, MayFollow}
 use Rattle.rulebook_due.proofs.After.{found, only, none-due}
 use Rattle.rulebook_due.proofs.Following.{may-fits, fits-follows, something}
+use Rattle.rulebook.proofs.Kept.{kept}
 
 -- where one entry fits, it may follow and no other
 only-one : (es : List Entry) (e : Entry) (d : Due) → dueAfter es ≡ d → Fits d e → ((f : Entry) → Fits d f → f ≡ e) → OnlyOne es e
@@ -46,10 +47,10 @@ may-follow =
       fits = may-fits;
       follows = fits-follows;
       something = something;
-      after-session = λ es s. none-due es (not-both es s);
-      after-silence = λ es c. none-due es (λ b. not-begun es b c);
+      after-session = λ es s. none-due es (not-both rules es s);
+      after-silence = λ es c. none-due es (λ b. not-begun kept es b c);
       one-command = one-command;
       one-decision = one-decision;
       breaks = broken-unfit;
-      first-unfit = λ es e more l never. break-here es e more l (λ k. never (may-fits es e k));
+      first-unfit = λ es e more l never. break-here kept es e more l (λ k. never (may-fits es e k));
     }

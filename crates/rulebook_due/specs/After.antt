@@ -6,10 +6,11 @@ use mathlib.Core.List.{List}
 use mathlib.Core.Option.{Option, none, some}
 use Prim.Native.Nat.{ℕ}
 use Rattle.tape_read.specs.Entries.{Entry}
+use Rattle.sessions.specs.Machine.{run}
 use Rattle.rulebook.specs.Situation.{Situation}
 use Rattle.rulebook.specs.Phase.{Asked, Heard, Phase, opens, asks, hears, decides, commandOf, decisionOf}
-use Rattle.rulebook.specs.Session.{Beginning, AwaitsCard, LeadsTo}
-use Rattle.rulebook.specs.Machine.{Machine, at, owes, done, run}
+use Rattle.rulebook.specs.Session.{rules, Beginning, AwaitsCard, LeadsTo}
+use Rattle.rulebook.specs.Machine.{Machine, at, owes, done}
 use Rattle.rulebook_due.specs.Due.{Due, asking, answering, saying, deciding, nothing}
 
 -- an unfinished beginning, in this phase
@@ -38,4 +39,4 @@ dueIn none = nothing
 dueIn (some σ) = dueAt σ
 
 unfoldable pub dueAfter : List Entry → Due
-dueAfter es = dueIn (run es (at opens))
+dueAfter es = dueIn (run rules es (at opens))

@@ -6,9 +6,9 @@ use mathlib.Core.List.{List, []}
 use mathlib.Core.Logic.{_⊎_}
 use Prim.Native.Nat.{ℕ}
 use Rattle.tape_read.specs.Entries.{Entry, entry, command, answer, silence, decision}
+use Rattle.sessions.specs.Session.{isPayload}
 use Rattle.rulebook.specs.Phase.{Heard, terminal, says, dueKind}
 use Rattle.rulebook.specs.Turn.{wantedIn, allowed}
-use Rattle.rulebook.specs.Session.{isPayload}
 
 pub data Due : Type 0 where
   -- the command with these bytes

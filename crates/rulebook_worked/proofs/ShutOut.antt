@@ -13,14 +13,16 @@ use borrow.Author.Tests.{eqb-false}
 use Rattle.slices.specs.Tests.{isSome}
 use Rattle.tape_read.specs.Entries.{Entry, entry, start, command, answer, host, decision}
 use Rattle.start_valid.specs.Start.{beginsSession}
+use Rattle.sessions.specs.Session as Under
+use Rattle.sessions.proofs.Breaks.{begins-empty}
 use Rattle.rulebook.specs.Session.{Session, Open, BreaksAt}
 use Rattle.rulebook.proofs.Opening.{reached}
-use Rattle.rulebook.proofs.Breaks.{begins-empty}
 use Rattle.rulebook.specs.Roles.{given, begins, Kernel, RightKernel, Verdict, pass, inconclusive, fail, Judge, RightJudge}
 use Rattle.rulebook.proofs.Made.{startOf, select, selected, withList, options, withNumber, optioned, readOne, recorded, number}
 use Rattle.rulebook.proofs.Made.{firstAsked, secondAsked, given as cryptogram, aac, tc, arqc, decides, exchange, opening, reads, breaks}
 use Rattle.rulebook_worked.proofs.Sessions.{approved-online, declined-online, other-list}
 use Rattle.rulebook.proofs.Offline.{offline, approved-offline}
+use Rattle.rulebook.proofs.Kept.{kept}
 
 -- ---- kernels
 
@@ -232,8 +234,8 @@ module _ (j : Judge) (right : RightJudge j) where
   on-session = right .finished (offline 2 tc 1) (approved-offline .0)
 
   on-nothing : j [] ≡ inconclusive
-  unfolding Open
-  on-nothing = right .unfinished [] (inl begins-empty)
+  unfolding Under.Open
+  on-nothing = right .unfinished [] (inl (begins-empty kept))
 
   on-restarted : j restarted ≡ fail 1
   on-restarted = right .broken restarted 1 breaks-at-1

@@ -21,6 +21,8 @@ use Rattle.facts.specs.Facts.{Facts, orElse}
 use Rattle.start_fields.specs.Reading.{Terminal}
 use Rattle.dol_fill.specs.Filled.{unsupplied}
 use Rattle.dol_fill.proofs.Missing.{unsupplied-half}
+use Rattle.sessions.specs.Machine.{next}
+use Rattle.sessions.proofs.Running.{chosen, no-state}
 use Rattle.rulebook.specs.Situation.{Situation, begun, knownIn, listIn}
 use Rattle.rulebook.specs.Phase.{Asked, selecting, optioning, reading, first, second, Heard}
 use Rattle.words.specs.declared.Word.{Word}
@@ -29,8 +31,7 @@ use Rattle.rulebook.specs.Phase.{terminal, says, Phase, opens, asks, hears, dec
 use Rattle.rulebook.specs.Turn.{goesOn, opened, selected, managed, requested, verifying, allRead, readOn}
 use Rattle.rulebook.specs.Turn.{withProfile, optioned, withRecord, recorded, answered, replied, online, byFirst}
 use Rattle.rulebook.specs.Turn.{firstAnswered, secondAnswered, turn, replyMade, heard, verifiedBy, after}
-use Rattle.rulebook.specs.Machine.{Machine, at, owes, done, next}
-use Rattle.rulebook.proofs.Running.{chosen, no-state}
+use Rattle.rulebook.specs.Machine.{Machine, at, owes, done}
 use Rattle.dol_wanted.specs.Wanted.{fillable}
 use Rattle.answer_gpo.specs.Options.{profileOf, locatorOf}
 use Rattle.answer_cryptogram.specs.Cryptogram.{cryptogramOf}
@@ -47,6 +48,7 @@ use Rattle.decide_requests.specs.Replies.{codeIn, replyOf, responseCode}
 use Rattle.rulebook.specs.Phase.{situationOf, ended, decided}
 use Rattle.rulebook_zeros.specs.Zeros.{mostEntries, unsuppliedAsking, unsuppliedIn}
 use Rattle.rulebook_zeros.specs.Summing.{newIn, countOn, zerosFrom, zerosOf}
+use Rattle.rulebook.specs.Session.{rules}
 
 -- what was told of any tag is no longer than an answer has room for
 abbrev Short : Situation → Type 0
@@ -228,7 +230,7 @@ Moves σ τ = ShortAt τ × (newIn τ + leftAt τ ≤ leftAt σ)
 moved-to : (σ τ ρ : Machine) → some τ ≡ some ρ → Moves σ τ → Moves σ ρ
 moved-to σ τ ρ e h = let same : τ ≡ ρ = cc e in subst (Moves σ) same h
 
-next-within : (σ ρ : Machine) (e : Entry) → ShortAt σ → next σ e ≡ some ρ → Moves σ ρ
+next-within : (σ ρ : Machine) (e : Entry) → ShortAt σ → next rules σ e ≡ some ρ → Moves σ ρ
 unfolding next newIn leftAt leftIn
 next-within (at (asks w)) ρ e short h = moved-to (at (asks w)) (owes w) ρ (chosen _ _ ρ h .1) (short, omega arith)
 next-within (at (hears x)) ρ e short h =
@@ -247,7 +249,7 @@ zeros-within : (es : List Entry) (σ : Machine) → ShortAt σ → zerosFrom es 
 unfolding zerosFrom
 zeros-within [] σ short = omega arith
 zeros-within (e ∷ es) σ short =
-    counted-within (zerosFrom es) (leftAt σ) (next σ e) (λ τ h.
+    counted-within (zerosFrom es) (leftAt σ) (next rules σ e) (λ τ h.
     let m = next-within σ τ e short h in
     let rest = zeros-within es τ (m .0) in
     let here = m .1 in

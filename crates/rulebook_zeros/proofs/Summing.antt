@@ -12,27 +12,30 @@ use lib.ListN.{length, take, drop, getD}
 use lib.Seq.{split-at, take-suc}
 use Rattle.slices.proofs.Choice.{pick-no}
 use Rattle.tape_read.specs.Entries.{Entry, entry, command, answer, silence, decision}
+use Rattle.sessions.specs.Session as Under
+use Rattle.sessions.specs.Stated.{Sort, finished, unfinished, neither}
+use Rattle.sessions.specs.Machine.{next, run}
+use Rattle.sessions.proofs.Lists.{head-same, tail-same}
+use Rattle.sessions.proofs.Running.{taken, session-run, takes-command, takes-answer, takes-heard, takes-decision}
+use Rattle.sessions.proofs.Reading.{awaits-run, beginning-run, other-kind}
+use Rattle.sessions.proofs.Trichotomy.{sorted}
+use Rattle.sessions.proofs.Breaks.{break-found, break-within}
+use Rattle.sessions.proofs.States.{state-lawful, state-next}
 use Rattle.rulebook.specs.Phase.{Asked, Phase, opens, asks, hears, decides}
 use Rattle.rulebook.specs.Turn.{turn, after}
-use Rattle.rulebook.specs.Session.{Plays, exchanged, heard, decided, Session, Beginning, AwaitsCard, Closed, Open, Lawful, BreaksAt}
-use Rattle.rulebook.specs.Machine.{Machine, at, owes, done, next, run}
-use Rattle.rulebook.proofs.Single.{head-same, tail-same}
-use Rattle.rulebook.proofs.Running.{taken, session-run, takes-command, takes-answer, takes-heard, takes-decision}
-use Rattle.rulebook.proofs.Reading.{awaits-run, beginning-run, other-kind}
-use Rattle.rulebook.specs.Stated.{Sort, finished, unfinished, neither}
-use Rattle.rulebook.proofs.Trichotomy.{sorted}
-use Rattle.rulebook.proofs.Ends.{finishes}
-use Rattle.rulebook.proofs.Breaks.{break-found, break-within}
-use Rattle.rulebook.proofs.States.{state-lawful, state-next}
+use Rattle.rulebook.specs.Session.{rules, Plays, exchanged, heard, decided, Session, Beginning, AwaitsCard, Closed, Open, Lawful, BreaksAt}
+use Rattle.rulebook.specs.Machine.{Machine, at, owes, done}
 use Rattle.rulebook_zeros.specs.Zeros.{unsuppliedIn, addedBy, sum, Summed, SummedClosed, SumOf, Zeros, lawful, broken}
 use Rattle.rulebook_zeros.specs.Summing.{newIn, countOn, zerosFrom, zerosOf}
+use Rattle.rulebook.proofs.Kept.{kept}
 
 -- ---- over a session's beginning
 
 -- an entry that the machine takes
-counted : (σ τ : Machine) (x e : Entry) (es : List Entry) → x ≡ e → next σ x ≡ some τ → zerosFrom (e ∷ es) σ ≡ newIn τ + zerosFrom es τ
+counted : (σ τ : Machine) (x e : Entry) (es : List Entry) → x ≡ e → next rules σ x ≡ some τ
+    → zerosFrom (e ∷ es) σ ≡ newIn τ + zerosFrom es τ
 unfolding zerosFrom countOn
-counted σ τ x e es same h = ap (countOn (zerosFrom es)) (ap (next σ) (sym same) ∙ h)
+counted σ τ x e es same h = ap (countOn (zerosFrom es)) (ap (next rules σ) (sym same) ∙ h)
 
 play-sum : {p : Phase} {fs : List Entry} (play : Plays p fs) (es rest : List Entry) → fs ≡ es ++ rest
     → sum (take (length es) (addedBy play)) ≡ zerosFrom es (at p)
@@ -40,27 +43,27 @@ unfolding zerosFrom addedBy sum newIn
 play-sum play [] rest h = refl
 play-sum (exchanged {w} {c} {a} {es = fs} f ok play) (e ∷ []) rest h =
     let first : entry command c ≡ e = head-same _ e _ rest h in
-    sym (counted (at (asks w)) (owes w) (entry command c) e [] first (ap (λ (x : List ℕ). next (at (asks w)) (entry command x)) f
-    ∙ takes-command w))
+    sym (counted (at (asks w)) (owes w) (entry command c) e [] first (ap (λ (x : List ℕ). next rules (at (asks w)) (entry command x)) f
+    ∙ takes-command rules w))
 play-sum (exchanged {w} {c} {a} {es = fs} f ok play) (e ∷ d ∷ es) rest h =
     let first : entry command c ≡ e = head-same _ e _ (d ∷ (es ++ rest)) h in
     let left : entry answer a ∷ fs ≡ d ∷ (es ++ rest) = tail-same _ e _ (d ∷ (es ++ rest)) h in
     let second : entry answer a ≡ d = head-same _ d _ (es ++ rest) left in
     let on = play-sum play es rest (tail-same _ d _ (es ++ rest) left) in
     let went = counted (at (asks w)) (owes w) (entry command c) e (d ∷ es) first
-    (ap (λ (x : List ℕ). next (at (asks w)) (entry command x)) f ∙ takes-command w) in
-    let came = counted (owes w) (at (turn w a)) (entry answer a) d es second (takes-answer w a ok) in
+    (ap (λ (x : List ℕ). next rules (at (asks w)) (entry command x)) f ∙ takes-command rules w) in
+    let came = counted (owes w) (at (turn w a)) (entry answer a) d es second (takes-answer rules w a ok) in
     ap (λ (n : ℕ). 0 + (unsuppliedIn (turn w a) + n)) on ∙ (ap (λ (n : ℕ). 0 + n) (sym came) ∙ sym went)
 play-sum (heard {h = x} {k} {p} {es = fs} f fits ok play) (e ∷ es) rest h =
     let first : entry k p ≡ e = head-same _ e _ (es ++ rest) h in
     let on = play-sum play es rest (tail-same _ e _ (es ++ rest) h) in
-    let came = counted (at (hears x)) (at (after x p)) (entry k p) e es first (ap (λ (n : ℕ). next (at (hears x)) (entry n p)) f
-    ∙ takes-heard x p fits ok) in
+    let came = counted (at (hears x)) (at (after x p)) (entry k p) e es first (ap (λ (n : ℕ). next rules (at (hears x)) (entry n p)) f
+    ∙ takes-heard rules x p fits ok) in
     ap (λ (n : ℕ). unsuppliedIn (after x p) + n) on ∙ sym came
 play-sum (decided {outcome} {reason} {s} {d} f) (e ∷ []) rest h =
     let first : entry decision d ≡ e = head-same _ e _ rest h in
-    let now : next (at (decides outcome reason s)) (entry decision d) ≡ some done
-    = ap (λ (x : List ℕ). next (at (decides outcome reason s)) (entry decision x)) f ∙ takes-decision outcome reason s in
+    let now : next rules (at (decides outcome reason s)) (entry decision d) ≡ some done
+    = ap (λ (x : List ℕ). next rules (at (decides outcome reason s)) (entry decision x)) f ∙ takes-decision rules outcome reason s in
     sym (counted (at (decides outcome reason s)) done (entry decision d) e [] first now)
 play-sum (decided {d = d} f) (e ∷ x ∷ es) rest h =
     let none-left : [] ≡ x ∷ (es ++ rest) = tail-same (entry decision d) e [] (x ∷ (es ++ rest)) h in
@@ -68,7 +71,7 @@ play-sum (decided {d = d} f) (e ∷ x ∷ es) rest h =
 
 -- every part of a session has its sum, and no other
 part-summed : (es rest : List Entry) → Session (es ++ rest) → Summed es (zerosOf es)
-unfolding Session Summed
+unfolding Under.Session Summed
 part-summed es rest play = (rest, (play, sym (play-sum play es rest refl)))
 
 summed-is : (es : List Entry) (n : ℕ) → Summed es n → n ≡ zerosOf es
@@ -77,26 +80,27 @@ summed-is es n s = s .1 .1 ∙ play-sum (s .1 .0) es (s .0) refl
 
 -- ---- where the machine stops
 
-pub zeros-stop : (es : List Entry) (e : Entry) (more : List Entry) (σ τ : Machine) → run es σ ≡ some τ → next τ e ≡ none
+pub zeros-stop : (es : List Entry) (e : Entry) (more : List Entry) (σ τ : Machine) → run rules es σ ≡ some τ → next rules τ e ≡ none
     → zerosFrom (es ++ (e ∷ more)) σ ≡ zerosFrom es σ
 unfolding zerosFrom countOn run
 zeros-stop [] e more σ τ h stops =
     let here : σ ≡ τ = cc h in
-    ap (countOn (zerosFrom more)) (ap (λ (x : Machine). next x e) here ∙ stops)
+    ap (countOn (zerosFrom more)) (ap (λ (x : Machine). next rules x e) here ∙ stops)
 zeros-stop (x ∷ es) e more σ τ h stops =
-    let t = taken (run es) (next σ x) τ h in
+    let t = taken (run rules es) (next rules σ x) τ h in
     let on = zeros-stop es e more (t .0) τ (t .1 .1) stops in
     ap (countOn (zerosFrom (es ++ (e ∷ more)))) (t .1 .0)
     ∙ (ap (λ (n : ℕ). newIn (t .0) + n) on ∙ sym (ap (countOn (zerosFrom es)) (t .1 .0)))
 
 -- and where it does not stop, the rest is counted from the state that it has reached
-pub zeros-on : (es more : List Entry) (σ τ : Machine) → run es σ ≡ some τ → zerosFrom (es ++ more) σ ≡ zerosFrom es σ + zerosFrom more τ
+pub zeros-on : (es more : List Entry) (σ τ : Machine) → run rules es σ ≡ some τ
+    → zerosFrom (es ++ more) σ ≡ zerosFrom es σ + zerosFrom more τ
 unfolding zerosFrom countOn run
 zeros-on [] more σ τ h =
     let here : σ ≡ τ = cc h in
     ap (zerosFrom more) here ∙ sym (zero-add (zerosFrom more τ))
 zeros-on (x ∷ es) more σ τ h =
-    let t = taken (run es) (next σ x) τ h in
+    let t = taken (run rules es) (next rules σ x) τ h in
     let on = zeros-on es more (t .0) τ (t .1 .1) in
     ap (countOn (zerosFrom (es ++ more))) (t .1 .0)
     ∙ (ap (λ (n : ℕ). newIn (t .0) + n) on
@@ -112,16 +116,16 @@ counted-grows f g (some τ) h = let more = h τ in omega arith
 zeros-grow : (es more : List Entry) (σ : Machine) → zerosFrom es σ ≤ zerosFrom (es ++ more) σ
 unfolding zerosFrom
 zeros-grow [] more σ = omega arith
-zeros-grow (e ∷ es) more σ = counted-grows (zerosFrom es) (zerosFrom (es ++ more)) (next σ e) (zeros-grow es more)
+zeros-grow (e ∷ es) more σ = counted-grows (zerosFrom es) (zerosFrom (es ++ more)) (next rules σ e) (zeros-grow es more)
 
-pub silence-stops : (w : Asked) → next (owes w) (entry silence []) ≡ none
+pub silence-stops : (w : Asked) → next rules (owes w) (entry silence []) ≡ none
 unfolding next
 silence-stops w = pick-no _ _ _ (other-kind answer silence _ [] refl)
 
 -- a closing silence adds nothing, nor does what follows it
 closed-zeros : (before more : List Entry) → AwaitsCard before → zerosOf (before ++ (entry silence [] ∷ more)) ≡ zerosOf before
 closed-zeros before more a =
-    let w = awaits-run before a in
+    let w = awaits-run kept before a in
     zeros-stop before (entry silence []) more (at opens) (owes (w .0)) (w .1) (silence-stops (w .0))
 
 -- ---- the fourth number of lawful entries
@@ -131,11 +135,11 @@ unfolding SumOf
 session-sum es play = inl (part-summed es [] (subst Session (sym (append-nil es)) play))
 
 beginning-sum : (es : List Entry) → Beginning es → SumOf es (zerosOf es)
-unfolding SumOf Beginning
+unfolding SumOf Under.Beginning
 beginning-sum es b = inl (part-summed es (b .0 ∷ b .1 .0) (b .1 .1))
 
 closed-sum : (es : List Entry) → Closed es → SumOf es (zerosOf es)
-unfolding SumOf SummedClosed Closed AwaitsCard
+unfolding SumOf SummedClosed Under.Closed Under.AwaitsCard
 closed-sum es c =
     let before = c .0 in
     let waits = c .1 .0 in
@@ -149,7 +153,7 @@ closed-sum es c =
     )
 
 lawful-sum : (es : List Entry) → Lawful es → SumOf es (zerosOf es)
-unfolding Lawful Open
+unfolding Under.Lawful Under.Open
 lawful-sum es l = ⊎-elim (session-sum es) (λ o. ⊎-elim (beginning-sum es) (closed-sum es) o) l
 
 sum-is : (es : List Entry) (n : ℕ) → SumOf es n → n ≡ zerosOf es
@@ -166,15 +170,15 @@ module _ (es : List Entry) (e : Entry) (more : List Entry) where
   longer = es ++ (e ∷ more)
 
   -- after entries that the machine reads, the one that breaks the rules is refused
-  read-zeros : (σ : Machine) → run es (at opens) ≡ some σ → (Lawful (es ++ (e ∷ [])) → ⊥) → zerosOf longer ≡ zerosOf es
-  read-zeros σ h never = by-next (next σ e) refl
+  read-zeros : (σ : Machine) → run rules es (at opens) ≡ some σ → (Lawful (es ++ (e ∷ [])) → ⊥) → zerosOf longer ≡ zerosOf es
+  read-zeros σ h never = by-next (next rules σ e) refl
     where
-      by-next : (o : Option Machine) → next σ e ≡ o → zerosOf longer ≡ zerosOf es
+      by-next : (o : Option Machine) → next rules σ e ≡ o → zerosOf longer ≡ zerosOf es
       by-next none n = zeros-stop es e more (at opens) σ h n
-      by-next (some τ) n = absurd (never (state-lawful (es ++ (e ∷ [])) τ (state-next es σ e h τ n)))
+      by-next (some τ) n = absurd (never (state-lawful kept (es ++ (e ∷ [])) τ (state-next kept es σ e h τ n)))
 
   pub after-closed : Closed es → zerosOf longer ≡ zerosOf es
-  unfolding Closed
+  unfolding Under.Closed
   after-closed c =
       let before = c .0 in
       let joined : longer ≡ before ++ (entry silence [] ∷ e ∷ more)
@@ -183,15 +187,15 @@ module _ (es : List Entry) (e : Entry) (more : List Entry) where
       ∙ (closed-zeros before (e ∷ more) (c .1 .0) ∙ sym (ap zerosOf (c .1 .1) ∙ closed-zeros before [] (c .1 .0)))
 
   broken-zeros : Lawful es → (Lawful (es ++ (e ∷ [])) → ⊥) → zerosOf longer ≡ zerosOf es
-  unfolding Lawful Open
+  unfolding Under.Lawful Under.Open
   broken-zeros l never =
-      ⊎-elim (λ s. read-zeros done (session-run es s) never)
-      (λ o. ⊎-elim (λ b. let r = beginning-run es b in read-zeros (r .0) (r .1 .0) never) after-closed o)
+      ⊎-elim (λ s. read-zeros done (session-run rules es s) never)
+      (λ o. ⊎-elim (λ b. let r = beginning-run rules es b in read-zeros (r .0) (r .1 .0) never) after-closed o)
       l
 
 pub break-zeros : (es : List Entry) (k : ℕ) → BreaksAt es k → zerosOf es ≡ zerosOf (take k es)
 break-zeros es k b =
-    let inside = break-within es k b in
+    let inside = break-within kept es k b in
     let part = take k es in
     let e = getD es k (entry 0 []) in
     let more = drop (suc k) es in
@@ -206,14 +210,14 @@ broken-found : (es : List Entry) (k : ℕ) → BreaksAt es k → Zeros es (zeros
 broken-found es k b =
     broken k b (subst (SumOf (take k es)) (sym (break-zeros es k b)) (lawful-sum (take k es) (b .before k (omega arith))))
 
-by-sort : (es : List Entry) → Sort es → Zeros es (zerosOf es)
-unfolding Lawful
+by-sort : (es : List Entry) → Sort rules es → Zeros es (zerosOf es)
+unfolding Under.Lawful
 by-sort es (finished s) = lawful (lawful-sum es (inl s))
 by-sort es (unfinished o) = lawful (lawful-sum es (inr o))
-by-sort es (neither s o) = let b = break-found es (λ l. ⊎-elim s o l) in broken-found es (b .0) (b .1)
+by-sort es (neither s o) = let b = break-found kept es (λ l. ⊎-elim s o l) in broken-found es (b .0) (b .1)
 
 pub zeros-found : (es : List Entry) → Zeros es (zerosOf es)
-zeros-found es = by-sort es (sorted finishes es)
+zeros-found es = by-sort es (sorted kept es)
 
 pub zeros-is : (es : List Entry) (n : ℕ) → Zeros es n → n ≡ zerosOf es
 zeros-is es n (lawful s) = sum-is es n s

@@ -6,9 +6,11 @@ use mathlib.Core.List.{List, [], _∷_}
 use mathlib.Core.Option.{Option, none, some}
 use Prim.Native.Nat.{ℕ, _+_}
 use Rattle.tape_read.specs.Entries.{Entry}
+use Rattle.sessions.specs.Machine.{next}
 use Rattle.rulebook.specs.Phase.{opens}
-use Rattle.rulebook.specs.Machine.{Machine, at, owes, done, next}
+use Rattle.rulebook.specs.Machine.{Machine, at, owes, done}
 use Rattle.rulebook_zeros.specs.Zeros.{unsuppliedIn}
+use Rattle.rulebook.specs.Session.{rules}
 
 -- what the entry that led to a state added
 unfoldable pub newIn : Machine → ℕ
@@ -22,7 +24,7 @@ countOn f (some σ) = newIn σ + f σ
 
 unfoldable pub zerosFrom : List Entry → Machine → ℕ
 zerosFrom [] σ = 0
-zerosFrom (e ∷ es) σ = countOn (zerosFrom es) (next σ e)
+zerosFrom (e ∷ es) σ = countOn (zerosFrom es) (next rules σ e)
 
 abbrev pub zerosOf : List Entry → ℕ
 zerosOf es = zerosFrom es (at opens)

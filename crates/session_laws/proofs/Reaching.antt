@@ -6,12 +6,14 @@ use mathlib.Core.List.{List, [], _∷_, _++_, append-nil, append-assoc}
 use mathlib.Core.Option.{some}
 use Prim.Native.Nat.{ℕ}
 use Rattle.tape_read.specs.Entries.{Entry, entry, command}
+use Rattle.sessions.specs.Machine.{run}
+use Rattle.sessions.proofs.Running.{takes-command, run-session}
+use Rattle.sessions.proofs.States.{state-next}
+use Rattle.sessions.proofs.Leading.{at-leads, owes-leads, decided-leads}
 use Rattle.rulebook.specs.Phase.{Asked, Heard, Phase, opens, asks, hears, decides, commandOf, tvrOf, tsiOf}
-use Rattle.rulebook.specs.Session.{Session, LeadsTo}
-use Rattle.rulebook.specs.Machine.{Machine, at, owes, run}
-use Rattle.rulebook.proofs.Running.{takes-command, run-session}
-use Rattle.rulebook.proofs.States.{state-next}
-use Rattle.rulebook.proofs.Leading.{at-leads, owes-leads, decided-leads}
+use Rattle.rulebook.specs.Session.{rules, Session, LeadsTo}
+use Rattle.rulebook.specs.Machine.{Machine, at, owes}
+use Rattle.rulebook.proofs.Kept.{kept}
 use Rattle.session_phase.specs.declared.Question.{Question}
 use Rattle.session_phase.specs.declared.Speaker.{Speaker}
 use Rattle.session_phase.specs.declared.Waiting.the-variants.{ForCard, ForWord, Decided, Closed}
@@ -27,18 +29,18 @@ use Rattle.session_laws.proofs.Telling.{asked-at, heard-at, decided-at,
 
 pub reached-fresh : Reached fresh []
 unfolding run landing
-reached-fresh = record { phase = opens; read = refl; leads = at-leads [] opens refl; stands = fresh-stands }
+reached-fresh = record { phase = opens; read = refl; leads = at-leads kept [] opens refl; stands = fresh-stands }
 
 -- with the command or the decision that is due there, entries lead to the phase still
-logged-leads : (es : List Entry) (p : Phase) → run es (at opens) ≡ some (at p) → LeadsTo (es ++ logged p) p
+logged-leads : (es : List Entry) (p : Phase) → run rules es (at opens) ≡ some (at p) → LeadsTo (es ++ logged p) p
 unfolding logged
 logged-leads es (asks w) h =
-    owes-leads (es ++ (entry command (commandOf w) ∷ [])) w (state-next es (at (asks w)) _ h (owes w) (takes-command w))
-logged-leads es (hears x) h = subst (λ (l : List Entry). LeadsTo l (hears x)) (sym (append-nil es)) (at-leads es (hears x) h)
-logged-leads es (decides outcome reason z) h = decided-leads es outcome reason z h
+    owes-leads kept (es ++ (entry command (commandOf w) ∷ [])) w (state-next kept es (at (asks w)) _ h (owes w) (takes-command rules w))
+logged-leads es (hears x) h = subst (λ (l : List Entry). LeadsTo l (hears x)) (sym (append-nil es)) (at-leads kept es (hears x) h)
+logged-leads es (decides outcome reason z) h = decided-leads rules es outcome reason z h
 
 -- one event on
-pub reached-on : (es : List Entry) (σ : Machine) (e : Entry) (p : Phase) (buf : List ℕ) (m : Moved) → run es (at opens) ≡ some σ
+pub reached-on : (es : List Entry) (σ : Machine) (e : Entry) (p : Phase) (buf : List ℕ) (m : Moved) → run rules es (at opens) ≡ some σ
     → Follows σ e p buf m
     → Reached (m .state) (es ++ (e ∷ logged p))
 reached-on es σ e p buf m h f =
@@ -47,21 +49,21 @@ reached-on es σ e p buf m h f =
       read = run-on es σ e p h (f .taken);
       leads =
           subst (λ (l : List Entry). LeadsTo l p) (append-assoc es (e ∷ []) (logged p))
-          (logged-leads (es ++ (e ∷ [])) p (state-next es σ e h (at p) (f .taken)));
+          (logged-leads (es ++ (e ∷ [])) p (state-next kept es σ e h (at p) (f .taken)));
       stands = f .stands;
     }
 
 -- what the state says of the entries
 module _ (s : State) (es : List Entry) (reached : Reached s es) where
   -- where the machine stands, once the phase is known
-  landed : (p : Phase) → reached .phase ≡ p → run es (at opens) ≡ some (landing p)
+  landed : (p : Phase) → reached .phase ≡ p → run rules es (at opens) ≡ some (landing p)
   landed p e = reached .read ∙ ap (λ (q : Phase). some (landing q)) e
 
   stood : (p : Phase) → reached .phase ≡ p → StandsAt s p
   stood p e = subst (StandsAt s) e (reached .stands)
 
   pub reached-asked : (question : Question) → s .waiting ≡ ForCard question
-      → (w : Asked) × ((run es (at opens) ≡ some (owes w)) × StandsAt s (asks w))
+      → (w : Asked) × ((run rules es (at opens) ≡ some (owes w)) × StandsAt s (asks w))
   unfolding landing
   reached-asked question e =
       let there = asked-at s (reached .phase) question (reached .stands) e in
@@ -69,7 +71,7 @@ module _ (s : State) (es : List Entry) (reached : Reached s es) where
       (w, (landed (asks w) (there .1), stood (asks w) (there .1)))
 
   pub reached-word : (speaker : Speaker) → s .waiting ≡ ForWord speaker
-      → (h : Heard) × ((speakerOf h ≡ speaker) × ((run es (at opens) ≡ some (at (hears h))) × StandsAt s (hears h)))
+      → (h : Heard) × ((speakerOf h ≡ speaker) × ((run rules es (at opens) ≡ some (at (hears h))) × StandsAt s (hears h)))
   unfolding landing
   reached-word speaker e =
       let there = heard-at s (reached .phase) speaker (reached .stands) e in
@@ -81,7 +83,7 @@ module _ (s : State) (es : List Entry) (reached : Reached s es) where
   unfolding landing
   reached-decided outcome reason e =
       let there = decided-at s (reached .phase) outcome reason (reached .stands) e in
-      run-session es (landed (decides outcome reason (there .0)) (there .1))
+      run-session rules es (landed (decides outcome reason (there .0)) (there .1))
 
   pub reached-open : s .waiting ≡ Closed → ⊥
   reached-open e = closed-never s (reached .phase) (reached .stands) e

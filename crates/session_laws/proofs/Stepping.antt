@@ -7,12 +7,14 @@ use mathlib.Core.List.{List, [], _∷_, _++_}
 use mathlib.Core.Option.{some}
 use Prim.Native.Nat.{ℕ}
 use Rattle.tape_read.specs.Entries.{Entry, entry, answer}
+use Rattle.sessions.specs.Session.{isPayload}
+use Rattle.sessions.specs.Machine.{next, run, andOn}
+use Rattle.sessions.proofs.Running.{takes-command, takes-answer, takes-heard, takes-decision}
+use Rattle.sessions.proofs.Reading.{run-append}
 use Rattle.rulebook.specs.Phase.{Asked, Heard, Phase, opens, asks, hears, decides, dueKind, tvrOf, tsiOf}
 use Rattle.rulebook.specs.Turn.{turn, allowed, after}
-use Rattle.rulebook.specs.Session.{isPayload}
-use Rattle.rulebook.specs.Machine.{Machine, at, owes, next, run, andOn}
-use Rattle.rulebook.proofs.Running.{takes-command, takes-answer, takes-heard, takes-decision}
-use Rattle.rulebook.proofs.Reading.{run-append}
+use Rattle.rulebook.specs.Machine.{Machine, at, owes}
+use Rattle.rulebook.specs.Session.{rules}
 use Rattle.session_phase.specs.Waiting.{isDecided}
 use Rattle.session_phase.specs.declared.Waiting.{Waiting}
 use Rattle.session_state.specs.Reading.{askedBy, heardBy}
@@ -34,22 +36,22 @@ lands-at s (hears h) at-word = at-word
 lands-at s (decides outcome reason z) h = ap isDecided (h .waits)
 
 -- the machine reads the phase's own entry
-pub run-logged : (p : Phase) → run (logged p) (at p) ≡ some (landing p)
+pub run-logged : (p : Phase) → run rules (logged p) (at p) ≡ some (landing p)
 unfolding run andOn logged landing
-run-logged (asks w) = ap (andOn (run [])) (takes-command w)
+run-logged (asks w) = ap (andOn (run rules [])) (takes-command rules w)
 run-logged (hears h) = refl
-run-logged (decides outcome reason z) = ap (andOn (run [])) (takes-decision outcome reason z)
+run-logged (decides outcome reason z) = ap (andOn (run rules [])) (takes-decision rules outcome reason z)
 
 -- after an event and what it brings about, wherever the machine stood
-pub run-on : (es : List Entry) (σ : Machine) (e : Entry) (p : Phase) → run es (at opens) ≡ some σ → next σ e ≡ some (at p)
-    → run (es ++ (e ∷ logged p)) (at opens) ≡ some (landing p)
+pub run-on : (es : List Entry) (σ : Machine) (e : Entry) (p : Phase) → run rules es (at opens) ≡ some σ → next rules σ e ≡ some (at p)
+    → run rules (es ++ (e ∷ logged p)) (at opens) ≡ some (landing p)
 unfolding run andOn
 run-on es σ e p h n =
-    run-append es (e ∷ logged p) (at opens)
-    ∙ (ap (andOn (run (e ∷ logged p))) h ∙ (ap (andOn (run (logged p))) n ∙ run-logged p))
+    run-append rules es (e ∷ logged p) (at opens)
+    ∙ (ap (andOn (run rules (e ∷ logged p))) h ∙ (ap (andOn (run rules (logged p))) n ∙ run-logged p))
 
 -- a step of the definition
-follows-as : (σ : Machine) (e : Entry) (p : Phase) (s : State) (buf : List ℕ) (m : Moved) → m ≡ moved p s buf → next σ e ≡ some (at p)
+follows-as : (σ : Machine) (e : Entry) (p : Phase) (s : State) (buf : List ℕ) (m : Moved) → m ≡ moved p s buf → next rules σ e ≡ some (at p)
     → Fits p s
     → Follows σ e p buf m
 unfolding moved
@@ -81,7 +83,8 @@ module _ (s : State) (w : Asked) (a buf : List ℕ) (stands : StandsAt s (asks w
 
   pub answer-step : isPayload a ≡ true → Follows (owes w) (entry answer a) (turn w a) buf (step s a buf)
   answer-step ok =
-      follows-as (owes w) (entry answer a) (turn w a) (keeping w a s) buf (step s a buf) answered-moved (takes-answer w a ok) answer-fits
+      follows-as (owes w) (entry answer a) (turn w a) (keeping w a s) buf (step s a buf) answered-moved
+      (takes-answer rules w a ok) answer-fits
 
 -- ---- somebody else's word
 module _ (s : State) (h : Heard) (p buf : List ℕ) (stands : StandsAt s (hears h)) where
@@ -98,6 +101,6 @@ module _ (s : State) (h : Heard) (p buf : List ℕ) (stands : StandsAt s (hears 
   pub word-step : allowed h p ≡ true → isPayload p ≡ true → Follows (at (hears h)) (entry (dueKind h) p) (after h p) buf (step s p buf)
   word-step fits ok =
       follows-as (at (hears h)) (entry (dueKind h) p) (after h p) (keepingWord (speakerOf h) p s) buf (step s p buf) heard-moved
-      (takes-heard h p fits ok)
+      (takes-heard rules h p fits ok)
       (subst (λ (x : Heard). Fits (after x p) (keepingWord (speakerOf h) p s)) speaker-known
       (word-fits (speakerOf h) s p (ap (λ (x : Heard). allowed x p) speaker-known ∙ fits)))

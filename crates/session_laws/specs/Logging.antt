@@ -6,9 +6,10 @@ use mathlib.Core.Option.{some}
 use Prim.Native.Nat.{ℕ}
 use lib.ListN.{length}
 use Rattle.tape_read.specs.Entries.{Entry, entry, command, decision}
+use Rattle.sessions.specs.Machine.{next, run}
 use Rattle.rulebook.specs.Phase.{Phase, opens, asks, hears, decides, commandOf, decisionOf}
-use Rattle.rulebook.specs.Session.{LeadsTo}
-use Rattle.rulebook.specs.Machine.{Machine, at, owes, done, next, run}
+use Rattle.rulebook.specs.Session.{rules, LeadsTo}
+use Rattle.rulebook.specs.Machine.{Machine, at, owes, done}
 use Rattle.rulebook_zeros.specs.Zeros.{unsuppliedIn}
 use Rattle.session_state.specs.declared.State.{State}
 use Rattle.session_moves.specs.Moves.{Moved, replyIn, bufferIn}
@@ -28,7 +29,7 @@ landing (decides outcome reason z) = done
 -- an event takes the machine to a phase; the state left behind stands there, and the reply, the buffer and what is added to the
 -- entries filled with zeros are the phase's
 pub record Follows (σ : Machine) (event : Entry) (p : Phase) (buf : List ℕ) (m : Moved) : Type 0 where
-  pub taken : next σ event ≡ some (at p)
+  pub taken : next rules σ event ≡ some (at p)
   pub stands : StandsAt (m .state) p
   pub reply : m .reply ≡ replyIn (length buf) p
   pub buffer : m .buffer ≡ bufferIn p buf
@@ -37,6 +38,6 @@ pub record Follows (σ : Machine) (event : Entry) (p : Phase) (buf : List ℕ) (
 -- a tape's entries lead to a phase, its own entry among them, and the state stands there
 pub record Reached (s : State) (es : List Entry) : Type 0 where
   pub phase : Phase
-  pub read : run es (at opens) ≡ some (landing phase)
+  pub read : run rules es (at opens) ≡ some (landing phase)
   pub leads : LeadsTo es phase
   pub stands : StandsAt s phase

@@ -8,11 +8,12 @@ use mathlib.Core.Logic.{⊎-elim}
 use native.Mathlib.Omega.{arith}
 use lib.ListN.{length}
 use Rattle.tape_read.specs.Entries.{Entry, entry, silence, results, isKind}
+use Rattle.sessions.proofs.Lists.{snoc-same}
+use Rattle.sessions.proofs.Breaks.{break-here}
 use Rattle.rulebook.specs.Phase.{Phase}
 use Rattle.rulebook.specs.Session.{Lawful, BreaksAt}
-use Rattle.rulebook.proofs.Trichotomy.{snoc-same}
-use Rattle.rulebook.proofs.Breaks.{break-here}
 use Rattle.rulebook.proofs.Verifying.{Without}
+use Rattle.rulebook.proofs.Kept.{kept}
 use Rattle.verdict_before.specs.Sessions.{PlaysBefore, exchangedBefore, startedBefore, repliedBefore, decidedBefore, SessionBefore}
 use Rattle.verdict_before.specs.Sessions.{BeginningBefore, ClosedBefore, OpenBefore, LawfulBefore, Short}
 use Rattle.verdict_before.proofs.Sessions.{lawful-same}
@@ -64,4 +65,4 @@ module _ (es : List Entry) (e : Entry) (new : e .kind ≡ results) where
   -- where nothing is broken before it, the rules are broken by it
   pub new-kind-breaks : (more : List Entry) → Short (es ++ (e ∷ more)) → Lawful es → BreaksAt (es ++ (e ∷ more)) (length es)
   new-kind-breaks more short l =
-      break-here es e more l (λ k. never-lawful (lawful-same (es ++ (e ∷ [])) (short-up-to es more short) .0 k))
+      break-here kept es e more l (λ k. never-lawful (lawful-same (es ++ (e ∷ [])) (short-up-to es more short) .0 k))

@@ -21,11 +21,12 @@ use Rattle.decide_requests.specs.Replies.{replyOf}
 use Rattle.words.specs.Words.{wordKind, wordAllowed}
 use Rattle.words.specs.declared.Word.{Word}
 use Rattle.words.specs.declared.Word.the-variants.{Host}
+use Rattle.sessions.specs.Session.{isPayload}
 use Rattle.rulebook.specs.Situation.{Situation, begun}
 use Rattle.rulebook.specs.Phase.{Asked, terminal, says, Phase, opens, asks, hears, decides, situationOf, dueKind}
 use Rattle.rulebook.specs.Turn.{opened, managed, withProfile, withRecord, answered, turn, wantedIn, allowed, replyMade}
 use Rattle.rulebook.specs.Turn.{heard as issuerHeard, verifiedBy, after}
-use Rattle.rulebook.specs.Session.{isPayload, Plays, exchanged, heard, decided}
+use Rattle.rulebook.specs.Session.{Plays, exchanged, heard, decided}
 use Rattle.rulebook.proofs.Passing.{leaving, left, Holds, Lasting, turn-holds, after-holds}
 use Rattle.rulebook.proofs.Passing.{Awaited, Awaiting, turn-awaiting, after-awaiting}
 use Rattle.rulebook_zeros.specs.Zeros.{unsuppliedIn, addedBy}

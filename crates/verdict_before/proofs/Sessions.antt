@@ -18,10 +18,13 @@ use Rattle.start_fields.specs.Layout.{isLength}
 use Rattle.start_valid.specs.Start.{validKind, validDigits, validRandom}
 use Rattle.start_valid.specs.Start.{validPercentages, validThreshold, validAid, validStart}
 use Rattle.tape_read.specs.Entries.{Entry, entry, start, answer}
+use Rattle.sessions.specs.Session.{isPayload}
+use Rattle.sessions.specs.Session as Under
+use Rattle.sessions.proofs.Ends.{finishes}
 use Rattle.rulebook.specs.Phase.{terminal, opens, dueKind}
 use Rattle.rulebook.specs.Turn.{allowed, after}
-use Rattle.rulebook.specs.Session.{isPayload, Plays, heard, Session, Beginning, AwaitsCard, Closed, Open, Lawful, BreaksAt}
-use Rattle.rulebook.proofs.Ends.{finishes}
+use Rattle.rulebook.specs.Session.{Plays, heard, Session, Beginning, AwaitsCard, Closed, Open, Lawful, BreaksAt}
+use Rattle.rulebook.proofs.Kept.{kept}
 use Rattle.verdict_before.specs.Sessions.{SessionBefore, BeginningBefore, AwaitsCardBefore}
 use Rattle.verdict_before.specs.Sessions.{ClosedBefore, OpenBefore, LawfulBefore, BreaksAtBefore, Short}
 use Rattle.verdict_before.proofs.Playing.{session-then, session-now}
@@ -52,7 +55,7 @@ short-part (suc n) (e ∷ es) h = h
 
 -- finished
 pub session-same : (es : List Entry) → Short es → Same (Session es) (SessionBefore es)
-unfolding Session SessionBefore
+unfolding Under.Session SessionBefore
 session-same es short = (λ play. session-then play short .0, λ play. session-now play .0)
 
 -- some session has a START of 74 bytes, by today's rules
@@ -66,11 +69,11 @@ unfolding isPayload
 sample-payload = refl
 
 abbrev pub played : List Entry
-played = finishes (after terminal sample) .0
+played = finishes kept (after terminal sample) .0
 
 pub sample-session : Session (entry start sample ∷ played)
-unfolding Session allowed dueKind
-sample-session = heard refl sample-valid sample-payload (finishes (after terminal sample) .1)
+unfolding Under.Session allowed dueKind
+sample-session = heard refl sample-valid sample-payload (finishes kept (after terminal sample) .1)
 
 pub sample-before : SessionBefore (entry start sample ∷ played)
 unfolding Short
@@ -78,7 +81,7 @@ sample-before = session-same (entry start sample ∷ played) (omega arith) .0 sa
 
 -- unfinished
 pub beginning-same : (es : List Entry) → Short es → Same (Beginning es) (BeginningBefore es)
-unfolding Beginning BeginningBefore
+unfolding Under.Beginning BeginningBefore
 beginning-same [] short =
     (λ b. (entry start sample, (played, sample-before)), λ b. (entry start sample, (played, sample-session)))
 beginning-same (x ∷ es) short = (
@@ -92,7 +95,7 @@ unfolding dueKind
 no-answer a es (heard f fits ok play) = omega (arith, f)
 
 pub awaits-same : (es : List Entry) → Short es → Same (AwaitsCard es) (AwaitsCardBefore es)
-unfolding AwaitsCard AwaitsCardBefore Session SessionBefore
+unfolding Under.AwaitsCard AwaitsCardBefore Under.Session SessionBefore
 awaits-same [] short = (λ a. absurd (no-answer (a .0) (a .1 .0) (a .1 .1)), λ a. (a .0, (a .1 .0, session-now (a .1 .1) .0)))
 awaits-same (x ∷ es) short = (
   λ a. (a .0, (a .1 .0, session-same _ (short-longer x es (entry answer (a .0) ∷ a .1 .0) short) .0 (a .1 .1))),
@@ -100,18 +103,18 @@ awaits-same (x ∷ es) short = (
 )
 
 pub closed-same : (es : List Entry) → Short es → Same (Closed es) (ClosedBefore es)
-unfolding Closed ClosedBefore
+unfolding Under.Closed ClosedBefore
 closed-same es short = (
   λ c. (c .0, (awaits-same (c .0) (short-front (c .0) _ (subst Short (c .1 .1) short)) .0 (c .1 .0), c .1 .1)),
   λ c. (c .0, (awaits-same (c .0) (short-front (c .0) _ (subst Short (c .1 .1) short)) .1 (c .1 .0), c .1 .1)),
 )
 
 pub open-same : (es : List Entry) → Short es → Same (Open es) (OpenBefore es)
-unfolding Open OpenBefore
+unfolding Under.Open OpenBefore
 open-same es short = either-same (beginning-same es short) (closed-same es short)
 
 pub lawful-same : (es : List Entry) → Short es → Same (Lawful es) (LawfulBefore es)
-unfolding Lawful LawfulBefore
+unfolding Under.Lawful LawfulBefore
 lawful-same es short = either-same (session-same es short) (open-same es short)
 
 -- ---- where the rules are broken

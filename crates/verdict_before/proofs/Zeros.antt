@@ -6,6 +6,7 @@ use Prim.Native.Nat.{ℕ}
 use lib.ListN.{length, take}
 use Rattle.tape_read.specs.Entries.{Entry, entry, start}
 use Rattle.start_fields.proofs.Sample.{sample}
+use Rattle.sessions.specs.Session as Under
 use Rattle.rulebook.specs.Session.{Session}
 use Rattle.rulebook_zeros.specs.Zeros.{sum, Summed, SummedClosed, SumOf, Zeros, lawful, broken}
 use Rattle.verdict_before.specs.Sessions.{SessionBefore, Short}
@@ -17,7 +18,7 @@ use Rattle.verdict_before.proofs.Sessions.{played, sample-session, samp
 
 -- the sum over a beginning
 summed-same : (es : List Entry) (n : ℕ) → Short es → Same (Summed es n) (SummedBefore es n)
-unfolding Summed SummedBefore Session SessionBefore
+unfolding Summed SummedBefore Under.Session SessionBefore
 summed-same [] n short = (
   λ s. (entry start sample ∷ played, (sample-before, s .1 .1)),
   λ s. (entry start sample ∷ played, (sample-session, s .1 .1)),

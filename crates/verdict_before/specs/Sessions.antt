@@ -12,10 +12,10 @@ use Rattle.start_fields.specs.Layout.{startLength}
 use Rattle.start_fields.specs.Reading.{readingOf}
 use Rattle.decide_requests.specs.Replies.{replyOf, isReply}
 use Rattle.words.specs.declared.Word.the-variants.{Host}
+use Rattle.sessions.specs.Session.{isPayload}
 use Rattle.rulebook.specs.Situation.{Situation}
 use Rattle.rulebook.specs.Phase.{Asked, terminal, says, Phase, opens, asks, hears, decides, decisionOf}
 use Rattle.rulebook.specs.Turn.{opened, replyMade, heard}
-use Rattle.rulebook.specs.Session.{isPayload}
 use Rattle.verdict_before.specs.Before.{turnBefore, validBefore}
 use Rattle.verdict_before.specs.Filled.{commandBefore}
 

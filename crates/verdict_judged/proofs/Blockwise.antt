@@ -13,7 +13,7 @@ use Rattle.slices.proofs.Choice.{picked, and-both}
 use Rattle.tape_crc.proofs.Bytes.{bytes-take, bytes-drop}
 use Rattle.tape_read.specs.Entries.{payloadMost}
 use Rattle.tape_read.specs.Blocks.{lengthIn, payloadAt, lengthBad, payloadIn}
-use Rattle.rulebook.specs.Session.{isPayload}
+use Rattle.sessions.specs.Session.{isPayload}
 
 -- the payload of a block is one that a session may have, so that only its kind and its bytes are left to look at
 pub block-payload : (b : List ℕ) → areBytes b ≡ true → isPayload (payloadIn b) ≡ true

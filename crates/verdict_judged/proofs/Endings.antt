@@ -9,9 +9,11 @@ use native.Mathlib.Omega.{arith}
 use lib.ListN.{length}
 use Rattle.tape_read.specs.Entries.{Entry, command, silence, decision}
 use Rattle.tape_read.specs.Tapes.{entries, readTape}
-use Rattle.rulebook.specs.Session.{Session, Closed, Open, Lawful}
-use Rattle.rulebook.proofs.Breaks.{after-session, after-closed, break-here}
-use Rattle.rulebook.proofs.LastEntry.{last-is-decision}
+use Rattle.sessions.specs.Session as Under
+use Rattle.sessions.proofs.Breaks.{after-session, after-closed, break-here}
+use Rattle.sessions.proofs.LastEntry.{last-is-decision}
+use Rattle.rulebook.specs.Session.{rules, Session, Closed, Open, Lawful}
+use Rattle.rulebook.proofs.Kept.{kept}
 use Rattle.verdict.specs.Saying.{says}
 use Rattle.verdict_judged.specs.Judged.{Judges, passes, undecided, fails, Judged, readable, damaged}
 use Rattle.verdict.specs.declared.Verdict.the-variants.{Pass, Fail}
@@ -22,17 +24,17 @@ use Rattle.verdict.specs.declared.Answer.{Answer}
 module _ (es : List Entry) (e : Entry) (more : List Entry) where
   -- whatever follows a lawful list that nothing may follow
   pub one-too-many : Lawful es → (Lawful (es ++ (e ∷ [])) → ⊥) → Judges (es ++ (e ∷ more)) (says Fail (length es) 0)
-  one-too-many l never = fails (length es) (break-here es e more l never) refl
+  one-too-many l never = fails (length es) (break-here kept es e more l never) refl
 
   -- after a DECISION
   pub after-decision : Session es → Judges (es ++ (e ∷ more)) (says Fail (length es) 0)
-  unfolding Lawful
-  after-decision s = one-too-many (inl s) (after-session es e [] s)
+  unfolding Under.Lawful
+  after-decision s = one-too-many (inl s) (after-session kept es e [] s)
 
   -- after a closing silence, another silence too
   pub after-silence : Closed es → Judges (es ++ (e ∷ more)) (says Fail (length es) 0)
-  unfolding Lawful Open
-  after-silence c = one-too-many (inr (inr c)) (after-closed es e [] c)
+  unfolding Under.Lawful Under.Open
+  after-silence c = one-too-many (inr (inr c)) (after-closed kept es e [] c)
 
 -- ---- the last entry
 
@@ -41,7 +43,7 @@ module _ (t : List ℕ) (es : List Entry) (e : Entry) (r : readTape t ≡ entrie
   pub no-pass : (a : Answer) → (e .kind ≡ decision → ⊥) → Judged t a → a .verdict ≡ Pass → ⊥
   no-pass a other (readable fs q (passes s v)) p =
       let same : fs ≡ es ++ (e ∷ []) = cc in
-      other (last-is-decision es e (subst Session same s))
+      other (last-is-decision rules es e (subst Session same s))
   no-pass a other (readable fs q (undecided o v)) p = let z : _≡_ {A = ℕ} 0 1 = cc in omega arith
   no-pass a other (readable fs q (fails k b v)) p = let z : _≡_ {A = ℕ} 0 1 = cc in omega arith
   no-pass a other (damaged place code q v) p = let z : _≡_ {A = ℕ} 0 1 = cc in omega arith

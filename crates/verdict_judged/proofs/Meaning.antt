@@ -13,14 +13,16 @@ use borrow.Author.Tests.{eqb-true}
 use Rattle.slices.proofs.Choice.{picked, and-left, and-right}
 use Rattle.tape_read.specs.Entries.{Entry, entry, silence}
 use Rattle.tape_read.specs.Tapes.{Reading, entries, unreadable, readTape}
+use Rattle.sessions.specs.Session as Under
+use Rattle.sessions.specs.Machine.{next, run}
+use Rattle.sessions.proofs.Running.{run-session}
+use Rattle.sessions.proofs.Sorting.{run-beginning}
+use Rattle.sessions.proofs.Breaks.{after-closed, break-here, break-stays}
+use Rattle.sessions.proofs.States.{state-lawful, silence-closes, state-next, refused-breaks}
 use Rattle.rulebook.specs.Phase.{Asked, opens}
-use Rattle.rulebook.specs.Session.{Closed, Open, Lawful, BreaksAt}
-use Rattle.rulebook.specs.Machine.{Machine, at, owes, done, next, run}
-use Rattle.rulebook.proofs.Running.{run-session}
-use Rattle.rulebook.proofs.Sorting.{run-beginning}
-use Rattle.rulebook.proofs.Ends.{finishes}
-use Rattle.rulebook.proofs.Breaks.{after-closed, break-here, break-stays}
-use Rattle.rulebook.proofs.States.{state-lawful, silence-closes, state-next, refused-breaks}
+use Rattle.rulebook.specs.Session.{rules, Closed, Open, Lawful, BreaksAt}
+use Rattle.rulebook.specs.Machine.{Machine, at, owes, done}
+use Rattle.rulebook.proofs.Kept.{kept}
 use Rattle.verdict.specs.Saying.{says}
 use Rattle.verdict_judged.specs.Judged.{Judges, passes, undecided, fails, Judged, readable, damaged}
 use Rattle.verdict.specs.declared.Verdict.the-variants.{Pass, Inconclusive}
@@ -31,7 +33,7 @@ use Rattle.verdict_judged.specs.Progress.{reads, readsAll, progressOf, c
 
 -- what is known of the entries that were read
 unfoldable pub Means : Progress → List Entry → Type 0
-Means (reached σ n) es = (run es (at opens) ≡ some σ) × (n ≡ length es)
+Means (reached σ n) es = (run rules es (at opens) ≡ some σ) × (n ≡ length es)
 Means (closed n) es = Closed es × (n ≡ length es)
 Means (broken k) es = BreaksAt es k
 
@@ -63,35 +65,37 @@ module _ (es : List Entry) (e : Entry) where
   one-more : (n : ℕ) → n ≡ length es → n + 1 ≡ length longer
   one-more n h = sym (length-append es (e ∷ []) ∙ ap (λ (k : ℕ). k + 1) (sym h))
 
-  module _ (σ : Machine) (n : ℕ) (read : run es (at opens) ≡ some σ) (count : n ≡ length es) where
+  module _ (σ : Machine) (n : ℕ) (read : run rules es (at opens) ≡ some σ) (count : n ≡ length es) where
     closed-here : closes σ e ≡ true → Means (closed (n + 1)) longer
     unfolding Means
     closed-here y =
         let c = closes-is σ e y in
-        let owed : run es (at opens) ≡ some (owes (c .0)) = read ∙ ap some (c .1 .0) in
-        (subst (λ (x : Entry). Closed (es ++ (x ∷ []))) (sym (c .1 .1)) (silence-closes es (c .0) owed), one-more n count)
+        let owed : run rules es (at opens) ≡ some (owes (c .0)) = read ∙ ap some (c .1 .0) in
+        (subst (λ (x : Entry). Closed (es ++ (x ∷ []))) (sym (c .1 .1)) (silence-closes kept es (c .0) owed), one-more n count)
 
-    broken-here : next σ e ≡ none → closes σ e ≡ false → Means (broken n) longer
+    broken-here : next rules σ e ≡ none → closes σ e ≡ false → Means (broken n) longer
     unfolding Means
     broken-here h no-close =
         subst (BreaksAt longer) (sym count)
-        (break-here es e [] (state-lawful es σ read)
-        (refused-breaks es σ e read h
+        (break-here kept es e [] (state-lawful kept es σ read)
+        (refused-breaks kept es σ e read h
         (λ w there silent.
         let z : _≡_ {A = Bool} true false = sym (closes-silence w) ∙ (sym (ap₂ closes there silent) ∙ no-close) in
         let zero-one : _≡_ {A = ℕ} 0 1 = cc in
         omega arith)))
 
-    by-next : (o : Option Machine) → next σ e ≡ o → Means (onward σ n e o) longer
+    by-next : (o : Option Machine) → next rules σ e ≡ o → Means (onward σ n e o) longer
     unfolding onward Means
-    by-next (some τ) h = (state-next es σ e read τ h, one-more n count)
+    by-next (some τ) h = (state-next kept es σ e read τ h, one-more n count)
     by-next none h = picked (λ m. Means m longer) (closes σ e) _ _ closed-here (broken-here h)
 
   pub means-next : (m : Progress) → Means m es → Means (reads m e) longer
-  unfolding reads Means Lawful Open
-  means-next (reached σ n) h = by-next σ n (h .0) (h .1) (next σ e) refl
-  means-next (closed n) h = subst (BreaksAt longer) (sym (h .1)) (break-here es e [] (inr (inr (h .0))) (after-closed es e [] (h .0)))
-  means-next (broken k) h = break-stays es k (e ∷ []) h
+  unfolding reads Means Under.Lawful Under.Open
+  means-next (reached σ n) h = by-next σ n (h .0) (h .1) (next rules σ e) refl
+  means-next (closed n) h =
+      subst (BreaksAt longer) (sym (h .1))
+      (break-here kept es e [] (inr (inr (h .0))) (after-closed kept es e [] (h .0)))
+  means-next (broken k) h = break-stays kept es k (e ∷ []) h
 
 -- ---- all entries
 
@@ -117,14 +121,14 @@ progress-means es = means-all es [] begun (refl, refl)
 -- ---- the verdict
 
 pub concluded-judges : (es : List Entry) (m : Progress) → Means m es → Judges es (concluded m)
-unfolding Means concluded Open
+unfolding Means concluded Under.Open
 concluded-judges es (reached (at p) n) h =
-    undecided (inl (run-beginning finishes es (at p) (h .0) (λ e. let z : _≡_ {A = ℕ} 0 1 = cc in omega arith)))
+    undecided (inl (run-beginning kept es (at p) (h .0) (λ e. let z : _≡_ {A = ℕ} 0 1 = cc in omega arith)))
     (ap (λ (k : ℕ). says Inconclusive k 0) (h .1))
 concluded-judges es (reached (owes w) n) h =
-    undecided (inl (run-beginning finishes es (owes w) (h .0) (λ e. let z : _≡_ {A = ℕ} 0 1 = cc in omega arith)))
+    undecided (inl (run-beginning kept es (owes w) (h .0) (λ e. let z : _≡_ {A = ℕ} 0 1 = cc in omega arith)))
     (ap (λ (k : ℕ). says Inconclusive k 0) (h .1))
-concluded-judges es (reached done n) h = passes (run-session es (h .0)) (ap (λ (k : ℕ). says Pass k 0) (h .1))
+concluded-judges es (reached done n) h = passes (run-session rules es (h .0)) (ap (λ (k : ℕ). says Pass k 0) (h .1))
 concluded-judges es (closed n) h = undecided (inr (h .0)) (ap (λ (k : ℕ). says Inconclusive k 0) (h .1))
 concluded-judges es (broken k) h = fails k h refl
 

@@ -8,13 +8,14 @@ use Prim.Native.Nat.{ℕ}
 use lib.ListN.{length}
 use Rattle.tape_read.specs.Entries.{Entry}
 use Rattle.tape_read.specs.Tapes.{Reading, entries, unreadable, readTape}
-use Rattle.rulebook.specs.Session.{Lawful}
-use Rattle.rulebook.specs.Stated.{Sort, finished, unfinished, neither}
-use Rattle.rulebook.proofs.Trichotomy.{sorted}
-use Rattle.rulebook.proofs.Ends.{finishes}
-use Rattle.rulebook.proofs.Breaks.{break-found}
+use Rattle.sessions.specs.Session as Under
+use Rattle.sessions.specs.Stated.{Sort, finished, unfinished, neither}
+use Rattle.sessions.proofs.Trichotomy.{sorted}
+use Rattle.sessions.proofs.Breaks.{break-found}
+use Rattle.rulebook.specs.Session.{rules, Lawful}
 use Rattle.rulebook.specs.Roles.{Verdict, pass, inconclusive, fail}
 use Rattle.rulebook.proofs.Roles.{rightJudge, right-judge}
+use Rattle.rulebook.proofs.Kept.{kept}
 use Rattle.verdict.specs.Saying.{says}
 use Rattle.verdict_judged.specs.Judged.{Judges, passes, undecided, fails, Judged, readable, damaged}
 use Rattle.verdict.specs.declared.Verdict.the-variants.{Pass, Fail, Inconclusive, Unreadable}
@@ -51,14 +52,14 @@ judged-once {t} {v} {w} j k = judged-told t v j ∙ sym (judged-told t w k)
 
 -- ---- at least one
 
-of-sort : (es : List Entry) → Sort es → (a : Answer) × Judges es a
-unfolding Lawful
+of-sort : (es : List Entry) → Sort rules es → (a : Answer) × Judges es a
+unfolding Under.Lawful
 of-sort es (finished s) = (_, passes s refl)
 of-sort es (unfinished o) = (_, undecided o refl)
-of-sort es (neither s o) = let f = break-found es (⊎-elim s o) in (_, fails (f .0) (f .1) refl)
+of-sort es (neither s o) = let f = break-found kept es (⊎-elim s o) in (_, fails (f .0) (f .1) refl)
 
 pub judges-some : (es : List Entry) → (a : Answer) × Judges es a
-judges-some es = of-sort es (sorted finishes es)
+judges-some es = of-sort es (sorted kept es)
 
 of-reading : (t : List ℕ) (r : Reading) → readTape t ≡ r → (a : Answer) × Judged t a
 of-reading t (entries es) h = let j = judges-some es in (j .0, readable es h (j .1))

@@ -9,11 +9,13 @@ use native.Mathlib.Omega.{arith}
 use Rattle.tape_read.specs.Entries.{Entry, entry, start, command, isKind, storable, allStorable}
 use Rattle.tape_read.specs.Tapes.{entries, readTape, sessionOf, written}
 use Rattle.tape_read.proofs.Steps.{read-end, tape-ragged, tape-blocks}
+use Rattle.sessions.specs.Session as Under
+use Rattle.sessions.proofs.Breaks.{begins-empty}
 use Rattle.rulebook.specs.Session.{Open, BreaksAt}
-use Rattle.rulebook.proofs.Breaks.{begins-empty}
 use Rattle.rulebook.proofs.Made.{startOf, select, tc}
 use Rattle.rulebook.proofs.Offline.{offline, approved-offline}
 use Rattle.rulebook_worked.proofs.ShutOut.{breaks-at-0, breaks-at-1}
+use Rattle.rulebook.proofs.Kept.{kept}
 use Rattle.verdict.specs.Saying.{says}
 use Rattle.verdict_judged.specs.Judged.{undecided, fails, Judged, readable, damaged}
 use Rattle.verdict.specs.declared.Verdict.{Verdict}
@@ -28,9 +30,9 @@ use Rattle.verdict_judged.proofs.Stored.{written-judged, session-judged
 
 -- no input: INCONCLUSIVE 0 0
 pub nothing-judged : Judged [] (says Inconclusive 0 0)
-unfolding Open
+unfolding Under.Open
 nothing-judged =
-    readable [] (tape-blocks [] (omega arith) refl ∙ read-end 0 (sessionOf []) [] (omega arith)) (undecided (inl begins-empty) refl)
+    readable [] (tape-blocks [] (omega arith) refl ∙ read-end 0 (sessionOf []) [] (omega arith)) (undecided (inl (begins-empty kept)) refl)
 
 -- one byte, whichever: UNREADABLE 0 2
 pub byte-judged : (b : ℕ) → Judged (b ∷ []) (says Unreadable 0 2)

@@ -10,15 +10,17 @@ use native.Mathlib.Omega.{arith}
 use lib.ListN.{length, length-append}
 use Rattle.slices.proofs.Choice.{pick-no}
 use Rattle.tape_read.specs.Entries.{Entry, entry, start, answer, silence, host, results}
+use Rattle.sessions.specs.Session as Under
+use Rattle.sessions.specs.Machine.{due, sayable, next, run}
+use Rattle.sessions.proofs.Running.{chosen, taken, no-state, session-run}
+use Rattle.sessions.proofs.Reading.{run-append, beginning-run, awaits-run, silence-refused}
+use Rattle.sessions.proofs.Sorting.{run-awaits}
+use Rattle.sessions.proofs.Breaks.{begins-empty, after-session, after-closed}
+use Rattle.sessions.proofs.States.{refused-breaks}
 use Rattle.rulebook.specs.Phase.{Asked, terminal, opens, dueKind}
-use Rattle.rulebook.specs.Session.{Session, Beginning, AwaitsCard, Closed, Open, Lawful}
-use Rattle.rulebook.specs.Machine.{Machine, at, owes, done, due, sayable, next, run}
-use Rattle.rulebook.proofs.Running.{chosen, taken, no-state, session-run}
-use Rattle.rulebook.proofs.Reading.{run-append, beginning-run, awaits-run}
-use Rattle.rulebook.proofs.Sorting.{run-awaits}
-use Rattle.rulebook.proofs.Ends.{finishes}
-use Rattle.rulebook.proofs.Breaks.{begins-empty, after-session, after-closed}
-use Rattle.rulebook.proofs.States.{silence-refused, refused-breaks}
+use Rattle.rulebook.specs.Session.{rules, Session, Beginning, AwaitsCard, Closed, Open, Lawful}
+use Rattle.rulebook.specs.Machine.{Machine, at, owes, done}
+use Rattle.rulebook.proofs.Kept.{kept}
 use Rattle.verdict.specs.Saying.{says}
 use Rattle.verdict_judged.specs.Judged.{Judges, undecided}
 use Rattle.verdict.specs.declared.Verdict.the-variants.{Fail, Inconclusive}
@@ -27,7 +29,7 @@ use Rattle.verdict_judged.proofs.Endings.{one-too-many}
 
 -- one closing silence, where the card's answer is awaited; it is counted
 pub closing-silence : (es : List Entry) → AwaitsCard es → Judges (es ++ (entry silence [] ∷ [])) (says Inconclusive (length es + 1) 0)
-unfolding Open Closed
+unfolding Under.Open Under.Closed
 closing-silence es a =
     undecided (inr (es, (a, refl))) (ap (λ (n : ℕ). says Inconclusive n 0) (sym (length-append es (entry silence [] ∷ []))))
 
@@ -36,17 +38,17 @@ closing-silence es a =
 module _ (es : List Entry) (p : List ℕ) (more : List Entry) where
   -- it fails there, unless it has no payload and the card's answer is awaited
   pub silence-fails : Lawful es → (p ≡ [] → AwaitsCard es → ⊥) → Judges (es ++ (entry silence p ∷ more)) (says Fail (length es) 0)
-  unfolding Lawful Open
+  unfolding Under.Lawful Under.Open
   silence-fails l other =
       one-too-many es (entry silence p) more l
-      (⊎-elim (after-session es (entry silence p) [])
+      (⊎-elim (after-session kept es (entry silence p) [])
       (λ o.
       ⊎-elim
       (λ b.
-      let r = beginning-run es b in
-      refused-breaks es (r .0) (entry silence p) (r .1 .0) (silence-refused (r .0) p)
-      (λ w there silent. other (ap (λ (x : Entry). x .payload) silent) (run-awaits finishes es w (r .1 .0 ∙ ap some there))))
-      (after-closed es (entry silence p) [])
+      let r = beginning-run rules es b in
+      refused-breaks kept es (r .0) (entry silence p) (r .1 .0) (silence-refused kept (r .0) p)
+      (λ w there silent. other (ap (λ (x : Entry). x .payload) silent) (run-awaits kept es w (r .1 .0 ∙ ap some there))))
+      (after-closed kept es (entry silence p) [])
       o)
       l)
 
@@ -57,28 +59,29 @@ silence-with-payload es b p more l = silence-fails es (b ∷ p) more l (λ e a. 
 
 -- at the beginning
 pub silence-first : (p : List ℕ) (more : List Entry) → Judges (entry silence p ∷ more) (says Fail 0 0)
-unfolding Lawful Open run
+unfolding Under.Lawful Under.Open run
 silence-first p more =
-    silence-fails [] p more (inr (inl begins-empty)) (λ e a. let w = awaits-run [] a in let z : _≡_ {A = ℕ} 0 1 = cc (w .1) in omega arith)
+    silence-fails [] p more (inr (inl (begins-empty kept)))
+    (λ e a. let w = awaits-run kept [] a in let z : _≡_ {A = ℕ} 0 1 = cc (w .1) in omega arith)
 
 -- right after START, before any command
 start-not-awaited : (b : List ℕ) → AwaitsCard (entry start b ∷ []) → ⊥
 unfolding run next
 start-not-awaited b a =
-    let w = awaits-run (entry start b ∷ []) a in
-    let t = taken (run []) (next (at opens) (entry start b)) (owes (w .0)) (w .1) in
-    let c = chosen (due (dueKind terminal) (sayable terminal b) (entry start b)) _ (owes (w .0)) (t .1 .0 ∙ t .1 .1) .1 in
+    let w = awaits-run kept (entry start b ∷ []) a in
+    let t = taken (run rules []) (next rules (at opens) (entry start b)) (owes (w .0)) (w .1) in
+    let c = chosen (due (dueKind terminal) (sayable rules terminal b) (entry start b)) _ (owes (w .0)) (t .1 .0 ∙ t .1 .1) .1 in
     let z : _≡_ {A = ℕ} 0 1 = cc in
     omega arith
 
 pub silence-after-start : (b p : List ℕ) (more : List Entry) → Beginning (entry start b ∷ [])
     → Judges (entry start b ∷ entry silence p ∷ more) (says Fail 1 0)
-unfolding Lawful Open
+unfolding Under.Lawful Under.Open
 silence-after-start b p more begins = silence-fails (entry start b ∷ []) p more (inr (inl begins)) (λ e a. start-not-awaited b a)
 
 -- where any other entry than the card's answer is due: what somebody else says, or the kernel's own
 module _ (k : ℕ) (said : List ℕ) (other : k ≡ answer → ⊥) where
-  no-answer : (w : Asked) → next (owes w) (entry k said) ≡ none
+  no-answer : (w : Asked) → next rules (owes w) (entry k said) ≡ none
   unfolding next
   no-answer w = pick-no _ _ _ (not-due answer k _ said other)
 
@@ -86,15 +89,16 @@ module _ (k : ℕ) (said : List ℕ) (other : k ≡ answer → ⊥) where
     not-awaited : AwaitsCard es → ⊥
     unfolding run
     not-awaited a =
-        let w = awaits-run es a in
-        let t = taken (run (entry k said ∷ rest)) (run es (at opens)) done (sym (run-append es (entry k said ∷ rest) (at opens))
-        ∙ session-run _ s) in
-        let n = taken (run rest) (next (t .0) (entry k said)) done (t .1 .1) in
+        let w = awaits-run kept es a in
+        let t = taken (run rules (entry k said ∷ rest)) (run rules es (at opens)) done
+        (sym (run-append rules es (entry k said ∷ rest) (at opens))
+        ∙ session-run rules _ s) in
+        let n = taken (run rules rest) (next rules (t .0) (entry k said)) done (t .1 .1) in
         let here : t .0 ≡ owes (w .0) = cc (t .1 .0, w .1) in
-        no-state (n .0) (sym (no-answer (w .0)) ∙ (ap (λ (σ : Machine). next σ (entry k said)) (sym here) ∙ n .1 .0))
+        no-state (n .0) (sym (no-answer (w .0)) ∙ (ap (λ (σ : Machine). next rules σ (entry k said)) (sym here) ∙ n .1 .0))
 
     pub silence-for-other : (p : List ℕ) (more : List Entry) → Judges (es ++ (entry silence p ∷ more)) (says Fail (length es) 0)
-    unfolding Lawful Open Beginning
+    unfolding Under.Lawful Under.Open Under.Beginning
     silence-for-other p more = silence-fails es p more (inr (inl (entry k said, (rest, s)))) (λ e a. not-awaited a)
 
 -- the issuer's reply

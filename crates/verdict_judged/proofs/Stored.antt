@@ -15,9 +15,11 @@ use Rattle.tape_read.specs.Tapes.{written}
 use Rattle.tape_write.specs.Appending.{appendAll, fresh}
 use Rattle.tape_read.proofs.Roundtrip.{first-storable, rest-storable, tape-back, cut-back}
 use Rattle.tape_write.proofs.Growing.{appends-read}
+use Rattle.sessions.specs.Session as Under
+use Rattle.sessions.proofs.Breaks.{session-part}
 use Rattle.rulebook.specs.Session.{Session, AwaitsCard, Open}
 use Rattle.rulebook.proofs.Bound.{session-bound}
-use Rattle.rulebook.proofs.Breaks.{session-part}
+use Rattle.rulebook.proofs.Kept.{kept}
 use Rattle.verdict.specs.Saying.{says}
 use Rattle.verdict_judged.specs.Judged.{Judges, passes, undecided, Judged, readable}
 use Rattle.verdict.specs.declared.Verdict.the-variants.{Pass, Inconclusive}
@@ -30,9 +32,9 @@ session-fits es s = omega (arith, session-bound es s)
 
 -- an unfinished beginning of a session: as many entries as are there
 pub part-judges : (es : List Entry) (k : ℕ) → Session es → k < length es → Judges (take k es) (says Inconclusive k 0)
-unfolding Open
+unfolding Under.Open
 part-judges es k s h =
-    undecided (inl (session-part es k h s)) (ap (λ (n : ℕ). says Inconclusive n 0) (sym (length-take-le k es (omega arith))))
+    undecided (inl (session-part kept es k h s)) (ap (λ (n : ℕ). says Inconclusive n 0) (sym (length-take-le k es (omega arith))))
 
 pub storable-append : (es fs : List Entry) → allStorable es ≡ true → allStorable fs ≡ true → allStorable (es ++ fs) ≡ true
 unfolding allStorable
@@ -41,7 +43,7 @@ storable-append (e ∷ es) fs h k = and-both _ _ (first-storable e es h) (storab
 
 -- what waits for the card leaves room for one block more
 waiting-fits : (es : List Entry) → AwaitsCard es → length (es ++ (entry silence [] ∷ [])) ≤ blocksMost
-unfolding AwaitsCard
+unfolding Under.AwaitsCard
 waiting-fits es a =
     omega
     (arith, length-append es (entry silence [] ∷ []), length-append es (entry answer (a .0) ∷ a .1 .0), session-fits _ (a .1 .1))

@@ -12,25 +12,27 @@ use borrow.Author.Tests.{ne-eqb}
 use Rattle.slices.specs.Choice.{pick}
 use Rattle.slices.proofs.Choice.{pick-yes, pick-no, either, and-both}
 use Rattle.tape_read.specs.Entries.{Entry, entry, command, answer, silence, decision}
+use Rattle.sessions.specs.Session.{isPayload}
+use Rattle.sessions.specs.Machine.{due, sayable, next}
+use Rattle.sessions.proofs.Running.{takes-command, takes-answer, takes-heard, takes-decision}
+use Rattle.sessions.proofs.Reading.{other-kind}
 use Rattle.rulebook.specs.Situation.{Situation}
 use Rattle.rulebook.specs.Phase.{Asked, Heard, asks, hears, decides, commandOf, dueKind, decisionOf}
 use Rattle.rulebook.specs.Turn.{turn, allowed, heard, after}
-use Rattle.rulebook.specs.Session.{isPayload}
 use Rattle.slices.specs.Tests.{alike}
 use Rattle.slices.proofs.Comparing.{alike-same}
-use Rattle.rulebook.specs.Machine.{Machine, at, owes, done, due, sayable, next}
-use Rattle.rulebook.proofs.Running.{takes-command, takes-answer, takes-heard, takes-decision}
-use Rattle.rulebook.proofs.Reading.{other-kind}
+use Rattle.rulebook.specs.Machine.{Machine, at, owes, done}
+use Rattle.rulebook.specs.Session.{rules}
 use Rattle.verdict_judged.specs.Progress.{reached, closed, broken, empty, closes, onward, reads}
 
 -- ---- by what the machine does
 
 module _ (σ : Machine) (n : ℕ) (e : Entry) where
-  pub reads-taken : (τ : Machine) → next σ e ≡ some τ → reads (reached σ n) e ≡ reached τ (n + 1)
+  pub reads-taken : (τ : Machine) → next rules σ e ≡ some τ → reads (reached σ n) e ≡ reached τ (n + 1)
   unfolding reads onward
   reads-taken τ h = ap (onward σ n e) h
 
-  pub reads-refused : next σ e ≡ none → closes σ e ≡ false → reads (reached σ n) e ≡ broken n
+  pub reads-refused : next rules σ e ≡ none → closes σ e ≡ false → reads (reached σ n) e ≡ broken n
   unfolding reads onward
   reads-refused h f = ap (onward σ n e) h ∙ pick-no _ _ _ f
 
@@ -49,7 +51,7 @@ module _ (n : ℕ) where
   module _ (h : Heard) (p : List ℕ) where
     pub reads-heard : allowed h p ≡ true → isPayload p ≡ true
         → reads (reached (at (hears h)) n) (entry (dueKind h) p) ≡ reached (at (after h p)) (n + 1)
-    reads-heard fits ok = reads-taken (at (hears h)) n (entry (dueKind h) p) (at (after h p)) (takes-heard h p fits ok)
+    reads-heard fits ok = reads-taken (at (hears h)) n (entry (dueKind h) p) (at (after h p)) (takes-heard rules h p fits ok)
 
     pub heard-invalid : allowed h p ≡ false → reads (reached (at (hears h)) n) (entry (dueKind h) p) ≡ broken n
     unfolding next closes sayable
@@ -66,7 +68,7 @@ module _ (n : ℕ) where
     pub reads-command : p ≡ commandOf w → reads (reached (at (asks w)) n) (entry command p) ≡ reached (owes w) (n + 1)
     reads-command h =
         ap (λ (c : List ℕ). reads (reached (at (asks w)) n) (entry command c)) h
-        ∙ reads-taken (at (asks w)) n (entry command (commandOf w)) (owes w) (takes-command w)
+        ∙ reads-taken (at (asks w)) n (entry command (commandOf w)) (owes w) (takes-command rules w)
 
     pub command-wrong : (k : ℕ) → (p ≡ commandOf w → ⊥) → reads (reached (at (asks w)) n) (entry k p) ≡ broken n
     unfolding next closes
@@ -82,7 +84,7 @@ module _ (n : ℕ) where
   -- an answer, or a closing silence
   module _ (w : Asked) (p : List ℕ) where
     pub reads-answer : isPayload p ≡ true → reads (reached (owes w) n) (entry answer p) ≡ reached (at (turn w p)) (n + 1)
-    reads-answer ok = reads-taken (owes w) n (entry answer p) (at (turn w p)) (takes-answer w p ok)
+    reads-answer ok = reads-taken (owes w) n (entry answer p) (at (turn w p)) (takes-answer rules w p ok)
 
     pub reads-silence : p ≡ [] → reads (reached (owes w) n) (entry silence p) ≡ closed (n + 1)
     unfolding reads onward next closes empty
@@ -112,7 +114,7 @@ module _ (n : ℕ) where
     reads-decision h =
         let d = decides outcome reason s in
         ap (λ (x : List ℕ). reads (reached (at d) n) (entry decision x)) h
-        ∙ reads-taken (at d) n (entry decision (decisionOf outcome reason s)) done (takes-decision outcome reason s)
+        ∙ reads-taken (at d) n (entry decision (decisionOf outcome reason s)) done (takes-decision rules outcome reason s)
 
     pub decision-wrong : (k : ℕ) → (p ≡ decisionOf outcome reason s → ⊥)
         → reads (reached (at (decides outcome reason s)) n) (entry k p) ≡ broken n

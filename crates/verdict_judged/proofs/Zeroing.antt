@@ -12,12 +12,14 @@ use lib.Seq.{take-append-le}
 use Rattle.slices.proofs.Choice.{picked}
 use Rattle.tape_read.specs.Entries.{Entry}
 use Rattle.tape_read.specs.Tapes.{Reading, entries, unreadable, preceded, readTape}
+use Rattle.sessions.specs.Machine.{next}
+use Rattle.sessions.proofs.Breaks.{break-within, break-stays}
 use Rattle.rulebook.specs.Phase.{opens}
-use Rattle.rulebook.specs.Session.{BreaksAt}
-use Rattle.rulebook.specs.Machine.{Machine, at, next}
-use Rattle.rulebook.proofs.Breaks.{break-within, break-stays}
+use Rattle.rulebook.specs.Session.{rules, BreaksAt}
+use Rattle.rulebook.specs.Machine.{Machine, at}
 use Rattle.rulebook_zeros.specs.Summing.{newIn, countOn, zerosFrom, zerosOf}
 use Rattle.rulebook_zeros.proofs.Summing.{zeros-on, after-closed, break-zeros, zeros-found, zeros-is}
+use Rattle.rulebook.proofs.Kept.{kept}
 use Rattle.verdict_judged.specs.Zeroed.{Zeroed, readable, damaged}
 use Rattle.verdict_judged.specs.Progress.{Progress, reached, closed, broken, closes, onward, reads, newBy, progressOf}
 use Rattle.verdict_judged.proofs.Meaning.{Means, progress-means}
@@ -33,13 +35,13 @@ module _ (e : Entry) where
 
   broken-on : (es : List Entry) (k : ℕ) → BreaksAt es k → zerosOf (es ++ (e ∷ [])) ≡ zerosOf es
   broken-on es k b =
-      let inside = break-within es k b in
-      break-zeros (es ++ (e ∷ [])) k (break-stays es k (e ∷ []) b)
+      let inside = break-within kept es k b in
+      break-zeros (es ++ (e ∷ [])) k (break-stays kept es k (e ∷ []) b)
       ∙ (ap zerosOf (take-append-le k es (e ∷ []) (omega arith)) ∙ sym (break-zeros es k b))
 
   by-progress : (es : List Entry) (m : Progress) → Means m es → zerosOf (es ++ (e ∷ [])) ≡ zerosOf es + newBy (reads m e)
   unfolding Means reads zerosFrom countOn newBy
-  by-progress es (reached σ n) h = zeros-on es (e ∷ []) (at opens) σ (h .0) ∙ ap (λ (x : ℕ). zerosOf es + x) (by-next σ n (next σ e))
+  by-progress es (reached σ n) h = zeros-on es (e ∷ []) (at opens) σ (h .0) ∙ ap (λ (x : ℕ). zerosOf es + x) (by-next σ n (next rules σ e))
   by-progress es (closed n) h = after-closed es e [] (h .0) ∙ sym (add-zero (zerosOf es))
   by-progress es (broken k) h = broken-on es k h ∙ sym (add-zero (zerosOf es))
 

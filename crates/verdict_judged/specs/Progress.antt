@@ -9,9 +9,11 @@ use lib.Dec.{eqb}
 use Rattle.slices.specs.Choice.{pick}
 use Rattle.tape_read.specs.Entries.{Entry, silence}
 use Rattle.tape_read.specs.Tapes.{Reading, entries, unreadable, readTape}
+use Rattle.sessions.specs.Machine.{next}
 use Rattle.rulebook.specs.Phase.{opens}
-use Rattle.rulebook.specs.Machine.{Machine, at, owes, done, next}
+use Rattle.rulebook.specs.Machine.{Machine, at, owes, done}
 use Rattle.rulebook_zeros.specs.Summing.{newIn}
+use Rattle.rulebook.specs.Session.{rules}
 use Rattle.verdict.specs.Saying.{says}
 use Rattle.verdict.specs.declared.Verdict.the-variants.{Pass, Fail, Inconclusive, Unreadable}
 use Rattle.verdict.specs.declared.Answer.{Answer}
@@ -45,7 +47,7 @@ onward σ n e none = pick (closes σ e) (closed (n + 1)) (broken n)
 
 -- one entry further: nothing may follow a closing silence, and what is broken stays broken
 unfoldable pub reads : Progress → Entry → Progress
-reads (reached σ n) e = onward σ n e (next σ e)
+reads (reached σ n) e = onward σ n e (next rules σ e)
 reads (closed n) e = broken n
 reads (broken k) e = broken k
 

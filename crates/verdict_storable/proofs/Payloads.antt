@@ -17,10 +17,10 @@ use Rattle.commands.proofs.Shapes.{select-most, options-most, record-most, cryp
 use Rattle.decide_cryptogram.specs.Cryptograms.{p1Of}
 use Rattle.decide_cryptogram.specs.declared.Cryptogram.{Cryptogram}
 use Rattle.decide_cryptogram.specs.declared.Cryptogram.the-variants.{Aac, Tc, Arqc}
+use Rattle.sessions.specs.Session.{isPayload}
+use Rattle.sessions.proofs.Payloads.{payload}
 use Rattle.rulebook.specs.Situation.{Situation, knownIn, listIn}
 use Rattle.rulebook.specs.Phase.{Asked, selecting, optioning, reading, first, second, decides, commandOf, decisionOf}
-use Rattle.rulebook.specs.Session.{isPayload}
-use Rattle.rulebook.proofs.Payloads.{payload}
 use Rattle.verdict_storable.proofs.Filling.{Told, beside-bytes, unless-bytes, filling-bytes}
 use Rattle.verdict_storable.proofs.Commanding.{select-bytes, options-bytes, record-bytes, cryptogram-bytes}
 use Rattle.verdict_storable.proofs.Staying.{Knows, Asking, Stays}

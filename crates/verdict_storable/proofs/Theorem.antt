@@ -8,12 +8,14 @@ use Prim.Native.Nat.{ℕ}
 use Rattle.slices.proofs.Choice.{and-both}
 use Rattle.tape_read.specs.Entries.{Entry, entry, command, answer, silence, decision, isKind, storable, allStorable}
 use Rattle.tape_read.proofs.Roundtrip.{first-storable, rest-storable}
+use Rattle.sessions.specs.Session.{isPayload}
+use Rattle.sessions.specs.Session as Under
+use Rattle.sessions.proofs.Payloads.{payload-bytes}
 use Rattle.rulebook.specs.Phase.{Phase}
-use Rattle.rulebook.specs.Session.{isPayload, Plays, exchanged, heard, decided, Session, Beginning, AwaitsCard, Closed, Open, Lawful}
+use Rattle.rulebook.specs.Session.{Plays, exchanged, heard, decided, Session, Beginning, AwaitsCard, Closed, Open, Lawful}
 use Rattle.verdict_judged.proofs.Stored.{storable-append}
 use Rattle.verdict_storable.proofs.Staying.{Stays, after-stays, turn-stays}
 use Rattle.verdict_storable.proofs.Payloads.{asked-payload, decision-payload}
-use Rattle.rulebook.proofs.Payloads.{payload-bytes}
 use Rattle.rulebook.proofs.Said.{other-kinds}
 
 -- an entry of a kind, with a payload, before others
@@ -36,7 +38,7 @@ plays-storable (decided {outcome} {reason} {s} {d} f) k =
 
 -- every session can be stored,
 pub session-storable : (es : List Entry) → Session es → allStorable es ≡ true
-unfolding Session
+unfolding Under.Session
 session-storable es play = plays-storable play tt
 
 -- and so can what it begins with
@@ -46,23 +48,23 @@ front-storable [] fs h = refl
 front-storable (e ∷ es) fs h = and-both _ _ (first-storable e (es ++ fs) h) (front-storable es fs (rest-storable e (es ++ fs) h))
 
 pub begun-storable : (es : List Entry) → Beginning es → allStorable es ≡ true
-unfolding Beginning
+unfolding Under.Beginning
 begun-storable es b = front-storable es (b .0 ∷ b .1 .0) (session-storable _ (b .1 .1))
 
 pub awaiting-storable : (es : List Entry) → AwaitsCard es → allStorable es ≡ true
-unfolding AwaitsCard
+unfolding Under.AwaitsCard
 awaiting-storable es a = front-storable es (entry answer (a .0) ∷ a .1 .0) (session-storable _ (a .1 .1))
 
 closed-storable : (es : List Entry) → Closed es → allStorable es ≡ true
-unfolding Closed allStorable storable isKind
+unfolding Under.Closed allStorable storable isKind
 closed-storable es c = ap allStorable (c .1 .1) ∙ storable-append (c .0) (entry silence [] ∷ []) (awaiting-storable (c .0) (c .1 .0)) refl
 
 -- every unfinished one,
 pub open-storable : (es : List Entry) → Open es → allStorable es ≡ true
-unfolding Open
+unfolding Under.Open
 open-storable es o = ⊎-elim (begun-storable es) (closed-storable es) o
 
 -- and so whatever breaks no rule
 pub lawful-storable : (es : List Entry) → Lawful es → allStorable es ≡ true
-unfolding Lawful
+unfolding Under.Lawful
 lawful-storable es l = ⊎-elim (session-storable es) (open-storable es) l

@@ -21,17 +21,10 @@ use Rattle.tape_read.proofs.Extra.{zeros-bytes}
 use Rattle.decimal_dates.specs.Decimal.{zerosOnly}
 use Rattle.cvm.specs.Lists.{isResult, areResults}
 use Rattle.decide_requests.specs.Replies.{codeIn, saidBy, replyOf, isReply}
+use Rattle.sessions.specs.Kept.{OtherKind}
 use Rattle.words.specs.declared.Word.{Word}
 use Rattle.words.specs.declared.Word.the-variants.{Host, Results}
 use Rattle.words.specs.Words.{wordKind, wordAllowed, wordRefusal}
-
--- the kind of an entry that is neither the card's nor the kernel's
-pub record OtherKind (k : ℕ) : Type 0 where
-  pub no-command : eqb k command ≡ false
-  pub no-answer : eqb answer k ≡ false
-  pub no-silence : eqb silence k ≡ false
-  pub no-decision : eqb k decision ≡ false
-  pub readable : isKind k ≡ true
 
 pub other-kind : (w : Word) → OtherKind (wordKind w)
 unfolding wordKind isKind
