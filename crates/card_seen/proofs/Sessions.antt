@@ -13,6 +13,7 @@ use Rattle.rulebook.specs.Phase.{tvrOf, tsiOf}
 use Rattle.rulebook.specs.Turn.{after}
 use Rattle.rulebook.specs.Session.{rules, Plays, exchanged, heard, decided}
 use Rattle.rulebook.proofs.Said.{other-kinds}
+use Rattle.rulebook_zeros.specs.Counted as Counted
 use Rattle.rulebook_zeros.specs.Zeros.{unsuppliedIn, addedBy}
 use Rattle.card_seen.specs.Given.{Given, said, showed, givenTo, butAnswer, butAnswers, Same}
 use Rattle.card_seen.proofs.Turning.{turnBy, turn-seen}
@@ -84,7 +85,7 @@ entries-by (decided {outcome} {reason} {s} {d} same) =
     ap (λ (e : Entry). e ∷ []) (kept [] [] d .1 .1 ∙ ap (entry decision) same)
 
 pub adds-by : {p : Phase} {es : List Entry} (play : Plays p es) → addedBy play ≡ addsBy (givenTo play) p
-unfolding givenTo addedBy addsBy
+unfolding givenTo Counted.addedBy addsBy
 adds-by (exchanged {w} {c} {a} same ok play) =
     ap (λ (ns : List ℕ). 0 ∷ ns)
     (ap₂ (λ (n : ℕ) (ns : List ℕ). n ∷ ns) (ap unsuppliedIn (turn-seen w a)) (adds-by play ∙ ap (addsBy (givenTo play)) (turn-seen w a)))

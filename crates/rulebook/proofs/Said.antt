@@ -59,12 +59,12 @@ sample =
     ∷ 0xA0 ∷ 0 ∷ 0 ∷ 0 ∷ 3 ∷ 0 ∷ 0 ∷ 0 ∷ 0 ∷ 0 ∷ 0 ∷ 0 ∷ 0 ∷ 0 ∷ 0 ∷ 0
     ∷ []
 
-sample-valid : validStart sample ≡ true
+pub sample-valid : validStart sample ≡ true
 unfolding validStart every pick between isLength validKind validDigits digitsOnly decimalByte validStartDate monthAndDay validRandom
     validPercentages validThreshold validAid zerosOnly readingOf decimal decimalFrom
 sample-valid = refl
 
-sample-payload : isPayload sample ≡ true
+pub sample-payload : isPayload sample ≡ true
 unfolding isPayload
 sample-payload = refl
 

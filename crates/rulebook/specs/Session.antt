@@ -1,6 +1,6 @@
 -- The rules of 01 as one value, and the sessions that they allow: commands and answers in turn, what somebody else says where it is due
--- (START first), DECISION last. What a session, a beginning or a break is under given rules stands word for word in the crate sessions
--- (Session there). 01, "What the kernel plays and who decides"; demand 3.
+-- (START first), DECISION last. What a session, a beginning or a break is under rules is said in the crate sessions, once for all editions;
+-- its names stand here for these rules. 01, "What the kernel plays and who decides"; demand 3.
 -- Assumes nothing.
 use mathlib.Core.List.{List}
 use Prim.Native.Nat.{ℕ, _+_, _*_}

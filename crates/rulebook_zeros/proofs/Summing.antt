@@ -25,7 +25,8 @@ use Rattle.rulebook.specs.Phase.{Asked, Phase, opens, asks, hears, decides}
 use Rattle.rulebook.specs.Turn.{turn, after}
 use Rattle.rulebook.specs.Session.{rules, Plays, exchanged, heard, decided, Session, Beginning, AwaitsCard, Closed, Open, Lawful, BreaksAt}
 use Rattle.rulebook.specs.Machine.{Machine, at, owes, done}
-use Rattle.rulebook_zeros.specs.Zeros.{unsuppliedIn, addedBy, sum, Summed, SummedClosed, SumOf, Zeros, lawful, broken}
+use Rattle.rulebook_zeros.specs.Counted.{sum, addedBy, Summed, SummedClosed, SumOf}
+use Rattle.rulebook_zeros.specs.Zeros.{unsuppliedIn, Zeros, lawful, broken}
 use Rattle.rulebook_zeros.specs.Summing.{newIn, countOn, zerosFrom, zerosOf}
 use Rattle.rulebook.proofs.Kept.{kept}
 
@@ -38,7 +39,7 @@ unfolding zerosFrom countOn
 counted σ τ x e es same h = ap (countOn (zerosFrom es)) (ap (next rules σ) (sym same) ∙ h)
 
 play-sum : {p : Phase} {fs : List Entry} (play : Plays p fs) (es rest : List Entry) → fs ≡ es ++ rest
-    → sum (take (length es) (addedBy play)) ≡ zerosFrom es (at p)
+    → sum (take (length es) (addedBy rules unsuppliedIn play)) ≡ zerosFrom es (at p)
 unfolding zerosFrom addedBy sum newIn
 play-sum play [] rest h = refl
 play-sum (exchanged {w} {c} {a} {es = fs} f ok play) (e ∷ []) rest h =
@@ -70,11 +71,11 @@ play-sum (decided {d = d} f) (e ∷ x ∷ es) rest h =
     absurd (let z : _≡_ {A = ℕ} 0 1 = cc in omega arith)
 
 -- every part of a session has its sum, and no other
-part-summed : (es rest : List Entry) → Session (es ++ rest) → Summed es (zerosOf es)
+part-summed : (es rest : List Entry) → Session (es ++ rest) → Summed rules unsuppliedIn es (zerosOf es)
 unfolding Under.Session Summed
 part-summed es rest play = (rest, (play, sym (play-sum play es rest refl)))
 
-summed-is : (es : List Entry) (n : ℕ) → Summed es n → n ≡ zerosOf es
+summed-is : (es : List Entry) (n : ℕ) → Summed rules unsuppliedIn es n → n ≡ zerosOf es
 unfolding Summed
 summed-is es n s = s .1 .1 ∙ play-sum (s .1 .0) es (s .0) refl
 
@@ -130,15 +131,15 @@ closed-zeros before more a =
 
 -- ---- the fourth number of lawful entries
 
-session-sum : (es : List Entry) → Session es → SumOf es (zerosOf es)
+session-sum : (es : List Entry) → Session es → SumOf rules unsuppliedIn es (zerosOf es)
 unfolding SumOf
 session-sum es play = inl (part-summed es [] (subst Session (sym (append-nil es)) play))
 
-beginning-sum : (es : List Entry) → Beginning es → SumOf es (zerosOf es)
+beginning-sum : (es : List Entry) → Beginning es → SumOf rules unsuppliedIn es (zerosOf es)
 unfolding SumOf Under.Beginning
 beginning-sum es b = inl (part-summed es (b .0 ∷ b .1 .0) (b .1 .1))
 
-closed-sum : (es : List Entry) → Closed es → SumOf es (zerosOf es)
+closed-sum : (es : List Entry) → Closed es → SumOf rules unsuppliedIn es (zerosOf es)
 unfolding SumOf SummedClosed Under.Closed Under.AwaitsCard
 closed-sum es c =
     let before = c .0 in
@@ -147,16 +148,16 @@ closed-sum es c =
     inr (
       before,
       (
-        subst (Summed before) (sym same) (part-summed before (entry answer (waits .0) ∷ waits .1 .0) (waits .1 .1)),
+        subst (Summed rules unsuppliedIn before) (sym same) (part-summed before (entry answer (waits .0) ∷ waits .1 .0) (waits .1 .1)),
         (waits, c .1 .1),
       ),
     )
 
-lawful-sum : (es : List Entry) → Lawful es → SumOf es (zerosOf es)
+lawful-sum : (es : List Entry) → Lawful es → SumOf rules unsuppliedIn es (zerosOf es)
 unfolding Under.Lawful Under.Open
 lawful-sum es l = ⊎-elim (session-sum es) (λ o. ⊎-elim (beginning-sum es) (closed-sum es) o) l
 
-sum-is : (es : List Entry) (n : ℕ) → SumOf es n → n ≡ zerosOf es
+sum-is : (es : List Entry) (n : ℕ) → SumOf rules unsuppliedIn es n → n ≡ zerosOf es
 unfolding SumOf SummedClosed
 sum-is es n s =
     ⊎-elim (summed-is es n)
@@ -208,7 +209,7 @@ break-zeros es k b =
 
 broken-found : (es : List Entry) (k : ℕ) → BreaksAt es k → Zeros es (zerosOf es)
 broken-found es k b =
-    broken k b (subst (SumOf (take k es)) (sym (break-zeros es k b)) (lawful-sum (take k es) (b .before k (omega arith))))
+    broken k b (subst (SumOf rules unsuppliedIn (take k es)) (sym (break-zeros es k b)) (lawful-sum (take k es) (b .before k (omega arith))))
 
 by-sort : (es : List Entry) → Sort rules es → Zeros es (zerosOf es)
 unfolding Under.Lawful

@@ -1,8 +1,6 @@
 pub mod Rules
 pub mod Supplying
 pub mod Filling
-pub mod Playing
-pub mod Sessions
-pub mod Zeros
+pub mod Agreeing
 pub mod NewKind
 pub mod Theorem

@@ -1,6 +1,4 @@
 -- The rules as they were before cardholder verification (02, R-7).
 pub mod Before
 pub mod Filled
-pub mod Sessions
-pub mod Verdict
-pub mod Zeroed
+pub mod Edition

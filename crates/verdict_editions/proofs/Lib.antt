@@ -1,0 +1,5 @@
+pub mod Playing
+pub mod Sessions
+pub mod Tapes
+pub mod Agreeing
+pub mod Later
