@@ -4,13 +4,14 @@
     tools/claims-check.py              docs/CLAIMS.md, docs/RULEBOOK.md, the other pages, and the comments at the top of proofs
     tools/claims-check.py --selftest   tries what counts as a definition on made-up files
 
-A `File.name` must be defined in that file of specs/ or proofs/: by a signature, as a constructor or as a field; a mention is not
-enough. A `module::function` must be an `fn` of that module, or a method of that type; a crate's own name stands for its lib.rt. An
-edit must stand in must-fail/ or in more-edits/. The crate is the one that stands before a name ("`crate`: ..") or after it ("of
-`crate`", "(`crate`)"); where there is none, one that the row, the column or the heading of the section names. A bare name that
-follows a `File.name` in a row of names stands in the same file, unless "of" names a crate for it. In RULEBOOK a name stands in
-`rulebook`, or in a crate that its sentence names. In the other pages it stands in some crate, in the one that "of" names if any; on a
-landing's page an edit may stand there too, and what has gone since is written without marks. A path must be there.
+A `File.name` must be defined in that file of specs/ or proofs/: by a signature, as a constructor or as a field, or be passed on there
+by `pub use`; a mention is not enough. A `module::function` must be an `fn` of that module, or a method of that type; a crate's own
+name stands for its lib.rt. An edit must stand in must-fail/ or in more-edits/. The crate is the one that stands before a name
+("`crate`: ..") or after it ("of `crate`", "(`crate`)"); where there is none, one that the row, the column or the heading of the
+section names. A bare name that follows a `File.name` in a row of names stands in the same file, unless "of" names a crate for it. In
+RULEBOOK a name stands in `rulebook`, or in a crate that its sentence names. In the other pages it stands in some crate, in the one
+that "of" names if any; on a landing's page an edit may stand there too, and what has gone since is written without marks. A path must
+be there.
 """
 import pathlib
 import re
@@ -26,12 +27,15 @@ WORDS = {"requires", "ensures", "match", "const", "code", "crates.txt", "omega",
 
 def defined(text):
     """The names that a file of specs/ or proofs/ defines: signatures, constructors and fields, at the top or inside a record, a
-    data type or a module, and not inside another definition."""
+    data type or a module, and not inside another definition; and those that it passes on by `pub use`."""
     names, around = set(), []
     for line in text.splitlines():
         body = line.strip()
         if not body or body.startswith("--"):
             continue
+        passed = re.match(r"pub use [^{]*\.\{([^}]*)\}$", body)
+        if passed:
+            names.update(name.split(" as ")[-1].strip() for name in passed.group(1).split(","))
         indent = len(line) - len(line.lstrip())
         while around and around[-1][0] >= indent:
             around.pop()
@@ -234,10 +238,11 @@ def paths():
 
 
 def selftest():
-    text = ("use a.B.{mentioned}\n-- commented : no\nunfoldable pub shown : A\nshown = local\n  where\n  local : A\n  local = mentioned\n"
+    text = ("use a.B.{mentioned}\npub use a.C.{passed, renamed as on}\n"
+            "-- commented : no\nunfoldable pub shown : A\nshown = local\n  where\n  local : A\n  local = mentioned\n"
             "pub data Kind : Type 0 where\n  built : Kind\npub record Facts : Type 0 where\n  pub field : shown ≡ mentioned\n"
             "module _ (x : A) where\n  pub law : x ≡ shown\n  law = other : A\npub taking (n : A) : B\n")
-    expected = {"shown", "Kind", "built", "Facts", "field", "law", "taking"}
+    expected = {"passed", "on", "shown", "Kind", "built", "Facts", "field", "law", "taking"}
     cells = [("`File.one`, `two`; `three`", [("File.one", None), ("two", "File"), ("three", None)]),
              ("`a::b`, `c`", [("a::b", None), ("c", None)]),
              ("`File.one`, over `two`, `three` of `slices`", [("two", None), ("three", None), ("File.one", None)]),
