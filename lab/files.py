@@ -5,6 +5,8 @@ import os
 import stat
 import tempfile
 
+from lab import kinds
+
 PIECE = 1 << 20
 # A longer file is copied to the disk and not into memory.
 LARGE = 1 << 24
@@ -38,8 +40,6 @@ def state(descriptor):
 
 
 BLOCK = 512
-# The kinds of a tape's entries (01, "The tape"; 02, R-7), by number.
-ENTRY_KINDS = ("", "START", "COMMAND", "ANSWER", "SILENCE", "HOST", "DECISION", "RESULTS")
 
 
 class Copy:
@@ -86,11 +86,19 @@ class Copy:
             os.close(descriptor)
         return size, digest.hexdigest(), head, b"/proc/%d/fd/%d" % (os.getpid(), place)
 
+    def block(self, index):
+        """A block of the tape that was taken, or what there is of it."""
+        return os.pread(self.taken, BLOCK, index * BLOCK)
+
+    def from_start(self):
+        """A descriptor on the tape that was taken, at its start."""
+        os.lseek(self.taken, 0, os.SEEK_SET)
+        return self.taken
+
     def entry(self, index):
         """The entry in a block of the tape that was taken, for display: the judge has read it."""
-        block = os.pread(self.taken, BLOCK, index * BLOCK)
-        kind = ENTRY_KINDS[block[8]] if block[8] < len(ENTRY_KINDS) else f"kind {block[8]}"
-        return {"kind": kind, "bytes": block[12:12 + int.from_bytes(block[10:12], "big")].hex().upper()}
+        block = self.block(index)
+        return {"kind": kinds.name_of(block[8]), "bytes": block[12:12 + int.from_bytes(block[10:12], "big")].hex().upper()}
 
     def whole(self):
         """The bytes of the tape that was taken."""

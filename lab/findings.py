@@ -2,6 +2,7 @@
 import re
 from typing import NamedTuple
 
+from lab import kinds
 from lab.numbers import MOST
 
 NUMBER = rb"(0|[1-9][0-9]{0,19})"
@@ -14,7 +15,8 @@ GOOD = re.compile(rb"good " + NUMBER + rb"\n")
 REFUSED = re.compile(rb"refused " + NUMBER + rb" (too long|torn|check|number|verdict|zeros|twice)\n")
 BLOCK = re.compile(rb"BLOCK " + NUMBER + b" " + NUMBER + b" " + NUMBER + b" " + NUMBER + rb" (-|(?:[0-9A-F]{2})+)\n")
 DUE = re.compile(rb"DUE " + NUMBER + rb" ([A-Z]+)(?: ([0-9A-F]+))?\n")
-COUNTED = (b"RESULTS",)
+OCTETS = re.compile(r"(?:[0-9A-F]{2})+")
+COUNT = re.compile(NUMBER.decode())
 END = re.compile(rb"END " + NUMBER + b" " + NUMBER + rb"\n")
 REPLIES = (b"entered\n", b"no verdict\n", b"no number\n", b"already entered\n", b"full\n")
 
@@ -48,14 +50,20 @@ def finding(line):
 
 
 def due(line, index):
-    """What is due at an entry, from the program's line of it: its kind, and its bytes or how many are wanted; None where it is no such line."""
+    """What is due at an entry, from the program's line of it: its kind, and its bytes or how many are wanted. None where it is no such
+    line of a kind that can be due."""
     found = DUE.fullmatch(line)
     if not found or int(found.group(1)) != index:
         return None
-    kind, value = found.group(2), found.group(3)
-    if value is None:
-        return {"kind": kind.decode()}
-    return {"kind": kind.decode(), "count": int(value)} if kind in COUNTED else {"kind": kind.decode(), "bytes": value.decode()}
+    name, value = found.group(2).decode(), found.group(3) and found.group(3).decode()
+    told = kinds.NAMED[name].told if name in kinds.NAMED else None
+    if told == kinds.ALONE and value is None:
+        return {"kind": name}
+    if told == kinds.BYTES and value is not None and OCTETS.fullmatch(value):
+        return {"kind": name, "bytes": value}
+    if told == kinds.COUNT and value is not None and COUNT.fullmatch(value):
+        return {"kind": name, "count": int(value)}
+    return None
 
 
 def entry(line):

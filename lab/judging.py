@@ -32,7 +32,7 @@ class Judge:
     """One `lab_tapes` with a place for the tape at hand."""
 
     def __init__(self, words, with_due=False):
-        self.words, self.copy, self.talk, self.with_due = words, files.Copy(), None, with_due
+        self.words, self.copy, self.talk, self.with_due, self.told = words, files.Copy(), None, with_due, []
 
     def judge(self, name, number, known):
         """`known` is asked, with name, number and sha256, whether the finding is there already."""
@@ -76,6 +76,7 @@ class Judge:
             line = self.talk.more()
         if line != verdict or None in told or len(told) != have.finding.place + 1:
             return have._replace(finding=None, error="no verdict: what was due was not told as the verdict is")
+        self.told = told
         if have.finding.verdict == "FAIL":
             return have._replace(due=told[-1], stood=self.copy.entry(have.finding.place))
         return have._replace(due=told[-2] if told[-1]["kind"] == "NOTHING" else told[-1])

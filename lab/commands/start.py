@@ -1,7 +1,7 @@
 """bin/start: the terminal's data of START from named fields, and back."""
 import re
 
-from lab import sessions
+from lab import sessions, terminal
 from lab.numbers import NoNumber, number
 from lab.words import NOT_ALL, Undone, command, voice
 
@@ -113,16 +113,16 @@ def identifier():
     return form, write, read
 
 
-# name, place, size, form, and the value where it is not named: 01, "Terminal data", and 02, R-7
-FIELDS = (
-    ("type", 0, 1, small(), "2"), ("amount", 1, 6, money(6), "125.00"), ("other", 7, 6, money(6), "0.00"),
-    ("country", 13, 2, digits(2), "826"), ("currency", 15, 2, digits(2), "826"), ("date", 17, 3, day(), "2026-06-30"),
-    ("transaction", 20, 1, octets(1), "00"), ("unpredictable", 21, 4, octets(4), "1A2B3C4D"), ("floor", 25, 6, money(6), "100.00"),
-    ("random", 31, 1, small(), "50"), ("target", 32, 1, small(), "10"), ("threshold", 33, 6, money(6), "50.00"),
-    ("maximum", 39, 1, small(), "40"), ("version", 40, 2, octets(2), "0001"), ("denial", 42, 5, octets(5), "0000000000"),
-    ("online", 47, 5, octets(5), "0000008000"), ("default", 52, 5, octets(5), "0000000000"),
-    ("aid", 57, 17, identifier(), "A0000000031010"), ("capabilities", 74, 3, octets(3), "60E0C8"),
-)
+# the form of each field, and its value where it is not named; where it stands is in lab/terminal.py
+FORMS = {
+    "type": (small(), "2"), "amount": (money(6), "125.00"), "other": (money(6), "0.00"), "country": (digits(2), "826"),
+    "currency": (digits(2), "826"), "date": (day(), "2026-06-30"), "transaction": (octets(1), "00"),
+    "unpredictable": (octets(4), "1A2B3C4D"), "floor": (money(6), "100.00"), "random": (small(), "50"), "target": (small(), "10"),
+    "threshold": (money(6), "50.00"), "maximum": (small(), "40"), "version": (octets(2), "0001"),
+    "denial": (octets(5), "0000000000"), "online": (octets(5), "0000008000"),
+    "default": (octets(5), "0000000000"), "aid": (identifier(), "A0000000031010"), "capabilities": (octets(3), "60E0C8"),
+}
+FIELDS = tuple((field.name, field.place, field.size, *FORMS[field.name]) for field in terminal.FIELDS)
 LONGEST = max(place + size for _, place, size, _, _ in FIELDS)
 
 

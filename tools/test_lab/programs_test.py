@@ -178,9 +178,10 @@ class Recover(Trial):
         self.check(self.bin("recover", PASS), 0, out="12 blocks found in 12 steps, 0 bytes after them\n")
 
     def test_lines_that_are_cut(self):
-        from lab.commands.recover import summary
+        from lab.recovery import summary
         good = [b"BLOCK 0 0 7 1 00\n", b"END 1 0\n"]
-        self.assertEqual(summary(good), (["1 blocks found in 1 steps, 0 bytes after them", "session 7: blocks 0"], True))
+        self.assertEqual(summary(good).lines(), ["1 blocks found in 1 steps, 0 bytes after them", "session 7: blocks 0"])
+        self.assertTrue(summary(good).whole())
         for lines in (good[:1], [good[0], b"END 1 0"], [good[0], b"END 1"], [good[0], b"END 1 \n"], [b"BLOCK 0 0 7 1 0\n", good[1]],
                       [good[1], good[0]], [], [b"BLOCK 0 0 7 1\n", good[1]], good + good, [b"BLOCK 3 0 7 1 00\n", good[1]]):
             self.assertIsNone(summary(lines), lines)
