@@ -44,6 +44,11 @@ def named(line):
     return name
 
 
+def printable(name):
+    """A name as text for the eye: as `shown` has it, and whatever a terminal might obey as \\xNN or \\uNNNN too."""
+    return "".join(one if one.isprintable() else one.encode("unicode_escape").decode() for one in text(shown(name)))
+
+
 def text(name):
     """A name as text; bytes that are no UTF-8 as \\xNN."""
     return os.fsencode(name).decode("utf-8", "backslashreplace")

@@ -15,7 +15,7 @@ Example:  bin/install /opt/lab && /opt/lab/bin/judge --samples
 Status:   0 installed; 2 not
 """
 PROGRAMS = ["lab_tapes", "judge_tape", "book_file", "recover_tape", "play", "exchange_t0", "exchange_t1", "read_atr", "hand_answer"]
-COMMANDS = ["judge", "campaign", "book", "recover", "play", "report", "run", "start", "card", "tape-from-log", "log-from-tape"]
+COMMANDS = ["judge", "explain", "campaign", "book", "recover", "play", "report", "run", "start", "card", "tape-from-log", "log-from-tape"]
 
 
 def copy_emulator(target):

@@ -11,7 +11,8 @@ import subprocess
 
 from trying import PASS, ROOT, SAMPLES, Trial, closed, program, without_kit
 
-COMMANDS = ("judge", "campaign", "book", "recover", "play", "run", "start", "card", "install")
+COMMANDS = ("judge", "explain", "campaign", "book", "recover", "play", "report", "run", "start", "card", "tape-from-log", "log-from-tape",
+            "install")
 START = re.compile(r"START ([0-9A-F]+)")
 
 
