@@ -140,12 +140,16 @@ def length_line(pair):
 
 
 def of_length(pair):
-    """Payloads of two lengths: bytes that are missing or too many at one place, or else the parts up to where the shorter ends."""
+    """Payloads of two lengths: bytes that are missing or too many at one place, where Lc may tell it, or else the parts up to where the
+    shorter ends."""
     due, stood, short = pair.due, pair.stood, min(len(pair.due), len(pair.stood))
+    length = [part for part in pair.parts if part.name == "Lc" and part.at < short and pair.places(part)]
+    for part in length:
+        due = due[:part.at] + stood[part.at:part.at + 1] + due[part.at + 1:]
     front = next((k for k in range(short) if due[k] != stood[k]), short)
     back = next((k for k in range(short - front) if due[-1 - k] != stood[-1 - k]), short - front)
     if front + back == short:
-        return [length_line(pair), one_gap(pair, front)]
+        return [length_line(pair), *of_parts(pair, length), one_gap(pair, front)]
     kept = [part for part in pair.parts if part.at + part.size <= short]
     return [length_line(pair), *of_parts(pair, kept), *rest_of(pair, kept)]
 

@@ -100,6 +100,14 @@ class Failing(Explaining):
         self.told(changed("approved-offline", 1, payload="00A4040007FFA000000003101000"),
                   f"differs 1 byte too many, offset 5, before AID. {COMMANDS}")
 
+    def test_an_entry_of_a_list_that_was_left_out(self):
+        """8C asks for 29 bytes: amount, other amount, country, TVR and so on. The other amount, six bytes at offset 11, is not there."""
+        asked = entries("approved-offline")[9][1]
+        self.assertEqual(asked[4:19].hex().upper(), "1D" + "000000001000" + "000000000000" + "0826")
+        self.told(changed("approved-offline", 9, payload=asked[:4] + b"\x17" + asked[5:11] + asked[17:]), f"""
+            differs length: 35 bytes were due, 29 stood there. {COMMANDS} differs Lc, offset 4: 1D was due, 17 stood there. {COMMANDS}
+            differs 6 bytes missing, offsets 11 to 16: 9F03(6) other amount. {COMMANDS} meaning""")
+
     def test_a_decision(self):
         """Of a session that approves with TVR 8000000000 and TSI 2800."""
         self.assertEqual(entries("approved-offline")[11][1].hex(), "010080000000002800")
