@@ -1,6 +1,6 @@
 """In what an entry that cannot be differs from what was due: each difference by name, with its sentence of the documents."""
 from lab import kinds
-from lab.explaining import deciding, deriving, lists, names
+from lab.explaining import deciding, deriving, lists, names, objects
 from lab.explaining.parts import Difference, Part, count, offsets
 from lab.explaining.words import WORDS
 
@@ -12,8 +12,8 @@ ANSWERS = "01, \"What the card must answer\""
 class Pair:
     """The bytes that were due and those that stood there, with what is hidden of them."""
 
-    def __init__(self, kind, due, stood, derived, hider):
-        self.kind, self.due, self.stood, self.derived = kind, due, stood, derived
+    def __init__(self, kind, due, stood, learnt, derived, hider):
+        self.kind, self.due, self.stood, self.learnt, self.derived = kind, due, stood, learnt, derived
         self.parts = derived.parts if derived else plain_parts(kind, due)
         spans = account_spans(self.parts)
         self.shown = hider.octets(due, spans), hider.octets(stood, spans)
@@ -49,7 +49,7 @@ def of_entry(due, stood, payload, learnt, derived, hider):
     if stood in WORDS:
         return WORDS[stood].faults(payload, learnt, due.get("count"))
     if "bytes" in due:
-        return of_bytes(Pair(stood, bytes.fromhex(due["bytes"]), payload, derived, hider))
+        return of_bytes(Pair(stood, bytes.fromhex(due["bytes"]), payload, learnt, derived, hider))
     return []
 
 
@@ -135,8 +135,18 @@ def other_command(pair):
 
 
 def length_line(pair):
-    were = "was" if len(pair.due) == 1 else "were"
-    return Difference("length", f"length: {count(len(pair.due), 'byte')} {were} due, {len(pair.stood) or 'none'} stood there", pair.source)
+    were, tag = "was" if len(pair.due) == 1 else "were", other_list(pair)
+    words = f"length: {count(len(pair.due), 'byte')} {were} due, {len(pair.stood) or 'none'} stood there"
+    return Difference("length", words + (f", as many as with {tag} instead of {pair.derived.list_tag}" if tag else ""), pair.source)
+
+
+def other_list(pair):
+    """Of a GENERATE AC: the other of the two lists, where it asks for as many bytes as stood there."""
+    for tag in deriving.LISTS if pair.derived and pair.derived.list_tag in deriving.LISTS else ():
+        wanted = objects.wanted(pair.learnt.facts.get(tag, b""))
+        if tag != pair.derived.list_tag and wanted and sum(size for _, size in wanted) == len(pair.stood) - 6:
+            return tag
+    return None
 
 
 def of_length(pair):

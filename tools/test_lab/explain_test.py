@@ -108,6 +108,11 @@ class Failing(Explaining):
             differs length: 35 bytes were due, 29 stood there. {COMMANDS} differs Lc, offset 4: 1D was due, 17 stood there. {COMMANDS}
             differs 6 bytes missing, offsets 11 to 16: 9F03(6) other amount. {COMMANDS} meaning""")
 
+    def test_the_other_list(self):
+        """At the first request the 11 bytes that 8D asks for: response code, TVR, number."""
+        self.told(changed("approved-offline", 9, payload="80AE40000B" + "0000" + "8000000000" + "1A2B3C4D" + "00"),
+                  f"differs length: 35 bytes were due, 17 stood there, as many as with 8D instead of 8C. {COMMANDS}")
+
     def test_a_decision(self):
         """Of a session that approves with TVR 8000000000 and TSI 2800."""
         self.assertEqual(entries("approved-offline")[11][1].hex(), "010080000000002800")
