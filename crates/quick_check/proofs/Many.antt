@@ -11,7 +11,7 @@ use borrow.Author.Tests.{ltb-false, le-ltb}
 use Rattle.slices.specs.Choice.{pick}
 use Rattle.slices.proofs.Choice.{pick-no, picked}
 use Rattle.tape_feed.specs.declared.Damage.{Damage}
-use Rattle.quick_check.specs.Damages.{damageIn, endOf, between, damagesFrom}
+use Rattle.quick_check.specs.Damages.{damageIn, endOf, tapeIn, damagesFrom}
 
 -- a tape ends not before it begins, and within the bytes
 pub end-within : (size from to : ℕ) → from ≤ size → (from ≤ endOf size from to) × (endOf size from to ≤ size)
@@ -34,14 +34,14 @@ module _ (f : Damage → ℕ) (bytes ends : List ℕ) where
   told from i out = sets out i (map f (damagesFrom from bytes (drop i ends)))
 
   pub told-next : (from i to : ℕ) (d : Damage) (out : List ℕ) → i < length ends → to ≡ endOf (length bytes) from (getD ends i 0)
-      → d ≡ damageIn (between from to bytes) → told to (i + 1) (set out i (f d)) ≡ told from i out
+      → d ≡ damageIn (tapeIn from to bytes) → told to (i + 1) (set out i (f d)) ≡ told from i out
   unfolding damagesFrom
   told-next from i to d out inside e found =
       ap (λ (k : ℕ). sets (set out i (f d)) k (map f (damagesFrom to bytes (drop k ends)))) (add-one i)
       ∙ (ap (λ (x : Damage). sets (set out i (f x)) (suc i) (map f (damagesFrom to bytes (drop (suc i) ends)))) found
       ∙ (ap
       (λ (t : ℕ).
-      sets (set out i (f (damageIn (between from t bytes)))) (suc i) (map f (damagesFrom t bytes (drop (suc i) ends))))
+      sets (set out i (f (damageIn (tapeIn from t bytes)))) (suc i) (map f (damagesFrom t bytes (drop (suc i) ends))))
       e
       ∙ ap (λ (es : List ℕ). sets out i (map f (damagesFrom from bytes es))) (sym (drop-cons ends i 0 inside))))
 
@@ -51,7 +51,7 @@ module _ (f : Damage → ℕ) (bytes ends : List ℕ) where
 
 -- the only tape there is
 pub only : (t : List ℕ) → damagesFrom 0 t (length t ∷ []) ≡ damageIn t ∷ []
-unfolding damagesFrom between
+unfolding damagesFrom tapeIn
 only t =
     ap (λ (e : ℕ). damageIn (take (e - 0) t) ∷ []) whole
     ∙ (ap (λ (n : ℕ). damageIn (take n t) ∷ []) same ∙ ap (λ (s : List ℕ). damageIn s ∷ []) (take-length t))

@@ -1,9 +1,10 @@
 -- What makes a tape unreadable: what `readTape` says of it, as place and code (01, "The tape"). And the same of each of many tapes that
 -- stand one behind the other (02, R-14). Assumes nothing.
-use mathlib.Core.List.{List, [], _∷_}
+use mathlib.Core.List.{List, [], _∷_, map}
 use Prim.Native.Nat.{ℕ, _-_}
 use lib.Dec.{ltb}
 use lib.ListN.{length, take, drop}
+use lib.Seq.{sets}
 use Rattle.slices.specs.Choice.{pick}
 use Rattle.tape_read.specs.Tapes.{Reading, entries, unreadable, readTape}
 use Rattle.tape_feed.specs.declared.Damage.{Damage}
@@ -24,11 +25,18 @@ unfoldable pub endOf : ℕ → ℕ → ℕ → ℕ
 endOf size from to = pick (ltb to from) from (pick (ltb size to) from to)
 
 -- the bytes from one place to another
-unfoldable pub between : ℕ → ℕ → List ℕ → List ℕ
-between from to bytes = take (to - from) (drop from bytes)
+unfoldable pub tapeIn : ℕ → ℕ → List ℕ → List ℕ
+tapeIn from to bytes = take (to - from) (drop from bytes)
 
 -- the damage of each tape, the first of which begins at a place, and each other where the one before it ends
 unfoldable pub damagesFrom : ℕ → List ℕ → List ℕ → List Damage
 damagesFrom from bytes [] = []
 damagesFrom from bytes (to ∷ ends) =
-    damageIn (between from (endOf (length bytes) from to) bytes) ∷ damagesFrom (endOf (length bytes) from to) bytes ends
+    damageIn (tapeIn from (endOf (length bytes) from to) bytes) ∷ damagesFrom (endOf (length bytes) from to) bytes ends
+
+-- a buffer that holds the place, or the code, of each tape at its index; where it ends before, those that are past its end are left out
+abbrev pub placesTold : List ℕ → List ℕ → List ℕ → List ℕ
+placesTold bytes ends out = sets out 0 (map (λ d. d .place) (damagesFrom 0 bytes ends))
+
+abbrev pub codesTold : List ℕ → List ℕ → List ℕ → List ℕ
+codesTold bytes ends out = sets out 0 (map (λ d. d .code) (damagesFrom 0 bytes ends))

@@ -13,13 +13,10 @@ use tape_read::TAPE;
 use tape_read::block_at;
 use tape_read::session;
 ghost use mathlib.Core.Path.{_≡_};
-ghost use mathlib.Core.List.{map};
-ghost use Prim.Native.Nat.{_*_, _%_, _/_};
 ghost use lib.ListN.{set};
-ghost use lib.Seq.{sets};
 ghost use Rattle.tape_read.specs.Tapes.{readFrom};
 ghost use Rattle.tape_feed.specs.Feeding.{damaged};
-ghost use Rattle.quick_check.specs.Damages.{damageSaid, damageIn, endOf, damagesFrom};
+ghost use Rattle.quick_check.specs.Damages.{damageSaid, damageIn, endOf, placesTold, codesTold};
 ghost use Rattle.quick_check.specs.Tables.{Rows, Behind};
 
 // The damage of one tape: of the only one there is.
@@ -36,9 +33,8 @@ pub fn damage(tape: &[u8]) -> Damage
 // The damage of each of many tapes that stand one behind the other, by the place where each ends: its place and its code at its index, as
 // far as the buffers go.
 pub fn damages(bytes: &[u8], ends: &[usize], places: &mut [usize], codes: &mut [usize])
-    ensures { λ _. let ds = damagesFrom 0 (now (bytes .entry)) (now (ends .entry)) in
-        ⌜ (now (places .exit) ≡ sets (now (places .entry)) 0 (map (λ d. d .place) ds))
-        × (now (codes .exit) ≡ sets (now (codes .entry)) 0 (map (λ d. d .code) ds)) ⌝ }
+    ensures { λ _. ⌜ (now (places .exit) ≡ placesTold (now (bytes .entry)) (now (ends .entry)) (now (places .entry)))
+        × (now (codes .exit) ≡ codesTold (now (bytes .entry)) (now (ends .entry)) (now (codes .entry))) ⌝ }
 {
     // Laid out once and lent: a constant is copied wherever it is named.
     let rows = ROWS;
@@ -55,9 +51,8 @@ fn each(
     behind: &[u32; 512],
 )
     requires { ⌜ Rows (now rows) × Behind (now behind) ⌝ }
-    ensures { λ _. let ds = damagesFrom 0 (now (bytes .entry)) (now (ends .entry)) in
-        ⌜ (now (places .exit) ≡ sets (now (places .entry)) 0 (map (λ d. d .place) ds))
-        × (now (codes .exit) ≡ sets (now (codes .entry)) 0 (map (λ d. d .code) ds)) ⌝ }
+    ensures { λ _. ⌜ (now (places .exit) ≡ placesTold (now (bytes .entry)) (now (ends .entry)) (now (places .entry)))
+        × (now (codes .exit) ≡ codesTold (now (bytes .entry)) (now (ends .entry)) (now (codes .entry))) ⌝ }
 {
     let mut from = 0;
     let mut i = 0;

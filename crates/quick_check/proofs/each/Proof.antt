@@ -6,7 +6,7 @@ use native.Mathlib.Omega.{arith}
 use borrow.Author.Needs.{needs}
 use lib.ListN.{length, getD, set, length-set}
 use Rattle.tape_feed.specs.declared.Damage.{Damage}
-use Rattle.quick_check.specs.Damages.{damageIn, between}
+use Rattle.quick_check.specs.Damages.{damageIn, tapeIn}
 use Rattle.quick_check.proofs.Many.{end-within, told, told-next, told-all}
 use Rattle.quick_check.proofs.each.Statement.{statement}
 use Rattle.quick_check.proofs.each.Tie as tie
@@ -40,7 +40,7 @@ within c =
     (omega (arith, c .end-of .ensures, w .0), omega (arith, c .end-of .ensures, w .1))
 
 loop-again : tie.Need-loop-again Inv-loop μ-loop
-unfolding between
+unfolding tapeIn
 loop-again c =
     let coded = c .before .before in
     let placed = coded .before .before .before .before in
@@ -51,7 +51,7 @@ loop-again c =
     let bytes = args .bytes .now in
     let ends = args .ends .now in
     let d = tape .of-tape .result in
-    let found : d ≡ damageIn (between (l .from) (end .end-of .result) bytes) = tape .of-tape .ensures in (
+    let found : d ≡ damageIn (tapeIn (l .from) (end .end-of .result) bytes) = tape .of-tape .ensures in (
       within end .1,
       omega arith,
       ap length (placed .store .ensures) ∙ (length-set (l .places) (l .i) (d .place) ∙ l .inv .2),
