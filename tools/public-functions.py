@@ -32,6 +32,9 @@ EXCEPTIONS = {
     "judge_reading judge_file": "all: of what comes from a file no contract can speak",
     "playing next": "all: of a file and of standard output no contract can speak",
     "playing answer": "all: of a file and of standard output no contract can speak",
+    "select_list joining::clear": "bytes behind the rows that count; the list that they read as, `listIn`, is an equation",
+    "select_list joining::join": "bytes behind the rows that count; the list that they read as, `listIn`, is an equation",
+    "select_list joining::remove": "bytes behind the rows that count; the list that they read as, `listIn`, is an equation",
 }
 
 HEAD = """# Every public function

@@ -15,4 +15,6 @@ returns c = c .part .ensures
     ∙ ap₂ (λ (n : ℕ) (room : List ℕ). take n room) (c .before .byte .ensures .0) (c .before .before .room .ensures)
 
 pub name-spec : {M : Type 1} → statement M
-name-spec = tie.close (tie.spec (λ c κs. search needs) (λ c κs. search needs) (λ c κs. search needs) returns)
+name-spec =
+    tie.close
+    (tie.spec (λ c κs. search needs) (λ c κs. search needs) (λ c κs. search needs) returns)

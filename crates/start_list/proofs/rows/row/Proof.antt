@@ -14,4 +14,6 @@ returns c =
     c .part .ensures ∙ sym (past-end 18 (18 * a .k) (a .s .now) (omega arith))
 
 pub row-spec : {M : Type 1} → statement M
-row-spec = tie.close (tie.spec (λ c κs. search needs) returns (λ c. search needs) (λ c κs. search needs) (λ c. search needs))
+row-spec =
+    tie.close
+    (tie.spec (λ c κs. search needs) returns (λ c. search needs) (λ c κs. search needs) (λ c. search needs))

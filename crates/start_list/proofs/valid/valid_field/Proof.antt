@@ -23,7 +23,8 @@ small row = simp length-take (omega arith)
 -- what stands behind the AID
 behind : (c : tie.After-zeros-only)
     → c .zeros-only .result
-    ≡ zerosOnly (drop (c .before .before .before .before .before .byte .result) (roomIn (c .before .before .before .before .before .before .before .args .f .now)))
+    ≡ zerosOnly (drop (c .before .before .before .before .before .byte .result)
+    (roomIn (c .before .before .before .before .before .before .before .args .f .now)))
 behind c =
     let f = c .before .before .before .before .before .before .before .args .f .now in
     let n = c .before .before .before .before .before .byte .result in

@@ -28,7 +28,8 @@ abbrev μ-loop : tie.MeasureT-loop
 found : (c : tie.After-valid-field Inv-loop μ-loop)
     → c .before .before .before .before .loop .k < countIn (c .before .before .before .before .before .before .before .args .s .now)
     → c .valid-field .result
-    ≡ validField (getD (used (c .before .before .before .before .before .before .before .args .s .now)) (c .before .before .before .before .loop .k) [])
+    ≡ validField (getD (used (c .before .before .before .before .before .before .before .args .s .now))
+    (c .before .before .before .before .loop .k) [])
 found c h =
     let s = c .before .before .before .before .before .before .before .args .s .now in
     let k = c .before .before .before .before .loop .k in

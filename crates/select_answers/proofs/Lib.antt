@@ -1,0 +1,4 @@
+pub mod Values
+pub mod Selected
+pub mod Entries
+pub mod Worked

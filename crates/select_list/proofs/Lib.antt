@@ -1,0 +1,11 @@
+pub mod Bytes
+pub mod InRows
+pub mod Placing
+pub mod Keeping
+pub mod Rowing
+pub mod Standing
+pub mod Counting
+pub mod Filling
+pub mod Made
+pub mod InOrder
+pub mod Worked
