@@ -148,10 +148,9 @@ def write_new(name, data, over=True):
             file.flush()
             os.fsync(file.fileno())
         os.chmod(temporary, 0o644)
-        if over:
-            return os.replace(temporary, name)
-        os.link(temporary, name)
-        os.unlink(temporary)
+        if not over:
+            os.close(os.open(name, os.O_WRONLY | os.O_CREAT | os.O_EXCL | os.O_CLOEXEC))
+        os.replace(temporary, name)
     except BaseException:
         os.unlink(temporary)
         raise

@@ -13,7 +13,7 @@ the same tape again under the same session number. Where a format wants what no 
 cannot say is refused: a command without bytes or without an answer in the middle, an answer without a status. LOG and FILE are new,
 unless --over says that they may be written over.
 
-Example:  bin/log-from-tape --format scriptor --side night.side samples/online-pin.tape night.log
+Example:  bin/log-from-tape --format scriptor --side /tmp/session.side samples/online-pin.tape /tmp/session.log
 Status:   0 both are written; 2 not
 """
 
@@ -47,7 +47,11 @@ def main(asked):
         raise Undone(f"{text(tape)}: {why}") from None
     over = bool(asked.get("--over"))
     files.write_new(side, beside.encode(), over)
-    files.write_new(log, lines.encode(), over)
+    try:
+        files.write_new(log, lines.encode(), over)
+    except OSError:
+        os.unlink(side)
+        raise
     voice.line(f"session {session}, {len(exchanges)} exchanges: ", text(log))
 
 

@@ -9,8 +9,8 @@ USAGE = """
 bin/report [--by folder|name] [--title TEXT] [--books NAME] VERDICTS.jsonl OUT.html    a report of what bin/judge --jsonl has written
 
 OUT.html is one file without script that fetches nothing: the four counts and what each means, how many tapes are evidence for nothing,
-each terminal with its tapes in order, the worst first, failures by what was due and what stood there, unfinished tapes by what was waited
-for, damaged ones by code, and where all of it comes from. The same list gives the same file, byte for byte.
+each terminal, the worst first, with its tapes in the order of their numbers, failures by what was due and what stood there, unfinished
+tapes by what was waited for, damaged ones by code, and where all of it comes from. The same list gives the same file, byte for byte.
 
 --by folder    a tape belongs to the terminal that its folder is named after, without what all folders have in common; so if not said
 --by name      .. or that its own name begins with, without the digits before .tape: aster-T4-000417.tape is a tape of aster-T4

@@ -22,7 +22,7 @@ the tape's order, a line each:
 Nothing is made up: no decision, no silence and no status that neither of the two says. SESSION is the tape's session number. TAPE is new,
 unless --over says that it may be written over; then it is judged, and the judge's line is printed. bin/log-from-tape goes the other way.
 
-Example:  bin/tape-from-log --format scriptor --side night.side night.log night.tape 7
+Example:  bin/tape-from-log --format pcscd --side samples/online-over-t0.side samples/online-over-t0.log /tmp/session.tape 7
 Status:   0 the tape is written and is PASS; 1 it is not PASS; 2 no tape was written, or it could not be judged
 """
 
@@ -50,11 +50,11 @@ def format_asked(asked):
 
 def exchanges_of(name, log, side):
     """The exchanges of a log as the terminal had them."""
-    form = log_formats.FORMATS[name]()
+    form, lines = log_formats.FORMATS[name](), text_of(log)
     if side.level == "TPDU" and not form.tpdu:
         raise Undone(f"LEVEL TPDU: a log of {name} has whole commands")
     try:
-        found, protocol = form.read(text_of(log))
+        found, protocol = form.read(lines)
         if side.level == "TPDU" and protocol == "1":
             raise Undone("LEVEL TPDU: the log says T=1")
         if side.level == "TPDU":

@@ -1,7 +1,7 @@
 """bin/tape-from-log and bin/log-from-tape: what the log and the side file say, and nothing else."""
 import os
 
-from lab import log_formats, log_side, log_t0, tapes
+from lab import files, log_formats, log_side, log_t0, tapes
 from lab.log_reading import Exchange, NotOfTheFormat
 from lab.words import Undone
 from trying import PASS, SAMPLES, UNREADABLE, Trial, closed, limited
@@ -266,6 +266,11 @@ class NothingMadeUp(LogTrial):
 class T0(LogTrial):
     LEVEL = "LEVEL TPDU\nLE 00"
 
+    def test_the_sample(self):
+        names = (SAMPLES / "online-over-t0.side", SAMPLES / "online-over-t0.log")
+        self.check(self.bin("tape-from-log", "--format", "pcscd", "--side", *names, "a.tape", "7"), 0, out="a.tape PASS 15 0 0\n")
+        self.assertEqual((self.folder / "a.tape").read_bytes(), (SAMPLES / "online-approved.tape").read_bytes())
+
     def test_every_sample(self):
         """The layer's own turns are put together by exchange_t0; the tape is the sample's, byte for byte."""
         for path in READABLE:
@@ -375,4 +380,11 @@ class Files(LogTrial):
         self.check(self.bin("log-from-tape", "--format", "pcscd", "--side", "x", "odd", "x"), 2, err="two files")
         done = self.bin("log-from-tape", "--format", "pcscd", "--side", "y", "odd", "z", preexec_fn=limited(100))
         self.check(done, 2, err="File too large")
-        self.assertFalse((self.folder / "z").exists())
+        self.assertFalse((self.folder / "z").exists() or (self.folder / "y").exists())
+
+    def test_a_file_that_came_meanwhile(self):
+        """Between the look and the writing somebody else has written the tape."""
+        self.tape("a.tape", b"mine")
+        with self.assertRaises(FileExistsError):
+            files.write_new(os.fsencode(self.folder / "a.tape"), b"other", over=False)
+        self.assertEqual([(path.name, path.read_bytes()) for path in self.folder.iterdir()], [("a.tape", b"mine")])

@@ -45,12 +45,21 @@ class Page(html.parser.HTMLParser):
 
     def __init__(self, data):
         super().__init__()
-        self.tags, self.attributes, self.text = set(), [], ""
+        self.tags, self.attributes, self.text, self.open = set(), [], "", []
         self.feed(data.decode())
 
     def handle_starttag(self, tag, attributes):
+        self.handle_startendtag(tag, attributes)
+        if tag not in ("meta", "br"):
+            self.open.append(tag)
+
+    def handle_startendtag(self, tag, attributes):
         self.tags.add(tag)
         self.attributes += [(tag, *one) for one in attributes]
+
+    def handle_endtag(self, tag):
+        if self.open.pop() != tag:
+            raise ValueError(f"{tag} ends where it is not open")
 
     def handle_data(self, data):
         self.text += data if self.lasttag != "style" else ""
@@ -71,6 +80,7 @@ class ReportTrial(Trial):
         data = (self.folder / name).read_bytes()
         page = Page(data)
         self.assertLessEqual(page.tags, TAGS)
+        self.assertEqual(page.open, [])
         for tag, name, value in page.attributes:
             self.assertFalse(name.startswith("on") or name in ("src", "href", "srcset", "style", "action"), (tag, name, value))
         self.assertNotIn(b"<script", data.lower())
@@ -173,7 +183,8 @@ class Lines(ReportTrial):
 
     def test_members_that_are_not_of_the_form(self):
         wrong = [("PASS", dict(verdict="pass")), ("PASS", dict(verdict="OK")), ("PASS", dict(verdict=None)),
-                 ("PASS", dict(verdict=["PASS"])), ("PASS", dict(place=-1)), ("PASS", dict(place="12")), ("PASS", dict(place=1.0)), ("PASS", dict(place=True)),
+                 ("PASS", dict(verdict=["PASS"])), ("PASS", dict(place=-1)), ("PASS", dict(place="12")), ("PASS", dict(place=1.0)),
+                 ("PASS", dict(place=True)),
                  ("PASS", dict(place=2 ** 64)), ("PASS", dict(place=None)), ("PASS", dict(code=3)), ("PASS", dict(zeros=None)),
                  ("PASS", dict(number=2 ** 32)), ("PASS", dict(number="7")), ("PASS", dict(session=-1)), ("PASS", dict(bytes=None)),
                  ("PASS", dict(sha256=None)), ("PASS", dict(sha256="0" * 63)), ("PASS", dict(sha256="A" * 64)), ("PASS", dict(judge="")),
@@ -246,7 +257,8 @@ class NothingVanishes(ReportTrial):
 
 class FromOutside(ReportTrial):
     NAMES = [b"<script>alert(1)</script>.tape", b"\"><img src=x onerror=alert(1)>.tape", b"a&b&lt;.tape", b"line\nfeed.tape",
-             b"nul\\x00.tape", b"not utf-8 \xff\xfe.tape", "\u202egnp.tape".encode(), "日本 ä.tape".encode(), b"\x1b[31mred.tape", b"'quoted' `x`.tape",
+             b"nul\\x00.tape", b"not utf-8 \xff\xfe.tape", "\u202egnp.tape".encode(), "日本 ä.tape".encode(),
+             b"\x1b[31mred.tape", b"'quoted' `x`.tape",
              b"<!-- -->.tape", b"]]>.tape", b"</style><b>.tape", b"x" * 255, b"javascript:alert(1).tape"]
 
     def test_names_of_every_kind(self):
