@@ -62,6 +62,15 @@ def error_box(night):
             f"{more(count, LISTED_ERRORS)}</details></div>")
 
 
+def missing_box(names, expected):
+    """What is said where the list has not as many tapes as there must be."""
+    if expected is None or names == expected:
+        return ""
+    few = f"{tapes_word(expected - names)} of {expected:,} not in this list."
+    return (f'<div class="box strong"><b>{few if names < expected else tapes_word(names - expected) + " too many."}</b> There must be '
+            f"{expected:,}, and the list has {names:,}: what is said here is not said of the whole night.</div>")
+
+
 def more(count, listed):
     return f'<p class="more">and {count - listed:,} more, which stand in the list of findings</p>' if count > listed else ""
 
@@ -156,13 +165,13 @@ def foot(told):
     return f'<h2>Where this comes from</h2><table class="foot"><tbody>{rows}</tbody></table>'
 
 
-def page(title, night, by, told):
-    """The whole file, as bytes."""
+def page(title, night, by, told, expected=None):
+    """The whole file, as bytes. `expected` is how many tapes there must be, where that is known."""
     terminals, named = report_tapes.terminals(night, by)
     counts = report_tapes.counts(night.tapes)
     of = f"{tapes_word(len(night.tapes))} of {len(terminals):,} terminal{'' if len(terminals) == 1 else 's'}"
-    body = [f'<h1>{safe(title)}</h1><p class="sub">{of}</p>', report_strips.PATTERNS, cards(counts), evidence_box(counts), error_box(night),
-            notes_box(night), terminals_table(terminals, bool(night.errors))]
+    body = [f'<h1>{safe(title)}</h1><p class="sub">{of}</p>', report_strips.PATTERNS, cards(counts), missing_box(len(named), expected),
+            evidence_box(counts), error_box(night), notes_box(night), terminals_table(terminals, bool(night.errors))]
     body += [group_lists(night, verdict, named) for verdict in report_strips.LANES]
     head = f"{HEAD}<title>{safe(title)}</title>\n<style>{STYLE}</style>\n</head>\n"
     return "\n".join([head + "<body>", *filter(None, body), foot(told), "</body>\n</html>\n"]).encode()

@@ -2,11 +2,12 @@
 import gc
 import os
 
-from lab import books, files, programs, report_page, report_style, report_tapes, verdicts
+from lab import books, files, numbers, programs, report_page, report_style, report_tapes, verdicts
 from lab.words import NOT_ALL, UNDONE, Undone, command, text, voice
 
 USAGE = """
-bin/report [--by folder|name] [--title TEXT] [--books NAME] VERDICTS.jsonl OUT.html    a report of what bin/judge --jsonl has written
+bin/report [--by folder|name] [--title TEXT] [--tapes N] [--books NAME] VERDICTS.jsonl OUT.html
+                      a report of what bin/judge --jsonl has written
 
 OUT.html is one file without script that fetches nothing: the four counts and what each means, how many tapes are evidence for nothing,
 each terminal, the worst first, with its tapes in the order of their numbers, failures by what was due and what stood there, unfinished
@@ -15,6 +16,7 @@ tapes by what was waited for, damaged ones by code, and where all of it comes fr
 --by folder    a tape belongs to the terminal that its folder is named after, without what all folders have in common; so if not said
 --by name      .. or that its own name begins with, without the digits before .tape: aster-T4-000417.tape is a tape of aster-T4
 --title TEXT   what stands at the top; the list's own name if not said
+--tapes N      so many tapes there must be, judged or not: where the list has another number of names, that is said at the top
 --books NAME   a book, or a campaign's folder: its books are asked for their counts, and stand in the foot with their sha256
 
 A tape is a name with a sha256. Lines that say the same of one are one tape; of lines that disagree about the same bytes the worst counts;
@@ -23,7 +25,8 @@ strictly: one that is not of the form is named with its number, and no report is
 any other file there is left alone.
 
 Example:  bin/judge --jsonl night.jsonl /data/night; bin/report night.jsonl night.html
-Status:   0 every tape is PASS; 1 some tape is not; 2 some tape could not be judged, lines disagree, or no report could be written
+Status:   0 every tape is PASS; 1 some tape is not; 2 some tape could not be judged or is missing, lines disagree, or no report could
+          be written
 """
 
 
@@ -75,10 +78,30 @@ def origin(source, listed, night, named):
     return told + ([("books", book_lines(named))] if named else [])
 
 
+def number_asked(asked):
+    try:
+        return numbers.number(asked.get("--tapes")) if "--tapes" in asked.options else None
+    except numbers.NoNumber as why:
+        raise Undone(f"--tapes: {why}") from None
+
+
+def conclude(night, expected):
+    """The status that a night comes to, and a line on standard error where something is missing."""
+    counts, left = report_tapes.counts(night.tapes), len(night.errors) - night.settled
+    names = len({line.name for line in (*night.tapes, *night.errors)})
+    if len(night.tapes) != counts["PASS"]:
+        voice.worse(NOT_ALL)
+    if left or night.disputed or expected not in (None, names):
+        voice.worse(UNDONE)
+        missing = "" if expected is None else f", {names} of {expected} tapes in the list"
+        voice.note(f"{left} not judged, {len(night.disputed)} judged differently{missing}: the report says so")
+    return " ".join(f"{verdict} {count}" for verdict, count in counts.items())
+
+
 def main(asked):
     if len(asked.rest) != 2:
         raise Undone("the list of findings and the report's name are needed, in this order (--help)")
-    by, (source, out) = asked.get("--by", b"folder"), asked.rest
+    by, (source, out), expected = asked.get("--by", b"folder"), asked.rest, number_asked(asked)
     if by not in (b"folder", b"name"):
         raise Undone(f"--by {text(by)}: a terminal is known by folder or by name")
     take_old(out, source)
@@ -87,17 +110,9 @@ def main(asked):
     listed = verdicts.read(source)
     night = report_tapes.gathered(listed.lines)
     told = origin(source, listed, night, asked.get("--books"))
-    files.write_new(out, report_page.page(text(asked.get("--title", os.path.basename(source))), night, by, told))
-    counts = report_tapes.counts(night.tapes)
-    left = len(night.errors) - night.settled
-    if len(night.tapes) != counts["PASS"]:
-        voice.worse(NOT_ALL)
-    if left or night.disputed:
-        voice.worse(UNDONE)
-        voice.note(f"{left} not judged, {len(night.disputed)} judged differently: the report says which")
-    said = " ".join(f"{verdict} {count}" for verdict, count in counts.items())
-    voice.line(f"{said} TOTAL {len(night.tapes)}: ", text(out))
+    files.write_new(out, report_page.page(text(asked.get("--title", os.path.basename(source))), night, by, told, expected))
+    voice.line(f"{conclude(night, expected)} TOTAL {len(night.tapes)}: ", text(out))
 
 
 def start():
-    command(USAGE, [books.PROGRAM], main, valued=("--by", "--title", "--books"))
+    command(USAGE, [books.PROGRAM], main, valued=("--by", "--title", "--tapes", "--books"))

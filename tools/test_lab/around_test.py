@@ -135,9 +135,8 @@ class Night(Trial):
         self.night()
         done = self.shell(self.block("With GNU parallel", "parallel --pipe").replace("-N 2000", "-N 7"))
         self.assertEqual(len(self.lines()), 30, done)
-        said = done.stdout.decode().split()
-        self.assertEqual([word for word in said if word == "30"], ["30", "30"], done)
-        self.assertTrue((self.folder / "night.html").exists())
+        self.assertEqual((done.returncode, done.stdout.split(b" TOTAL ")[1]), (1, b"30: night.html\n"), done)
+        self.assertNotIn("There must be", (self.folder / "night.html").read_text())
 
     def test_signing(self):
         if not shutil.which("minisign"):

@@ -242,6 +242,17 @@ class NothingVanishes(ReportTrial):
         page, _ = self.report(2, finding("b/2.tape", "ERROR"))
         self.assertIn("b/2.tape: cannot be opened: gone", page.text)
 
+    def test_tapes_that_are_not_in_the_list(self):
+        lines = (finding("a/1.tape"), finding("a/2.tape"), finding("a/2.tape", sha256="0" * 64))
+        page, _ = self.report(0, *lines, words=("--tapes", "2"))
+        self.assertNotIn("There must be", page.text)
+        page, _ = self.report(2, *lines, words=("--tapes", "5"), err="2 of 5 tapes in the list")
+        self.assertIn("3 tapes of 5 not in this list.", page.text)
+        page, _ = self.report(2, *lines, words=("--tapes", "1"))
+        self.assertIn("1 tape too many.", page.text)
+        for number in ("x", "", "-1", "4294967296"):
+            self.check(self.bin("report", "--tapes", number, "night.jsonl", "other.html"), 2, err="--tapes: ")
+
     def test_an_error_is_settled_by_a_later_line_alone(self):
         page, _ = self.report(0, finding("a/1.tape", "ERROR"), finding("a/1.tape"))
         self.assertIn("1 of them came to a verdict", page.text)
