@@ -197,7 +197,7 @@ fn sizes() -> Vec<Damage> {
 }
 
 /// Lets good blocks follow until there are `blocks`, and `tail` bytes more.
-fn grown(blocks: usize, tail: usize) -> Damage {
+pub fn grown(blocks: usize, tail: usize) -> Damage {
     damage(&format!("{blocks} blocks and {tail} bytes"), move |tape, r| {
         if tape.len() < BLOCK {
             return;

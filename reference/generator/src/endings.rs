@@ -1,5 +1,6 @@
 //! All ways to change the entries of a session that has been played.
 
+mod choices;
 mod ending;
 pub mod entries;
 mod orders;
@@ -7,8 +8,10 @@ mod payloads;
 mod results;
 mod starts;
 
+pub use choices::choices;
 pub use ending::Ending;
 pub use entries::at_every_entry;
+pub use orders::filled_up_to;
 pub use results::{results, without_capabilities};
 
 use crate::random::Random;

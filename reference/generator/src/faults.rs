@@ -1,6 +1,7 @@
 //! All ways to bend an answer.
 
 mod anywhere;
+mod choosing;
 mod cryptogram;
 mod elsewhere;
 mod options;
@@ -8,6 +9,7 @@ mod record;
 mod select;
 
 pub use anywhere::anywhere;
+pub use choosing::choosing;
 pub use cryptogram::cryptogram;
 pub use options::options;
 pub use record::{record, verification};

@@ -1,30 +1,18 @@
 //! What is made: a table that goes through everything once, and free mixes.
 
 mod chance;
+mod choosing;
 pub mod scenario;
 mod sessions;
+mod stock;
+mod table;
 mod tapes;
 mod verified;
 
 pub use chance::by_chance;
+pub use choosing::choosing_by_chance;
 pub use scenario::Scenario;
+pub use stock::{by_chance_of, Stock};
 
-use sessions::{faults, outcomes, second_lists, tweaked};
-use tapes::{counted_tapes, damaged, ended, long_tapes, longest};
-use verified::verification;
-
-pub fn systematic() -> Vec<Scenario> {
-    [
-        outcomes(),
-        faults(),
-        tweaked(),
-        second_lists(),
-        longest(),
-        ended(),
-        damaged(),
-        counted_tapes(),
-        long_tapes(),
-        verification(),
-    ]
-    .concat()
-}
+#[cfg(test)]
+pub use {choosing::longest as longest_with_list, stock::scenario_for, table::systematic};

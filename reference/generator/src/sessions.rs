@@ -2,11 +2,13 @@
 //! and its answers, ways to change them, and the plan that has it all. Each
 //! module uses only those above it.
 
+pub mod nodes;
+
+pub mod applications;
 pub mod start;
 
 pub mod lists;
 pub mod locators;
-pub mod nodes;
 pub mod verification;
 
 pub mod card;

@@ -1,17 +1,23 @@
 //! Made tapes.
 
 use crate::random::Random;
-use crate::scenarios::{by_chance, systematic, Scenario};
+use crate::scenarios::{Scenario, Stock};
 use crate::sessions::plan::{play, Item};
-use rules::judge::judge;
-use rules::tape::{Entry, Writer, BLOCK, MOST_BLOCKS};
+use rules::edition::Edition;
+use rules::judge::judge_by;
+use rules::tape::{Entry, Writer};
 use std::io::{self, Write};
 use std::path::Path;
 
 /// The tape of some entries, as many as a tape can hold.
+#[cfg(test)]
 pub fn tape_of(items: &[Item], session: u32) -> Vec<u8> {
-    let mut writer = Writer::new(session, MOST_BLOCKS * BLOCK);
-    for item in items.iter().take(MOST_BLOCKS) {
+    tape_by(Edition::default(), items, session)
+}
+
+pub fn tape_by(edition: Edition, items: &[Item], session: u32) -> Vec<u8> {
+    let mut writer = Writer::by(edition, session, edition.longest_tape());
+    for item in items.iter().take(edition.most_blocks()) {
         // Made entries have a good kind and size, so nothing is refused.
         let _ = writer.add(Entry { kind: item.kind, payload: &item.payload });
     }
@@ -27,39 +33,33 @@ pub fn made_tape(scenario: &Scenario, r: &mut Random) -> Vec<u8> {
         }
     }
     let session = *r.pick(&[0, 1, 7, 0x0102_0304, 0x8000_0000, u32::MAX]);
-    let mut bytes = tape_of(&items, session);
+    let mut bytes = tape_by(scenario.plan.edition, &items, session);
     for damage in &scenario.damages {
         (damage.apply)(&mut bytes, r);
     }
     bytes
 }
 
-/// The first tapes go through all scenarios once; after that every second
-/// one is a scenario by chance and the others are mixed freely.
-pub fn scenario_for(index: usize, all: &[Scenario], r: &mut Random) -> Scenario {
-    if index < all.len() {
-        all[index].clone()
-    } else if index.is_multiple_of(2) {
-        r.pick(all).clone()
-    } else {
-        by_chance(r)
-    }
-}
-
 /// Makes `count` tapes in a folder. Prints name and verdict of each; `list`
 /// gets name and label.
-pub fn make(folder: &Path, count: usize, seed: u64, list: Option<&Path>) -> io::Result<()> {
+pub fn make(
+    edition: Edition,
+    folder: &Path,
+    count: usize,
+    seed: u64,
+    list: Option<&Path>,
+) -> io::Result<()> {
     std::fs::create_dir_all(folder)?;
-    let all = systematic();
+    let stock = Stock::of(edition);
     let mut out = io::BufWriter::new(io::stdout().lock());
     let mut labels = String::new();
     for index in 0..count {
         let mut r = Random::nth(seed, index as u64);
-        let scenario = scenario_for(index, &all, &mut r);
+        let scenario = stock.scenario(index, &mut r);
         let bytes = made_tape(&scenario, &mut r);
         let name = format!("{:06}.tape", index + 1);
         std::fs::write(folder.join(&name), &bytes)?;
-        writeln!(out, "{name} {}", judge(&bytes))?;
+        writeln!(out, "{name} {}", judge_by(edition, &bytes))?;
         let reason = scenario.reason.map(|n| format!(" (reason {n})")).unwrap_or_default();
         labels.push_str(&format!("{name} {}{reason}\n", scenario.label));
     }
@@ -73,8 +73,13 @@ pub fn make(folder: &Path, count: usize, seed: u64, list: Option<&Path>) -> io::
 #[cfg(test)]
 mod tests {
     use super::*;
+    use crate::scenarios::{
+        by_chance, choosing_by_chance, longest_with_list, scenario_for, systematic,
+    };
     use rules::due::Account;
-    use rules::feed::judge_fed;
+    use rules::feed::{judge_fed, judge_fed_by};
+    use rules::judge::judge;
+    use rules::tape::CHOICE;
 
     /// The reason byte a played session ends with.
     fn reason(items: &[Item]) -> u8 {
@@ -133,5 +138,58 @@ mod tests {
             assert_eq!(judge(&bytes), judge_fed(&bytes), "{}", scenario.label);
             assert_eq!(judge(&bytes), Account::of(&bytes).judgement, "{}", scenario.label);
         }
+    }
+
+    fn has_list(bytes: &[u8]) -> bool {
+        bytes.get(10..12) == Some(&[0, 207])
+    }
+
+    fn has_choice(bytes: &[u8]) -> bool {
+        bytes.chunks(512).any(|block| block.get(8) == Some(&CHOICE))
+    }
+
+    /// 02, R-12: half of the tapes have a list, a quarter of these a choice.
+    #[test]
+    fn lists_and_choices_occur() {
+        let stock = Stock::of(Edition::Choosing);
+        let (mut lists, mut choices) = (0, 0);
+        for index in (0..8000).step_by(3) {
+            let mut r = Random::nth(12, index as u64);
+            let scenario = stock.scenario(index, &mut r);
+            let bytes = made_tape(&scenario, &mut r);
+            let judged = judge_by(Edition::Choosing, &bytes);
+            assert_eq!(judged, judge_fed_by(Edition::Choosing, &bytes), "{}", scenario.label);
+            let account = Account::by(Edition::Choosing, &bytes);
+            assert_eq!(judged, account.judgement, "{}", scenario.label);
+            lists += usize::from(has_list(&bytes));
+            choices += usize::from(has_list(&bytes) && has_choice(&bytes));
+        }
+        assert!(lists > 1200 && choices * 4 > lists, "{lists} {choices}");
+    }
+
+    /// 02, R-12: every way to choose is a session, with its beginnings.
+    #[test]
+    fn sessions_with_a_list_pass() {
+        let mut ends = [0; 13];
+        for index in 0..500 {
+            let mut r = Random::nth(4, index);
+            let items = play(&choosing_by_chance(&mut r).plan, &mut r);
+            ends[usize::from(reason(&items))] += 1;
+            let step = 1 + items.len() / 30;
+            for count in (0..items.len()).step_by(step).chain([items.len()]) {
+                let tape = tape_by(Edition::Choosing, &items[..count], 1);
+                let verdict = judge_by(Edition::Choosing, &tape).to_string();
+                let word = if count == items.len() { "PASS" } else { "INCONCLUSIVE" };
+                assert!(verdict.starts_with(&format!("{word} {count} 0 ")), "{verdict}");
+            }
+        }
+        assert!([0, 1, 2, 9, 11, 12].iter().all(|&end| ends[end] > 0), "{ends:?}");
+    }
+
+    /// 02, R-12: 1 + 200 + 94 choices + 2 + 1,000 + RESULTS + 2 + HOST + 2 + 1.
+    #[test]
+    fn the_longest_session_with_a_list_has_1304_entries() {
+        let items = play(&longest_with_list().plan, &mut Random::nth(1, 1));
+        assert_eq!((items.len(), reason(&items)), (1304, 0));
     }
 }

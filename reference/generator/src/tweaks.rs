@@ -1,5 +1,6 @@
 //! All ways to set up terminal and card.
 
+pub mod applications;
 mod asked;
 mod cards;
 mod dates;

@@ -3,11 +3,13 @@
 
 use crate::console::{bytes_of, each_line, Outcome};
 use crate::play::reply_line;
+use crate::selection::{application_line, directory_file_line, directory_line};
 use rules::answers::{
-    read_cryptogram, read_options, read_select, CardData, Reason, BAD_LIST, MISSING, NOT_ALLOWED,
-    RECORD_TAGS,
+    data_field, read_cryptogram, read_options, read_select, CardData, Reason, BAD_LIST, MISSING,
+    NOT_ALLOWED, RECORD_TAGS,
 };
 use rules::decide::{first_allows, second_allows, Cryptogram};
+use rules::edition::Edition;
 use rules::hex;
 use rules::kernel::{Event, Reply, Session};
 use rules::lists::{fill, Known};
@@ -121,8 +123,24 @@ fn answer_line(line: &str) -> Result<String, String> {
     }
 }
 
-pub fn read_answers() -> Outcome {
-    each_line(|line| answer_line(line).map(Some))
+/// `PSE ANSWER`, `DIRECTORY ANSWER`, `APPLICATION ANSWER`: what is read of the
+/// data, whatever the status (02, R-12). Nothing for other questions.
+fn selection_line(line: &str) -> Result<Option<String>, String> {
+    let words: Vec<&str> = line.split_whitespace().collect();
+    let (read, answer): (fn(&[u8]) -> String, _) = match words[..] {
+        ["PSE", answer] => (directory_file_line, answer),
+        ["DIRECTORY", answer] => (directory_line, answer),
+        ["APPLICATION", answer] => (application_line, answer),
+        _ => return Ok(None),
+    };
+    Ok(Some(read(data_field(&bytes_of(answer)?))))
+}
+
+pub fn read_answers(edition: Edition) -> Outcome {
+    each_line(|line| {
+        let told = if edition == Edition::Choosing { selection_line(line)? } else { None };
+        told.map_or_else(|| answer_line(line), Ok).map(Some)
+    })
 }
 
 #[cfg(test)]

@@ -4,6 +4,7 @@
 
 use crate::console::Outcome;
 use crate::json::{self, Value};
+use rules::edition::Edition;
 use rules::hex;
 use rules::kernel::{Event, Reply, Session};
 
@@ -12,6 +13,8 @@ pub const ANSWER: &str = "ANSWER";
 pub const SILENCE: &str = "SILENCE";
 pub const HOST: &str = "HOST";
 pub const RESULTS: &str = "RESULTS";
+/// 02, R-12.
+pub const CHOICE: &str = "CHOICE";
 
 /// A call before it is made.
 #[derive(Clone, Debug, PartialEq, Eq)]
@@ -28,6 +31,7 @@ impl Call {
             ANSWER => Event::Answer(&self.payload),
             HOST => Event::Host(&self.payload),
             RESULTS => Event::Results(&self.payload),
+            CHOICE => Event::Choice(&self.payload),
             _ => Event::Silence,
         };
         session.step(self.room, event)
@@ -60,6 +64,7 @@ fn reply_text(reply: &Reply) -> String {
         Reply::Command(bytes) => format!("[\"command\", \"{}\"]", lower(bytes)),
         Reply::HostDue => "[\"host\"]".to_string(),
         Reply::ResultsDue(number) => format!("[\"results\", {number}]"),
+        Reply::ChoiceDue(shown) => format!("[\"choice\", {shown}]"),
         Reply::Decision(bytes) => format!("[\"decision\", \"{}\"]", lower(bytes)),
         Reply::Closed => "[\"closed\"]".to_string(),
         Reply::Refused(number) => format!("[\"refused\", {number}]"),
@@ -84,7 +89,7 @@ pub fn session_line(number: usize, calls: &[Made]) -> String {
 
 /// The call and the reply it should get, as text.
 fn read_call(value: &Value) -> Option<(Call, String)> {
-    let names = [START, ANSWER, SILENCE, HOST, RESULTS];
+    let names = [START, ANSWER, SILENCE, HOST, RESULTS, CHOICE];
     let event = value.get("event")?.text()?;
     let call = Call {
         event: names.into_iter().find(|name| *name == event)?,
@@ -106,11 +111,11 @@ fn with_sum(reply: String, sum: Option<u64>) -> String {
 }
 
 /// Plays one line again: calls made, and those whose reply differs.
-fn replay(line: &str) -> Option<(usize, Vec<String>)> {
+fn replay_by(edition: Edition, line: &str) -> Option<(usize, Vec<String>)> {
     let value = json::parse(line)?;
     let number = value.get("session")?.number()?;
     let calls = value.get("calls")?.array()?;
-    let mut session = Session::default();
+    let mut session = Session::by(edition);
     let mut differing = Vec::new();
     for (index, call) in calls.iter().enumerate() {
         let sum = call.get("zeros").and_then(Value::number);
@@ -126,12 +131,12 @@ fn replay(line: &str) -> Option<(usize, Vec<String>)> {
 }
 
 /// Replays a file of sessions and prints every reply that differs.
-pub fn replay_file(path: &str) -> Outcome {
+pub fn replay_file(edition: Edition, path: &str) -> Outcome {
     let text = std::fs::read_to_string(path).map_err(|error| format!("{path}: {error}"))?;
     let (mut made, mut differ) = (0, 0);
     for (index, line) in text.lines().enumerate().filter(|(_, line)| !line.trim().is_empty()) {
-        let (calls, differing) =
-            replay(line).ok_or_else(|| format!("{path}, line {}: not understood", index + 1))?;
+        let (calls, differing) = replay_by(edition, line)
+            .ok_or_else(|| format!("{path}, line {}: not understood", index + 1))?;
         made += calls;
         differ += differing.len();
         differing.iter().for_each(|line| println!("{line}"));
@@ -148,6 +153,10 @@ pub fn replay_file(path: &str) -> Outcome {
 mod tests {
     use super::*;
     use rules::bench::sample;
+
+    fn replay(line: &str) -> Option<(usize, Vec<String>)> {
+        replay_by(Edition::default(), line)
+    }
 
     #[test]
     fn what_is_written_replays() {

@@ -12,5 +12,6 @@ pub mod objects;
 pub mod play;
 pub mod resets;
 pub mod samples;
+pub mod selection;
 pub mod t1;
 pub mod tapes;

@@ -1,9 +1,10 @@
 //! A kernel driven by lines, with a tape of what happens.
 
 use crate::console::{bytes_of, each_line, failed, Outcome};
+use rules::edition::Edition;
 use rules::hex;
 use rules::kernel::{Event, Reply, Session, LONGEST_COMMAND};
-use rules::tape::{self, Entry, Writer, BLOCK, MOST_BLOCKS};
+use rules::tape::{self, Entry, Writer};
 use std::fs::File;
 use std::io::Write;
 
@@ -48,6 +49,9 @@ impl Player {
             "SILENCE" => (tape::SILENCE, Event::Silence),
             "HOST" => (tape::HOST, Event::Host(&payload)),
             "RESULTS" => (tape::RESULTS, Event::Results(&payload)),
+            "CHOICE" if self.session.edition() == Edition::Choosing => {
+                (tape::CHOICE, Event::Choice(&payload))
+            }
             _ => return Err(format!("unknown word: {word}")),
         };
         let reply = self.session.step(self.room, event);
@@ -78,28 +82,29 @@ pub fn reply_line(reply: &Reply) -> String {
         Reply::Command(bytes) => format!("COMMAND {}", hex::text(bytes)),
         Reply::HostDue => "HOST".to_string(),
         Reply::ResultsDue(count) => format!("RESULTS {count}"),
+        Reply::ChoiceDue(shown) => format!("CHOICE {shown}"),
         Reply::Decision(bytes) => format!("DECISION {}", hex::text(bytes)),
         Reply::Closed => "CLOSED".to_string(),
         Reply::Refused(number) => format!("REFUSED {number}"),
     }
 }
 
-pub fn play(tape: Option<&str>, session: u32) -> Outcome {
+pub fn play(edition: Edition, tape: Option<&str>, session: u32) -> Outcome {
     let recorder = match tape {
         Some(path) => {
             let file = File::create(path).map_err(failed(path))?;
-            Some(Recorder { file, writer: Writer::new(session, MOST_BLOCKS * BLOCK) })
+            Some(Recorder { file, writer: Writer::by(edition, session, edition.longest_tape()) })
         }
         None => None,
     };
-    let mut player = Player { session: Session::default(), room: LONGEST_COMMAND, recorder };
+    let mut player = Player { session: Session::by(edition), room: LONGEST_COMMAND, recorder };
     each_line(|line| player.line(line))
 }
 
 #[cfg(test)]
 mod tests {
     use super::*;
-    use rules::bench::{former, sample};
+    use rules::bench::{former, listed, sample};
 
     #[test]
     fn player_lines() {
@@ -132,5 +137,26 @@ mod tests {
         assert_eq!(say("RESULTS"), "REFUSED 12");
         assert_eq!(say("SILENCE"), "REFUSED 4");
         assert_eq!(say("RESULTS 01"), "COMMAND 80AE800000");
+    }
+
+    /// 02, R-12: two of which the shopper takes the second.
+    #[test]
+    fn player_lines_with_a_choice() {
+        let session = Session::by(Edition::Choosing);
+        let mut player = Player { session, room: 261, recorder: None };
+        let mut say = |line: &str| player.line(line).unwrap().unwrap_or_default();
+        assert_eq!(say(&format!("START {}", hex::text(&sample()))), "REFUSED 3");
+        let pse = say(&format!("START {}", hex::text(&listed())));
+        assert_eq!(pse, "COMMAND 00A404000E315041592E5359532E444446303100");
+        assert_eq!(say("CHOICE 00"), "REFUSED 4");
+        say("ANSWER 6A82");
+        say("ANSWER 6F098405A000000003A5009000");
+        assert_eq!(say("ANSWER 6F098405A000000004A5009000"), "CHOICE 2");
+        assert_eq!(say("CHOICE 02"), "REFUSED 13");
+        assert_eq!(say("CHOICE 01"), "COMMAND 00A4040005A00000000400");
+        assert_eq!(say("ANSWER 6A82"), "CHOICE 1");
+        assert_eq!(say("CHOICE FF"), "DECISION 030C00000000000000");
+        let mut before = Player { session: Session::default(), room: 261, recorder: None };
+        assert!(before.line("CHOICE 00").is_err());
     }
 }

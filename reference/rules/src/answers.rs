@@ -6,7 +6,7 @@
 
 use crate::lists::MOST_ASKED;
 use crate::objects::{read_list, Object};
-use crate::terminal::is_date;
+use crate::terminal::{is_date, NAME_SIZES};
 use crate::verify::is_verification_list;
 
 pub type Reason = u8;
@@ -20,25 +20,39 @@ pub const TOO_MANY_RECORDS: Reason = 7;
 pub const MISSING: Reason = 8;
 pub const BAD_LIST: Reason = 9;
 pub const NOT_ALLOWED: Reason = 10;
+/// 02, R-12.
+pub const TOO_MANY_EXCHANGES: Reason = 11;
+pub const NO_APPLICATION: Reason = 12;
 
 /// 02, R-8; 58 in 01.
 pub const MOST_RECORDS: usize = 500;
 pub const LONGEST_ANSWER: usize = 258;
+pub const SUCCESS: [u8; 2] = [0x90, 0x00];
 
 /// All of the answer that stands before the status.
 pub fn data_field(answer: &[u8]) -> &[u8] {
     &answer[..answer.len().saturating_sub(2)]
 }
 
+/// Reason 1, or the answer in its two parts: data field and status.
+pub fn parts(answer: &[u8]) -> Result<(&[u8], [u8; 2]), Reason> {
+    match answer.last_chunk() {
+        Some(&status) if answer.len() <= LONGEST_ANSWER => Ok((data_field(answer), status)),
+        _ => Err(SIZE),
+    }
+}
+
 /// Reasons 1 to 3: the one object the data field holds.
 fn only_object<'a>(answer: &'a [u8], expected: &[u16]) -> Result<Object<'a>, Reason> {
-    if answer.len() < 2 || answer.len() > LONGEST_ANSWER {
-        return Err(SIZE);
-    }
-    let data = data_field(answer);
-    if answer[data.len()..] != [0x90, 0x00] {
+    let (data, status) = parts(answer)?;
+    if status != SUCCESS {
         return Err(STATUS);
     }
+    only_in(data, expected)
+}
+
+/// Reason 3: the one object of a data field.
+pub fn only_in<'a>(data: &'a [u8], expected: &[u16]) -> Result<Object<'a>, Reason> {
     match read_list(data).map_err(|_| STRUCTURE)?[..] {
         [object] if expected.contains(&object.tag) => Ok(object),
         _ => Err(STRUCTURE),
@@ -46,12 +60,12 @@ fn only_object<'a>(answer: &'a [u8], expected: &[u16]) -> Result<Object<'a>, Rea
 }
 
 /// The direct members of a constructed value.
-fn members(value: &[u8]) -> Result<Vec<Object<'_>>, Reason> {
+pub fn members(value: &[u8]) -> Result<Vec<Object<'_>>, Reason> {
     read_list(value).map_err(|_| STRUCTURE)
 }
 
 /// The value of a named object, or reason 4 if it is there twice.
-fn find<'a>(members: &[Object<'a>], tag: u16) -> Result<Option<&'a [u8]>, Reason> {
+pub fn find<'a>(members: &[Object<'a>], tag: u16) -> Result<Option<&'a [u8]>, Reason> {
     let mut found = members.iter().filter(|m| m.tag == tag);
     let first = found.next().map(|m| m.value);
     match found.next() {
@@ -77,7 +91,7 @@ pub fn read_select(answer: &[u8], aid: &[u8]) -> Result<Option<Vec<u8>>, Reason>
     let proprietary = find(&direct, 0xA5)?;
     let inner = members(proprietary.unwrap_or(&[]))?;
     let list = find(&inner, 0x9F38)?;
-    check(name, |v| (5..=16).contains(&v.len()) && v.starts_with(aid))?;
+    check(name, |v| NAME_SIZES.contains(&v.len()) && v.starts_with(aid))?;
     check(list, |v| v.len() <= MOST_ASKED)?;
     if name.is_none() || proprietary.is_none() {
         return Err(MISSING);

@@ -1,6 +1,8 @@
 //! The judge: reads a whole tape and gives one verdict (00, demand 3; 01,
 //! "The tape").
 
+use crate::choosing::Stage;
+use crate::edition::Edition;
 use crate::kernel::{Decision, Event, Reply, Session};
 use crate::tape::{self, Entry, Unreadable};
 use std::fmt;
@@ -56,6 +58,8 @@ pub enum Due {
     Host,
     /// So many results, one for each rule of the verification list (02, R-7).
     Results(usize),
+    /// The shopper's choice among so many that are shown (02, R-12).
+    Choice(usize),
     /// Exactly this decision.
     Decision(Decision),
     /// Nothing: the session is finished.
@@ -73,9 +77,18 @@ pub struct Follower {
 }
 
 impl Follower {
+    pub fn by(edition: Edition) -> Follower {
+        Follower { session: Session::by(edition), due: Due::Start }
+    }
+
     /// What may stand next.
     pub fn due(&self) -> &Due {
         &self.due
+    }
+
+    /// Where a selection stands that waits for an answer (02, R-12).
+    pub fn stage(&self) -> Option<Stage> {
+        self.session.stage().filter(|_| self.due == Due::Answer)
     }
 
     /// Whether the entry is one that may stand next. One that may not leaves
@@ -111,6 +124,7 @@ impl Follower {
             (Due::Answer, tape::SILENCE) => entry.payload.is_empty().then_some(Due::Closed),
             (Due::Host, tape::HOST) => self.feed(Event::Host(entry.payload)),
             (Due::Results(_), tape::RESULTS) => self.feed(Event::Results(entry.payload)),
+            (Due::Choice(_), tape::CHOICE) => self.feed(Event::Choice(entry.payload)),
             (Due::Decision(due), tape::DECISION) => (entry.payload == due).then_some(Due::Finished),
             _ => None,
         }
@@ -121,6 +135,7 @@ impl Follower {
             Reply::Command(command) => Some(Due::Command(command)),
             Reply::HostDue => Some(Due::Host),
             Reply::ResultsDue(count) => Some(Due::Results(count)),
+            Reply::ChoiceDue(shown) => Some(Due::Choice(shown)),
             Reply::Decision(decision) => Some(Due::Decision(decision)),
             Reply::Closed | Reply::Refused(_) => None,
         }
@@ -128,17 +143,21 @@ impl Follower {
 }
 
 pub fn judge(bytes: &[u8]) -> Judgement {
+    judge_by(Edition::default(), bytes)
+}
+
+pub fn judge_by(edition: Edition, bytes: &[u8]) -> Judgement {
     // No entry is looked at until every block has proved readable: damage
     // outranks broken rules, wherever the two are.
-    match tape::read(bytes) {
-        Ok(entries) => follow(&entries),
+    match tape::read_by(edition, bytes) {
+        Ok(entries) => follow(edition, &entries),
         Err(damage) => Judgement { verdict: Verdict::Unreadable(damage), unsupplied: 0 },
     }
 }
 
 /// The judgement on the entries of a readable tape.
-fn follow(entries: &[Entry]) -> Judgement {
-    let mut follower = Follower::default();
+fn follow(edition: Edition, entries: &[Entry]) -> Judgement {
+    let mut follower = Follower::by(edition);
     let broken = entries.iter().position(|&entry| !follower.follow(entry));
     let verdict = match broken {
         Some(index) => Verdict::Fail(index),

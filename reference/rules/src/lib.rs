@@ -5,8 +5,11 @@
 pub mod answers;
 pub mod bench;
 pub mod book;
+pub mod choosing;
+pub mod commands;
 pub mod decide;
 pub mod due;
+pub mod edition;
 pub mod feed;
 pub mod hex;
 pub mod judge;

@@ -1,9 +1,23 @@
 //! Terminal data: the bytes of START (01, "Terminal data"), which end with
-//! Terminal Capabilities since 02, R-7.
+//! Terminal Capabilities since 02, R-7 and have a list of applications since
+//!
+
+mod applications;
+
+pub use applications::{Aid, Applications, Supported, NAME_SIZES};
+
+use applications::{read_listed, read_one, Rest};
 
 /// Without Terminal Capabilities, as 01 has it. Only tapes still have such.
 pub const FORMER_SIZE: usize = 74;
 pub const START_SIZE: usize = 77;
+/// With a list of applications (02, R-12).
+pub const CHOOSING_SIZE: usize = 207;
+/// So many bytes are the same in every size; the applications follow.
+const COMMON: usize = 57;
+
+/// How a START is read: nothing where it is refused.
+pub type ReadStart = fn(&[u8]) -> Option<Terminal>;
 
 /// What kind of terminal is played.
 #[derive(Clone, Copy, Debug, PartialEq, Eq)]
@@ -17,7 +31,8 @@ pub enum Kind {
 #[derive(Clone, Debug)]
 pub struct Terminal {
     pub kind: Kind,
-    bytes: [u8; FORMER_SIZE],
+    bytes: [u8; COMMON],
+    pub applications: Applications,
     /// 9F33; none in a START of the former size.
     capabilities: Option<[u8; 3]>,
 }
@@ -82,33 +97,44 @@ impl Terminal {
 
     /// The same for tapes, where START may have either size (02, R-7).
     pub fn read_either(start: &[u8]) -> Option<Terminal> {
-        let (former, rest) = start.split_at_checked(FORMER_SIZE)?;
-        let bytes: [u8; FORMER_SIZE] = former.try_into().ok()?;
-        let capabilities = match *rest {
-            [] => None,
-            [a, b, c] => Some([a, b, c]),
-            _ => return None,
-        };
+        Terminal::read_with(start, read_one)
+    }
+
+    /// 02, R-12: nothing where a call has refusal 3, any other size than 207
+    /// bytes too.
+    pub fn read_choosing(start: &[u8]) -> Option<Terminal> {
+        (start.len() == CHOOSING_SIZE).then(|| Terminal::read_with(start, read_listed))?
+    }
+
+    /// The same for tapes, where START may have each of the three sizes.
+    pub fn read_any(start: &[u8]) -> Option<Terminal> {
+        match start.len() {
+            CHOOSING_SIZE => Terminal::read_choosing(start),
+            _ => Terminal::read_either(start),
+        }
+    }
+
+    fn read_with(start: &[u8], rest: fn(&[u8]) -> Option<Rest>) -> Option<Terminal> {
+        let (&bytes, behind) = start.split_first_chunk::<COMMON>()?;
+        let (applications, capabilities) = rest(behind)?;
         let kind = match bytes[0] {
             0 => Kind::OfflineOnly,
             1 => Kind::OnlineOnly,
             2 => Kind::Both,
             _ => return None,
         };
-        let terminal = Terminal { kind, bytes, capabilities };
+        let terminal = Terminal { kind, bytes, applications, capabilities };
         terminal.is_valid().then_some(terminal)
     }
 
-    /// All of 01's conditions but that on the type, with 02, R-5 for the date.
-    /// There is none on the capabilities.
+    /// All of 01's conditions but those on the type and the applications, with
+    /// 02, R-5 for the date. There is none on the capabilities.
     fn is_valid(&self) -> bool {
         let b = &self.bytes;
         let digits = is_decimal(&b[1..21]) && is_decimal(&b[25..31]) && is_decimal(&b[33..39]);
         let percents = (1..=99).contains(&b[31]) && b[32] <= b[39] && b[39] <= 99;
         let threshold = self.threshold() == 0 || self.threshold() < self.floor();
-        let size = usize::from(b[57]);
-        let aid = (5..=16).contains(&size) && b[58 + size..].iter().all(|&z| z == 0);
-        digits && exists(self.date()) && percents && threshold && aid
+        digits && exists(self.date()) && percents && threshold
     }
 
     pub fn amount(&self) -> i64 {
@@ -169,8 +195,12 @@ impl Terminal {
         &self.bytes[52..57]
     }
 
+    /// The AID, the first one of a list.
     pub fn aid(&self) -> &[u8] {
-        &self.bytes[58..58 + usize::from(self.bytes[57])]
+        match &self.applications {
+            Applications::One(name) => name,
+            Applications::Listed(supported) => &supported.aids[0].name,
+        }
     }
 
     /// Terminal Capabilities; with them START has its present size, and

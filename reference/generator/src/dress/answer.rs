@@ -4,6 +4,7 @@
 
 use super::pieces::{List, Path, Piece, Value};
 use rules::answers::LONGEST_ANSWER;
+use rules::choosing::Stage;
 
 /// The command that was answered.
 #[derive(Clone, Copy, Debug, PartialEq, Eq)]
@@ -15,13 +16,19 @@ pub enum Asked {
         with_verification: bool,
     },
     Cryptogram,
+    /// While the application is chosen (02, R-12): the payment directory, one
+    /// of its records, an application.
+    Pse,
+    Directory,
+    Application,
 }
 
 /// The two outer objects of answers that have two forms.
 const OPEN: u16 = 0x77;
 const JOINED: u16 = 0x80;
-/// The one named object that holds others.
+/// The named objects that hold others: in an FCI, in a directory.
 const PROPRIETARY: u16 = 0xA5;
+const ENTRY: u16 = 0x61;
 
 #[rustfmt::skip]
 const RECORD: [u16; 11] = [
@@ -31,8 +38,15 @@ const RECORD: [u16; 11] = [
 ];
 
 impl Asked {
-    /// Nothing for a command that the kernel never gives.
-    pub fn of(command: &[u8], with_verification: bool) -> Option<Asked> {
+    /// Nothing for a command that the kernel never gives. The stage is that
+    /// of a selection.
+    pub fn of(stage: Option<Stage>, command: &[u8], with_verification: bool) -> Option<Asked> {
+        match stage {
+            Some(Stage::Pse) => return Some(Asked::Pse),
+            Some(Stage::Directory) => return Some(Asked::Directory),
+            Some(_) => return Some(Asked::Application),
+            None => (),
+        }
         match command.get(1)? {
             0xA4 => Some(Asked::Select),
             0xA8 => Some(Asked::Options),
@@ -45,11 +59,23 @@ impl Asked {
     /// The objects that are named directly in the outer one.
     fn named(self) -> &'static [u16] {
         match self {
-            Asked::Select => &[0x84, PROPRIETARY],
+            Asked::Select | Asked::Pse | Asked::Application => &[0x84, PROPRIETARY],
+            Asked::Directory => &[ENTRY],
             Asked::Options => &[0x82, 0x94],
             Asked::Record { with_verification: true } => &RECORD,
             Asked::Record { with_verification: false } => &RECORD[..9],
             Asked::Cryptogram => &[0x9F27, 0x9F36, 0x9F26, 0x9F10],
+        }
+    }
+
+    /// The named object that holds others, and those that are named in it.
+    fn inner(self) -> Option<(u16, &'static [u16])> {
+        match self {
+            Asked::Select => Some((PROPRIETARY, &[0x9F38])),
+            Asked::Pse => Some((PROPRIETARY, &[0x88])),
+            Asked::Application => Some((PROPRIETARY, &[0x87, 0x9F38])),
+            Asked::Directory => Some((ENTRY, &[0x4F, 0x87, 0x9D])),
+            _ => None,
         }
     }
 
@@ -64,8 +90,8 @@ impl Asked {
     }
 }
 
-/// A named object: how deep its place lies, its tag and its value. A5 counts
-/// for what is in it, and has none.
+/// A named object: how deep its place lies, its tag and its value. A5 and 61
+/// count for what is in them, and have none.
 pub type Seen = (usize, u16, Vec<u8>);
 
 /// An answer whose data field is a list with one object.
@@ -100,9 +126,9 @@ impl Answer {
     pub fn places(&self) -> Vec<(Path, &'static [u16])> {
         let Value::List(members) = &self.outer().value else { return Vec::new() };
         let mut all = vec![(vec![0], self.asked.named())];
-        if self.asked == Asked::Select {
-            let inner = members.pieces.iter().enumerate().filter(|(_, p)| p.tag == PROPRIETARY);
-            all.extend(inner.map(|(index, _)| (vec![0, index], &[0x9F38][..])));
+        if let Some((holder, named)) = self.asked.inner() {
+            let inner = members.pieces.iter().enumerate().filter(|(_, p)| p.tag == holder);
+            all.extend(inner.map(|(index, _)| (vec![0, index], named)));
         }
         all
     }

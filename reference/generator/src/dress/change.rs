@@ -39,7 +39,7 @@ fn change_open(answer: &mut Answer, aid: &[u8], way: Way, r: &mut Random) -> boo
         (Way::Missing, _) => drop(list.pieces.remove(index)),
         (Way::Right, Value::Bytes(bytes)) => *bytes = right_value(piece.tag, aid, r),
         (Way::Wrong, Value::Bytes(bytes)) => *bytes = wrong_value(piece.tag, bytes, r),
-        // A5 is good whatever is in it.
+        // A5 is good whatever is in it, and 61 is for what is in it.
         (_, Value::List(_)) => return false,
     }
     true

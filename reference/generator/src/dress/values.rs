@@ -1,6 +1,7 @@
 //! Values of named objects, right and wrong.
 
 use crate::random::Random;
+use crate::sessions::applications::{any_indicator, any_name};
 use crate::sessions::card::any_account;
 use crate::sessions::lists::{any_list, bad_list};
 use crate::sessions::start::any_date;
@@ -29,7 +30,10 @@ pub fn right_value(tag: u16, aid: &[u8], r: &mut Random) -> Vec<u8> {
             let size = r.below(33);
             r.bytes(size)
         }
-        // The three issuer's codes.
+        0x4F => any_name(r),
+        0x87 => any_indicator(r).into_iter().collect(),
+        0x88 => vec![r.between(1, 10) as u8],
+        // The three issuer's codes; 9D, which is not looked at.
         _ => r.bytes(5),
     }
 }
@@ -50,6 +54,8 @@ pub fn wrong_value(tag: u16, old: &[u8], r: &mut Random) -> Vec<u8> {
         0x5F24 | 0x5F25 => pick(&[&[], &[0x26, 0x13, 0x01], &[0x26, 0x01, 0x32], &[0x26, 0x01]], r),
         0x8E => pick(&[&[], &[0; 6], &[0; 9]], r),
         0x9F10 => r.bytes(33),
+        0x4F => pick(&[&[], &[0xA0; 4], &[0xA0; 17]], r),
+        0x88 => pick(&[&[], &[0], &[11], &[1, 1]], r),
         // The others have one size only.
         _ => [old, &r.bytes(1)].concat(),
     }

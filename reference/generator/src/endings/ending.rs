@@ -35,7 +35,7 @@ pub fn on_payload(
         if let Some(at) = any_of(items, kind, r) {
             let payload = &mut items[at].payload;
             let usual = match kind {
-                START => [74, 77].contains(&payload.len()),
+                START => [74, 77, 207].contains(&payload.len()),
                 DECISION => payload.len() == 9,
                 _ => true,
             };

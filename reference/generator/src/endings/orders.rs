@@ -131,14 +131,14 @@ pub fn strangers() -> Vec<Ending> {
 
 /// Entries of one session and another, until the tape is full, or nearly.
 pub fn filled_up() -> Vec<Ending> {
-    [MOST_BLOCKS - 1, MOST_BLOCKS]
-        .map(|entries| {
-            ending(&format!("{entries} entries"), move |items, r| {
-                while items.len() < entries {
-                    let item = r.pick(items).clone();
-                    items.push(item);
-                }
-            })
-        })
-        .to_vec()
+    [MOST_BLOCKS - 1, MOST_BLOCKS].map(filled_up_to).to_vec()
+}
+
+pub fn filled_up_to(entries: usize) -> Ending {
+    ending(&format!("{entries} entries"), move |items, r| {
+        while items.len() < entries {
+            let item = r.pick(items).clone();
+            items.push(item);
+        }
+    })
 }

@@ -193,7 +193,8 @@ impl Card {
         }
     }
 
-    fn finish(&self, mut answer: Answer, r: &mut Random) -> Answer {
+    /// With what a noisy card puts in.
+    pub fn finish(&self, mut answer: Answer, r: &mut Random) -> Answer {
         if self.noisy {
             for _ in 0..r.below(3) {
                 let members = &mut answer.members;

@@ -1,5 +1,6 @@
 //! A planned session and the entries it leaves on the tape.
 
+use super::applications::Applications;
 use super::card::{Card, Steer, STEERS};
 use super::fault::Fault;
 use super::nodes::Answer;
@@ -7,8 +8,11 @@ use super::start::{any_capabilities, Start};
 use super::tweak::Tweak;
 use super::verification::any_results;
 use crate::random::Random;
+use rules::choosing::Stage;
+use rules::edition::Edition;
 use rules::kernel::{Event, Reply, Session};
 use rules::tape;
+use std::rc::Rc;
 
 /// An entry before it is on a tape.
 #[derive(Clone, Debug, PartialEq, Eq)]
@@ -33,6 +37,34 @@ pub enum Place {
     LastRecord,
     FirstCryptogram,
     SecondCryptogram,
+    /// While the application is chosen (02, R-12): the answers of one stage,
+    /// all of them or the one of this number.
+    Choosing(Stage),
+    ChoosingAt(Stage, usize),
+}
+
+/// How the shopper chooses (02, R-12).
+#[derive(Clone, Copy, Debug, Default, PartialEq, Eq)]
+pub enum Shopper {
+    /// As chance has it, sometimes none.
+    #[default]
+    Free,
+    /// Always one, as chance has it.
+    Willing,
+    First,
+    Last,
+    /// So many applications, then none.
+    GivesUp(usize),
+}
+
+/// A way to set up the applications of terminal and card.
+pub type Setup = Rc<dyn Fn(&mut Applications, &mut Random)>;
+
+/// What is fixed about a selection (02, R-12).
+#[derive(Clone, Default)]
+pub struct Choosing {
+    pub setups: Vec<Setup>,
+    pub shopper: Shopper,
 }
 
 /// What is fixed about a session; the rest is left to chance.
@@ -52,6 +84,10 @@ pub struct Plan {
     pub tidy: bool,
     /// For calls, which take no START of the former size.
     pub called: bool,
+    /// The rules that it is played by.
+    pub edition: Edition,
+    /// Where START has a list of applications (02, R-12).
+    pub choosing: Option<Choosing>,
 }
 
 /// Terminal, card and issuer at play.
@@ -63,6 +99,9 @@ pub struct Players {
     any_record: usize,
     records_read: usize,
     requests: usize,
+    /// Answers given so far in each stage of the selection, and choices.
+    stages: [usize; 5],
+    choices: usize,
 }
 
 impl Players {
@@ -77,12 +116,51 @@ impl Players {
         for tweak in &plan.tweaks {
             (tweak.apply)(&mut start, &mut card, r);
         }
-        if plan.called && start.capabilities.is_none() {
+        if (plan.called || plan.choosing.is_some()) && start.capabilities.is_none() {
             start.capabilities = Some(any_capabilities(r));
         }
         let any_record = r.below(card.record_count());
-        let plan = plan.clone();
-        Players { start, card, plan, any_record, records_read: 0, requests: 0 }
+        start.applications = plan.choosing.as_ref().map(|choosing| {
+            let mut applications = Applications::any(r);
+            choosing.setups.iter().for_each(|setup| setup(&mut applications, r));
+            applications
+        });
+        let (plan, stages) = (plan.clone(), [0; 5]);
+        Players { start, card, plan, any_record, records_read: 0, requests: 0, stages, choices: 0 }
+    }
+
+    /// An answer while the application is chosen.
+    fn choosing_answer(&mut self, stage: Stage, command: &[u8], r: &mut Random) -> Answer {
+        self.stages[stage as usize] += 1;
+        let list = self.card.list.as_deref();
+        let answer = match &mut self.start.applications {
+            Some(applications) => applications.answer(command, list),
+            None => Answer::new(0x6F, Vec::new()),
+        };
+        self.card.finish(answer, r)
+    }
+
+    fn is_at_stage(&self, place: Place, stage: Stage) -> bool {
+        match place {
+            Place::Choosing(at) => at == stage,
+            Place::ChoosingAt(at, number) => at == stage && self.stages[stage as usize] == number,
+            _ => false,
+        }
+    }
+
+    /// A place among those shown, or none.
+    pub fn choice(&mut self, shown: usize, r: &mut Random) -> u8 {
+        self.choices += 1;
+        let shopper = self.plan.choosing.as_ref().map(|choosing| choosing.shopper);
+        let any = |r: &mut Random| if r.chance(40) { 0 } else { r.below(shown) };
+        match shopper.unwrap_or_default() {
+            Shopper::Free if r.chance(8) => 0xFF,
+            Shopper::Free | Shopper::Willing => any(r) as u8,
+            Shopper::First => 0,
+            Shopper::Last => (shown - 1) as u8,
+            Shopper::GivesUp(after) if self.choices > after => 0xFF,
+            Shopper::GivesUp(_) => any(r) as u8,
+        }
     }
 
     fn is_at(&self, place: Place, command: &[u8]) -> bool {
@@ -126,11 +204,19 @@ impl Players {
         }
     }
 
-    pub fn answer(&mut self, command: &[u8], r: &mut Random) -> Vec<u8> {
-        let mut answer = self.good_answer(command, r);
+    /// The answer to a command; `stage` is where a selection stands.
+    pub fn answer(&mut self, stage: Option<Stage>, command: &[u8], r: &mut Random) -> Vec<u8> {
+        let mut answer = match stage {
+            Some(stage) => self.choosing_answer(stage, command, r),
+            None => self.good_answer(command, r),
+        };
         let faults = self.plan.faults.clone();
         for (place, fault) in &faults {
-            if self.is_at(*place, command) {
+            let is_here = match stage {
+                Some(stage) => self.is_at_stage(*place, stage),
+                None => self.is_at(*place, command),
+            };
+            if is_here {
                 (fault.apply)(&mut answer, r);
             }
         }
@@ -158,13 +244,13 @@ impl Players {
 /// Plays the session to its end.
 pub fn play(plan: &Plan, r: &mut Random) -> Vec<Item> {
     let mut players = Players::new(plan, r);
-    let mut session = Session::default();
+    let mut session = Session::by(plan.edition);
     let mut items = vec![Item::new(tape::START, players.start.bytes())];
     let mut reply = session.retell(Event::Start(&items[0].payload));
     loop {
         match reply {
             Reply::Command(command) => {
-                let answer = players.answer(&command, r);
+                let answer = players.answer(session.stage(), &command, r);
                 reply = session.retell(Event::Answer(&answer));
                 items.push(Item::new(tape::COMMAND, command));
                 items.push(Item::new(tape::ANSWER, answer));
@@ -178,6 +264,11 @@ pub fn play(plan: &Plan, r: &mut Random) -> Vec<Item> {
                 let results = players.results(count, r);
                 reply = session.retell(Event::Results(&results));
                 items.push(Item::new(tape::RESULTS, results));
+            }
+            Reply::ChoiceDue(shown) => {
+                let choice = [players.choice(shown, r)];
+                reply = session.retell(Event::Choice(&choice));
+                items.push(Item::new(tape::CHOICE, choice));
             }
             Reply::Decision(decision) => {
                 items.push(Item::new(tape::DECISION, decision));

@@ -1,5 +1,6 @@
 //! Terminal data for made sessions: always valid, often at an edge.
 
+use super::applications::Applications;
 use crate::random::Random;
 
 pub const MOST_AMOUNT: u64 = 999_999_999_999;
@@ -27,6 +28,8 @@ pub struct Start {
     pub aid: Vec<u8>,
     /// Without them START has the size that only tapes know (02, R-7).
     pub capabilities: Option<[u8; 3]>,
+    /// A list in place of the AID; capabilities are there too (02, R-12).
+    pub applications: Option<Applications>,
 }
 
 /// `size` bytes of decimal digits, the number on the right.
@@ -133,6 +136,7 @@ impl Start {
             default: [0; 5],
             aid: r.bytes(aid_size),
             capabilities: r.chance(85).then(|| any_capabilities(r)),
+            applications: None,
         };
         start.aim_random(r);
         start
@@ -170,6 +174,10 @@ impl Start {
         out.extend(self.denial);
         out.extend(self.online);
         out.extend(self.default);
+        if let Some(applications) = &self.applications {
+            out.extend(applications.bytes(self.capabilities.unwrap_or_default()));
+            return out;
+        }
         out.push(self.aid.len() as u8);
         out.extend(&self.aid);
         out.resize(74, 0);

@@ -9,6 +9,8 @@ pub const LONG_ANSWER: u8 = 5;
 pub const BAD_HOST: u8 = 6;
 /// 02, R-7.
 pub const BAD_RESULTS: u8 = 12;
+/// 02, R-12.
+pub const BAD_CHOICE: u8 = 13;
 
 pub type Decision = [u8; 9];
 
@@ -21,6 +23,8 @@ pub enum Event<'a> {
     Host(&'a [u8]),
     /// A byte for each rule of the verification list (02, R-7).
     Results(&'a [u8]),
+    /// The place of the application that the shopper takes (02, R-12).
+    Choice(&'a [u8]),
 }
 
 /// What the kernel gives back.
@@ -30,6 +34,8 @@ pub enum Reply {
     HostDue,
     /// So many results are due, one for each rule (02, R-7).
     ResultsDue(usize),
+    /// A choice among so many that are shown is due (02, R-12).
+    ChoiceDue(usize),
     Decision(Decision),
     Closed,
     Refused(u8),

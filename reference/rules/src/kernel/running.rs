@@ -5,12 +5,12 @@ use crate::answers::{
     read_cryptogram, read_options, read_select, CardData, Reason, BAD_LIST, MISSING, NOT_ALLOWED,
     RECORD_TAGS,
 };
+use crate::commands::{generate_command, options_command, record_command, select_command, FIRST};
 use crate::decide::{
     first_allows, first_request, judge_facts, second_allows, second_request, Cryptogram, Facts,
     Host, IssuerCodes, Tsi, Tvr, CARD_RISK_DONE, VERIFICATION_DONE, VERIFICATION_SUPPORTED,
 };
 use crate::lists::{fill, Known};
-use crate::objects::length_bytes;
 use crate::terminal::{Kind, Terminal};
 use crate::verify::{are_results, rule_count, Verification};
 
@@ -101,7 +101,18 @@ impl Running {
 
     fn after_select(&mut self, bytes: &[u8]) -> Result<Reply, Reason> {
         let list = read_select(bytes, self.terminal.aid())?;
-        let data = self.filled(&list.unwrap_or_default())?;
+        self.options(&list.unwrap_or_default())
+    }
+
+    /// The application was chosen, and this is its 9F38 (02, R-12).
+    pub fn selected(&mut self, list: &[u8]) -> Reply {
+        let reply = self.options(list);
+        self.or_terminated(reply)
+    }
+
+    /// GET PROCESSING OPTIONS; reason 9 if 9F38 is no good.
+    fn options(&mut self, list: &[u8]) -> Result<Reply, Reason> {
+        let data = self.filled(list)?;
         self.due = Due::Options;
         Ok(Reply::Command(options_command(&data)))
     }
@@ -203,17 +214,13 @@ impl Running {
     }
 
     pub fn select(&self) -> Vec<u8> {
-        let aid = self.terminal.aid();
-        let mut command = vec![0x00, 0xA4, 0x04, 0x00, aid.len() as u8];
-        command.extend_from_slice(aid);
-        command.push(0x00);
-        command
+        select_command(self.terminal.aid(), FIRST)
     }
 
     fn ask_record(&mut self, at: usize) -> Reply {
         self.due = Due::Record(at);
-        let [record, file] = self.records[at];
-        Reply::Command(vec![0x00, 0xB2, record, file, 0x00])
+        let [record, reference] = self.records[at];
+        Reply::Command(record_command(record, reference))
     }
 
     fn set_facts(&mut self) {
@@ -265,32 +272,21 @@ impl Running {
     }
 
     fn decision(&self, outcome: u8, reason: Reason) -> Reply {
-        let mut decision = [0; 9];
-        decision[0] = outcome;
-        decision[1] = reason;
-        decision[2..7].copy_from_slice(&self.tvr);
-        decision[7..].copy_from_slice(&self.tsi);
-        Reply::Decision(decision)
+        decision(outcome, reason, self.tvr, self.tsi)
     }
 }
 
-/// GET PROCESSING OPTIONS: the data goes in an object of its own, tag 83.
-fn options_command(data: &[u8]) -> Vec<u8> {
-    let length = length_bytes(data.len());
-    let mut command = vec![0x80, 0xA8, 0x00, 0x00, (1 + length.len() + data.len()) as u8, 0x83];
-    command.extend(length);
-    command.extend_from_slice(data);
-    command.push(0x00);
-    command
+fn decision(outcome: u8, reason: Reason, tvr: Tvr, tsi: Tsi) -> Reply {
+    let mut decision = [0; 9];
+    decision[0] = outcome;
+    decision[1] = reason;
+    decision[2..7].copy_from_slice(&tvr);
+    decision[7..].copy_from_slice(&tsi);
+    Reply::Decision(decision)
 }
 
-/// GENERATE AC: without data there is no length byte before it either.
-fn generate_command(asked: Cryptogram, data: &[u8]) -> Vec<u8> {
-    let mut command = vec![0x80, 0xAE, asked.parameter(), 0x00];
-    if !data.is_empty() {
-        command.push(data.len() as u8);
-        command.extend_from_slice(data);
-    }
-    command.push(0x00);
-    command
+/// The end of a session in which no application was chosen: no bit is set
+/// before the last record (02, R-12).
+pub fn terminated(reason: Reason) -> Reply {
+    decision(TERMINATED, reason, [0; 5], [0; 2])
 }

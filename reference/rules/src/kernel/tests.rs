@@ -35,6 +35,7 @@ fn show(reply: Reply) -> String {
         Reply::Command(bytes) => hex::text(&bytes),
         Reply::HostDue => "HOST".into(),
         Reply::ResultsDue(count) => format!("RESULTS {count}"),
+        Reply::ChoiceDue(shown) => format!("CHOICE {shown}"),
         Reply::Decision(bytes) => format!("DECISION {}", hex::text(&bytes)),
         Reply::Closed => "CLOSED".into(),
         Reply::Refused(number) => format!("REFUSED {number}"),
