@@ -28,4 +28,4 @@ pub use dress::{dress_script, dress_tape, make_dressed};
 pub use exchanges::make_exchanges;
 pub use remains::make_remains;
 pub use resets::make_resets;
-pub use tapes::make;
+pub use tapes::{make, tapes};

@@ -40,6 +40,15 @@ pub fn made_tape(scenario: &Scenario, r: &mut Random) -> Vec<u8> {
     bytes
 }
 
+/// The tapes of a seed, as `make` writes them, without end.
+pub fn tapes(edition: Edition, seed: u64) -> impl Iterator<Item = Vec<u8>> {
+    let stock = Stock::of(edition);
+    (0..).map(move |index| {
+        let mut r = Random::nth(seed, index as u64);
+        made_tape(&stock.scenario(index, &mut r), &mut r)
+    })
+}
+
 /// Makes `count` tapes in a folder. Prints name and verdict of each; `list`
 /// gets name and label.
 pub fn make(
