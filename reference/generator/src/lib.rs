@@ -18,6 +18,7 @@ mod books;
 mod calls;
 mod dress;
 mod exchanges;
+mod mixtures;
 mod remains;
 mod resets;
 
@@ -26,6 +27,7 @@ pub use books::make_books;
 pub use calls::make_calls;
 pub use dress::{dress_script, dress_tape, make_dressed};
 pub use exchanges::make_exchanges;
+pub use mixtures::{make_mixture, mixed_tapes, Mixture};
 pub use remains::make_remains;
 pub use resets::make_resets;
 pub use tapes::{make, tapes};

@@ -91,7 +91,7 @@ pub fn options(answer: &[u8]) -> Result<([u8; 2], &[[u8; 4]]), Reason> {
         check(is_list, STRUCTURE)?;
         check(!profile.twice && !locator.twice, TWICE)?;
     }
-    let whole = |v: &[u8]| !v.is_empty() && v.len() % 4 == 0;
+    let whole = |v: &[u8]| !v.is_empty() && v.len().is_multiple_of(4);
     check(fits(profile, |v| v.len() == 2) && fits(locator, whole), CONTENT)?;
     let (entries, _) = locator.value.unwrap_or_default().as_chunks();
     check(entries.iter().all(is_entry), BAD_AFL)?;
@@ -147,7 +147,7 @@ fn is_right(at: usize, value: &[u8]) -> bool {
         EXPIRY | EFFECTIVE => is_date(value),
         VERSION | CURRENCY => value.len() == 2,
         FIRST_LIST | SECOND_LIST => value.len() <= LONGEST_LIST,
-        METHODS => value.len() >= 8 && value.len() % 2 == 0,
+        METHODS => value.len() >= 8 && value.len().is_multiple_of(2),
         _ => value.len() == 5,
     }
 }

@@ -35,23 +35,24 @@ const fn tables() -> [[u32; 256]; 8] {
     tables
 }
 
-/// Eight bytes more.
+/// What four bytes leave with so many bytes behind them.
 #[inline(always)]
-pub fn eight(register: u32, bytes: &[u8; 8]) -> u32 {
-    let x = u64::from_le_bytes(*bytes) ^ u64::from(register);
-    let of = |table: usize, shift: u32| TABLES[table][usize::from((x >> shift) as u8)];
-    (of(7, 0) ^ of(6, 8))
-        ^ (of(5, 16) ^ of(4, 24))
-        ^ (of(3, 32) ^ of(2, 40))
-        ^ (of(1, 48) ^ of(0, 56))
+fn left(word: u32, behind: usize) -> u32 {
+    let of = |at: usize| TABLES[behind + 3 - at][usize::from((word >> (8 * at)) as u8)];
+    (of(0) ^ of(1)) ^ (of(2) ^ of(3))
+}
+
+/// Eight bytes more. Only half of the work waits for the register.
+#[inline(always)]
+pub fn eight(register: u32, &[a, b, c, d, e, f, g, h]: &[u8; 8]) -> u32 {
+    let ahead = left(u32::from_le_bytes([e, f, g, h]), 0);
+    left(u32::from_le_bytes([a, b, c, d]) ^ register, 4) ^ ahead
 }
 
 /// Four bytes more.
 #[inline(always)]
 pub fn four(register: u32, bytes: &[u8; 4]) -> u32 {
-    let x = u32::from_le_bytes(*bytes) ^ register;
-    let of = |table: usize, shift: u32| TABLES[table][usize::from((x >> shift) as u8)];
-    (of(3, 0) ^ of(2, 8)) ^ (of(1, 16) ^ of(0, 24))
+    left(u32::from_le_bytes(*bytes) ^ register, 0)
 }
 
 /// The part of a block that the check is over: eights and a four.

@@ -1,5 +1,6 @@
 //! The front program: takes the command line apart and calls what does the work.
 
+use generator::Mixture;
 use lines::console::Outcome;
 use lines::{answers, calls, check, exchanges, objects, play, resets, samples, tapes};
 use rules::edition::Edition;
@@ -16,6 +17,7 @@ const USAGE: &str = "usage:
   reference fill [counted]
   reference answers [--choosing]
   reference make [--choosing] DIR COUNT SEED [--list FILE]
+  reference make-mixture night|fat DIR COUNT SEED
   reference make-calls [--choosing] COUNT SEED
   reference calls [--choosing] FILE
   reference check-selection FILE
@@ -154,6 +156,11 @@ fn run_plain(edition: Edition, command: &str, words: &[&str]) -> Outcome {
         ("t0", ["handed"]) => exchanges::run_exchanges(true),
         ("recover", []) => tapes::recover_tape(edition, None),
         ("recover", [file]) => tapes::recover_tape(edition, Some(file)),
+        ("make-mixture", [name, folder, count, seed]) => {
+            let mixture = Mixture::named(name).ok_or(USAGE)?;
+            generator::make_mixture(mixture, Path::new(folder), number(count)?, number(seed)?)
+                .map_err(|error| format!("{folder}: {error}"))
+        }
         ("dress-tape", [from, to, seed]) => generator::dress_tape(edition, from, to, number(seed)?),
         ("dress-script", [file, seed]) => generator::dress_script(edition, file, number(seed)?),
         (command, [file]) => find(CHECKS, command).ok_or(USAGE)?(edition, file),

@@ -11,7 +11,7 @@ use std::process::ExitCode;
 
 const USAGE: &str = "usage:
   peer-bench FOLDER [ROUNDS]
-  peer-bench --seed SEED [COUNT [ROUNDS]]
+  peer-bench --seed|--night|--fat SEED [COUNT [ROUNDS]]
   peer-bench --same SEED COUNT";
 
 const COUNT: usize = 2000;
@@ -56,9 +56,9 @@ fn run(words: &[&str]) -> Result<(), String> {
     let rounds = |text: Option<&&str>| text.map_or(Ok(ROUNDS), |text| number(text));
     match words {
         ["--same", seed, count] => compare(tapes::of(number(seed)?).take(number(count)?)),
-        ["--seed", seed, rest @ ..] if rest.len() <= 2 => {
+        [kind @ ("--seed" | "--night" | "--fat"), seed, rest @ ..] if rest.len() <= 2 => {
             let count = rest.first().map_or(Ok(COUNT), |text| number(text))?;
-            time(tapes::of(number(seed)?).take(count).collect(), rounds(rest.get(1))?)
+            time(tapes::some(kind, number(seed)?, count), rounds(rest.get(1))?)
         }
         [folder, rest @ ..] if !folder.starts_with('-') && rest.len() <= 1 => {
             time(tapes::in_folder(folder)?, rounds(rest.first())?)

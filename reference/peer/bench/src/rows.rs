@@ -43,6 +43,25 @@ const ROWS: [Row; 10] = [
     ("PASS, at most 40", |t| t.verdict == Verdict::Pass && t.blocks() <= 40),
 ];
 
+/// Tapes are timed in batches of so many blocks, so that whatever else the
+/// machine does spoils one of them and not the round.
+const BATCH: usize = 256;
+
+/// The tapes in batches, in their order.
+fn batches<'a>(tapes: &[&'a Tape]) -> Vec<Vec<&'a Tape>> {
+    let mut all = vec![Vec::new()];
+    let mut blocks = 0;
+    for &tape in tapes {
+        if blocks >= BATCH {
+            all.push(Vec::new());
+            blocks = 0;
+        }
+        blocks += tape.blocks();
+        all.last_mut().expect("there is one").push(tape);
+    }
+    all
+}
+
 /// How long a judge takes for some tapes.
 fn once(judge: Judge, tapes: &[&Tape]) -> Duration {
     let begun = Instant::now();
@@ -52,16 +71,19 @@ fn once(judge: Judge, tapes: &[&Tape]) -> Duration {
     begun.elapsed()
 }
 
-/// The best of each judge over so many rounds, in turns.
+/// For each judge the sum of its best times for each batch over so many rounds,
+/// in which the judges take turns.
 fn best(tapes: &[&Tape], rounds: usize) -> Vec<Duration> {
-    let judges = judges();
-    let mut best = vec![Duration::MAX; judges.len()];
+    let (judges, batches) = (judges(), batches(tapes));
+    let mut best = vec![vec![Duration::MAX; batches.len()]; judges.len()];
     for _ in 0..rounds {
-        for (at, (_, judge)) in judges.iter().enumerate() {
-            best[at] = best[at].min(once(*judge, tapes));
+        for ((_, judge), best) in judges.iter().zip(&mut best) {
+            for (batch, best) in batches.iter().zip(best) {
+                *best = once(*judge, batch).min(*best);
+            }
         }
     }
-    best
+    best.iter().map(|times| times.iter().sum()).collect()
 }
 
 fn line(row: Row, tapes: &[Tape], rounds: usize) -> String {

@@ -1,11 +1,21 @@
 //! Where the tapes come from.
 
+use generator::{mixed_tapes, Mixture};
 use rules::edition::Edition;
 use std::path::PathBuf;
 
 /// The tapes that `reference make` writes for a seed, without end.
 pub fn of(seed: u64) -> impl Iterator<Item = Vec<u8>> {
     generator::tapes(Edition::default(), seed)
+}
+
+/// So many tapes of a kind.
+pub fn some(kind: &str, seed: u64, count: usize) -> Vec<Vec<u8>> {
+    match kind {
+        "--night" => mixed_tapes(Mixture::Night, seed).take(count).collect(),
+        "--fat" => mixed_tapes(Mixture::Fat, seed).take(count).collect(),
+        _ => of(seed).take(count).collect(),
+    }
 }
 
 /// All files of a folder whose names end with `.tape`, by name.
