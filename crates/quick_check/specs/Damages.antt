@@ -28,15 +28,15 @@ endOf size from to = pick (ltb to from) from (pick (ltb size to) from to)
 unfoldable pub tapeIn : ℕ → ℕ → List ℕ → List ℕ
 tapeIn from to bytes = take (to - from) (drop from bytes)
 
--- the damage of each tape, the first of which begins at a place, and each other where the one before it ends
-unfoldable pub damagesFrom : ℕ → List ℕ → List ℕ → List Damage
-damagesFrom from bytes [] = []
-damagesFrom from bytes (to ∷ ends) =
-    damageIn (tapeIn from (endOf (length bytes) from to) bytes) ∷ damagesFrom (endOf (length bytes) from to) bytes ends
+-- the tapes themselves: the first begins at a place, and each other where the one before it ends
+unfoldable pub tapesFrom : ℕ → List ℕ → List ℕ → List (List ℕ)
+tapesFrom from bytes [] = []
+tapesFrom from bytes (to ∷ ends) =
+    tapeIn from (endOf (length bytes) from to) bytes ∷ tapesFrom (endOf (length bytes) from to) bytes ends
 
 -- a buffer that holds the place, or the code, of each tape at its index; where it ends before, those that are past its end are left out
 abbrev pub placesTold : List ℕ → List ℕ → List ℕ → List ℕ
-placesTold bytes ends out = sets out 0 (map (λ d. d .place) (damagesFrom 0 bytes ends))
+placesTold bytes ends out = sets out 0 (map (λ t. damageIn t .place) (tapesFrom 0 bytes ends))
 
 abbrev pub codesTold : List ℕ → List ℕ → List ℕ → List ℕ
-codesTold bytes ends out = sets out 0 (map (λ d. d .code) (damagesFrom 0 bytes ends))
+codesTold bytes ends out = sets out 0 (map (λ t. damageIn t .code) (tapesFrom 0 bytes ends))

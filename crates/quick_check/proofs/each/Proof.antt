@@ -1,6 +1,7 @@
 -- `quick_check::each` meets its contract. The loop's invariant: with the tapes that are left, each buffer becomes what it becomes with all
 -- of them. Assumes nothing.
 use mathlib.Core.Path.{_≡_, refl, sym, ap, _∙_}
+use mathlib.Core.List.{List}
 use Prim.Native.Nat.{ℕ, _+_, _-_, _≤_}
 use native.Mathlib.Omega.{arith}
 use borrow.Author.Needs.{needs}
@@ -11,11 +12,11 @@ use Rattle.quick_check.proofs.Many.{end-within, told, told-next, told-a
 use Rattle.quick_check.proofs.each.Statement.{statement}
 use Rattle.quick_check.proofs.each.Tie as tie
 
-abbrev place : Damage → ℕ
-place d = d .place
+abbrev place : List ℕ → ℕ
+place t = damageIn t .place
 
-abbrev code : Damage → ℕ
-code d = d .code
+abbrev code : List ℕ → ℕ
+code t = damageIn t .code
 
 abbrev Inv-loop : tie.InvT-loop
 Inv-loop bytes ends places₀ codes₀ rows behind from₀ i₀ places codes from i =
@@ -57,10 +58,12 @@ loop-again c =
       ap length (placed .store .ensures) ∙ (length-set (l .places) (l .i) (d .place) ∙ l .inv .2),
       ap length (coded .store2 .ensures) ∙ (length-set (l .codes) (l .i) (d .code) ∙ l .inv .3),
       ap (told place bytes ends (end .end-of .result) (l .i + 1)) (placed .store .ensures)
-          ∙ (told-next place bytes ends (l .from) (l .i) (end .end-of .result) d (l .places) (omega arith) (end .end-of .ensures) found
+          ∙ (told-next place bytes ends (l .from) (l .i) (end .end-of .result) (d .place) (l .places) (omega arith) (end .end-of .ensures)
+          (ap (λ (e : Damage). e .place) found)
           ∙ l .inv .4),
       ap (told code bytes ends (end .end-of .result) (l .i + 1)) (coded .store2 .ensures)
-          ∙ (told-next code bytes ends (l .from) (l .i) (end .end-of .result) d (l .codes) (omega arith) (end .end-of .ensures) found
+          ∙ (told-next code bytes ends (l .from) (l .i) (end .end-of .result) (d .code) (l .codes) (omega arith) (end .end-of .ensures)
+          (ap (λ (e : Damage). e .code) found)
           ∙ l .inv .5),
     )
 
