@@ -11,7 +11,7 @@ payload of every length there can be.
 """
 import os, struct, sys, zlib
 
-SIZE, MOST, SPARE, CHECK, PAYLOAD = 512, 1024, 9, 508, 496
+SIZE, MOST, CHECK, PAYLOAD = 512, 1024, 508, 496
 TAPES, SMALL, LONG, GOOD = 160, 16, 1, 50
 here = os.path.join(os.path.dirname(os.path.abspath(__file__)), "..", "crates", "bench_quick")
 
