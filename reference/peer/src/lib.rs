@@ -25,6 +25,9 @@ mod instructions;
 #[cfg(target_arch = "x86_64")]
 #[path = "hardware/x86_64.rs"]
 mod instructions;
+#[cfg(not(any(target_arch = "x86_64", target_arch = "aarch64")))]
+#[path = "hardware/none.rs"]
+mod instructions;
 
 use std::fmt;
 use tape::{Block, Damage};
@@ -92,7 +95,6 @@ pub mod alike {
 }
 
 /// By the instructions of the processor.
-#[cfg(any(target_arch = "x86_64", target_arch = "aarch64"))]
 pub mod hardware {
     /// Nothing where the processor has none that fit.
     pub fn judge() -> Option<fn(&[u8]) -> crate::Finding> {

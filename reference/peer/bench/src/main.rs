@@ -1,6 +1,7 @@
 //! Times the reference's judge and its peers on the same tapes in memory, in
 //! turns, and holds what they say against each other.
 
+mod changed;
 mod judges;
 mod rows;
 mod tapes;
@@ -12,7 +13,7 @@ use std::process::ExitCode;
 const USAGE: &str = "usage:
   peer-bench FOLDER [ROUNDS]
   peer-bench --seed|--night|--fat SEED [COUNT [ROUNDS]]
-  peer-bench --same SEED COUNT";
+  peer-bench --same|--changed SEED COUNT";
 
 const COUNT: usize = 2000;
 const ROUNDS: usize = 20;
@@ -56,6 +57,7 @@ fn run(words: &[&str]) -> Result<(), String> {
     let rounds = |text: Option<&&str>| text.map_or(Ok(ROUNDS), |text| number(text));
     match words {
         ["--same", seed, count] => compare(tapes::of(number(seed)?).take(number(count)?)),
+        ["--changed", seed, count] => compare(changed::of(number(seed)?).take(number(count)?)),
         [kind @ ("--seed" | "--night" | "--fat"), seed, rest @ ..] if rest.len() <= 2 => {
             let count = rest.first().map_or(Ok(COUNT), |text| number(text))?;
             time(tapes::some(kind, number(seed)?, count), rounds(rest.get(1))?)

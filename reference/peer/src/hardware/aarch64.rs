@@ -9,19 +9,22 @@ pub fn are_there() -> bool {
     is_aarch64_feature_detected!("crc")
 }
 
+// In some editions of the library the instructions are not safe by themselves.
+#[allow(unused_unsafe)]
 #[target_feature(enable = "crc")]
 fn two([one, other]: [&Block; 2]) -> [u32; 2] {
     let mut registers = [u32::MAX; 2];
     let ((a, _), (b, _)) = (one[..CHECK_AT].as_chunks::<8>(), other[..CHECK_AT].as_chunks::<8>());
     for (&a, &b) in a.iter().zip(b) {
-        registers[0] = __crc32d(registers[0], u64::from_le_bytes(a));
-        registers[1] = __crc32d(registers[1], u64::from_le_bytes(b));
+        let (a, b) = (u64::from_le_bytes(a), u64::from_le_bytes(b));
+        registers = unsafe { [__crc32d(registers[0], a), __crc32d(registers[1], b)] };
     }
     let last = |block: &Block| {
         let (words, _) = block.as_chunks::<4>();
         u32::from_le_bytes(words[CHECK_AT / 4 - 1])
     };
-    [!__crc32w(registers[0], last(one)), !__crc32w(registers[1], last(other))]
+    let (a, b) = (last(one), last(other));
+    unsafe { [!__crc32w(registers[0], a), !__crc32w(registers[1], b)] }
 }
 
 /// The first damage of the blocks, if there is one.
