@@ -88,11 +88,12 @@ pub fn session_line(number: usize, calls: &[Made]) -> String {
 }
 
 /// The call and the reply it should get, as text.
-fn read_call(value: &Value) -> Option<(Call, String)> {
+fn read_call(edition: Edition, value: &Value) -> Option<(Call, String)> {
     let names = [START, ANSWER, SILENCE, HOST, RESULTS, CHOICE];
+    let known = if edition == Edition::Choosing { &names[..] } else { &names[..5] };
     let event = value.get("event")?.text()?;
     let call = Call {
-        event: names.into_iter().find(|name| *name == event)?,
+        event: known.iter().find(|name| **name == event)?,
         payload: hex::bytes(value.get("payload")?.text()?)?,
         room: value.get("room")?.number()? as usize,
     };
@@ -119,7 +120,7 @@ fn replay_by(edition: Edition, line: &str) -> Option<(usize, Vec<String>)> {
     let mut differing = Vec::new();
     for (index, call) in calls.iter().enumerate() {
         let sum = call.get("zeros").and_then(Value::number);
-        let (call, wanted) = read_call(call)?;
+        let (call, wanted) = read_call(edition, call)?;
         let made = Made::new(call, &mut session);
         let wanted = with_sum(wanted, sum);
         let got = with_sum(reply_text(&made.reply), sum.map(|_| made.unsupplied as u64));
