@@ -66,7 +66,7 @@ class Crate:
         for line in text.splitlines():
             impl = re.match(r"impl(?:<[^>]*>)? (\w+)", line)
             owner = impl.group(1) if impl else None if line.startswith("}") else owner
-            found = re.match(r"\s*(?:pub )?(?:const )?fn (\w+)", line)
+            found = re.match(r'\s*(?:pub )?(?:const )?(?:extern "C" )?fn (\w+)', line)
             if found:
                 self.functions.setdefault(owner or module, set()).add(found.group(1))
         if module in ("lib", "main"):

@@ -23,6 +23,7 @@ OTHERWISE = {
     "tlv_write write": "`one-answer` in `crates/tlv_write/proofs/Refusals.antt`: refusal and size together are the answer",
     "book_judged judged": "`entered-once` in `crates/book_judged/proofs/Theorem.antt`: no tape has two entries under one number",
     "judge judge": "`judged-once` in `crates/verdict_judged/proofs/Once.antt`: no tape has two answers",
+    "lab due::lab_judge": "`found-once` in `crates/lab/proofs/Once.antt`: no tape has two findings",
 }
 
 # Those that fit more than one answer: docs/EXCEPTIONS.md names each and says why.
@@ -232,7 +233,7 @@ def functions(crate, holders):
         for at, line in enumerate(lines):
             impl = re.match(r"^impl(?:<[^>]*>)? (\w+)", line)
             owner = impl.group(1) if impl else None if line.startswith("}") else owner
-            found = re.match(r"^\s*pub fn (\w+)", line)
+            found = re.match(r"^\s*pub (?:extern \"C\" )?fn (\w+)", line)
             if not found or not (owner or module == "lib" or module in modules or (module, found.group(1)) in names):
                 continue
             end = next(n for n in range(at, len(lines)) if lines[n].strip() == "{" or lines[n].endswith(" {"))

@@ -27,7 +27,7 @@ pub fn entry_of(tape: u32, answer: Answer) -> Entry
 }
 
 // The number of a verdict.
-fn verdict_number(verdict: Verdict) -> u8
+pub fn verdict_number(verdict: Verdict) -> u8
     ensures { λ r. ⌜ r ≡ verdictNumber verdict ⌝ }
 {
     match verdict {
