@@ -5,3 +5,4 @@ pub mod Words
 pub mod Matching
 pub mod Missing
 pub mod FirstFree
+pub mod WithoutEnd

@@ -5,3 +5,4 @@ pub mod Unasked
 pub mod Supported
 pub mod Repeated
 pub mod Free
+pub mod Endless

@@ -1,6 +1,6 @@
 -- Nobody without the shopper's word: 001, 12.4; 02, R-12. What an answer leads to, the terminal does by itself: an application that it
--- takes wants no confirmation, and none that the shopper took has fallen out before; and a choice is due only where the shopper can choose. An
--- application that wants one is so sent right behind a choice, or not at all.
+-- takes wants no confirmation, and none that the shopper took has fallen out before; and a choice is due only where the shopper can
+-- choose. An application that wants one is so sent right behind a choice, or not at all.
 -- Assumes nothing.
 use mathlib.Core.Path.{_≡_}
 use mathlib.Core.Bool.{true, false}

@@ -1,7 +1,7 @@
 // Where the search for an application stands. What an answer and a choice make of it are definitions and laws so far.
 
-// The command that is due: the environment selected; a record of the directory read; an AID of START selected, by its place in the list, for
-// its first occurrence or the next; an application of the list selected, by its place, and whether the shopper took it.
+// The command that is due: the environment selected; a record of the directory read; an AID of START selected, by its place in the list,
+// for its first occurrence or the next; an application of the list selected, by its place, and whether the shopper took it.
 pub enum Step {
     Environment,
     Directory { file: u8, record: u8 },
