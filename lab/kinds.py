@@ -28,6 +28,8 @@ KINDS = (
          "02, R-7: due after the last record, where the card supports verification and told 8E"),
 )
 NAMED = {kind.name: kind for kind in KINDS}
+# The words of those that an entry can have.
+WORDS = tuple(kind.name for kind in KINDS[1:])
 NUMBERS = range(1, len(KINDS))
 
 

@@ -13,13 +13,13 @@ LEVEL stands first, LE behind it, START before all exchanges. Nothing is added t
 import re
 from typing import NamedTuple
 
-from lab.files import ENTRY_KINDS
+from lab import kinds
 from lab.log_reading import joined
 from lab.tapes import Entry
 
 # What a card's log has itself.
 OF_THE_CARD = ("COMMAND", "ANSWER")
-WORDS = [kind for kind in ENTRY_KINDS[1:] if kind not in OF_THE_CARD]
+WORDS = [kind for kind in kinds.WORDS if kind not in OF_THE_CARD]
 LINE = re.compile(r"([A-Z]+)(?: ([0-9A-Za-z]+))?")
 
 

@@ -1,11 +1,10 @@
 """What a report says of a tape in words. What was due is the proved program's word, what stood there the tape's own bytes."""
+from lab.explaining.names import CRYPTOGRAMS, OUTCOMES
 from lab.verdicts import COUNTED
 
 # 01, "The commands"
 COMMANDS = {"00A4": "SELECT", "80A8": "GET PROCESSING OPTIONS", "00B2": "READ RECORD", "80AE": "GENERATE AC"}
-REQUESTS = {"00": "AAC", "40": "TC", "80": "ARQC"}
 # 01, "The tape"
-OUTCOMES = {"01": "approved", "02": "declined", "03": "terminated"}
 CODES = {1: "longer than a tape may be", 2: "not whole blocks of 512 bytes", 3: "a block fails its check (CRC-32)",
          4: "a block has another number than its place", 5: "a block has another session number than the first",
          6: "a block of a kind that there is none", 7: "a block whose byte 9 is not zero", 8: "a block whose length is over 496",
@@ -25,14 +24,15 @@ def command(head):
     name = COMMANDS.get(head[:4], "that is none of the four")
     if name != "GENERATE AC":
         return "COMMAND " + name
-    return f"COMMAND GENERATE AC ({REQUESTS.get(head[4:6], 'no cryptogram')})"
+    request = int(head[4:6], 16) if len(head) == 6 else None
+    return f"COMMAND GENERATE AC ({CRYPTOGRAMS.get(request, 'no cryptogram')})"
 
 
 def decision(digits):
     if len(digits) != 18:
         return f"DECISION of {len(digits) // 2} bytes"
     reason = int(digits[2:4], 16)
-    return f"DECISION {OUTCOMES.get(digits[:2], 'with no outcome')}" + (f", reason {reason}" if reason or digits[:2] == "03" else "")
+    return f"DECISION {OUTCOMES.get(int(digits[:2], 16), 'with no outcome')}" + (f", reason {reason}" if reason or digits[:2] == "03" else "")
 
 
 def entry(told):

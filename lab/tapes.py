@@ -3,7 +3,8 @@ never decided here: that is the judge's word."""
 import zlib
 from typing import NamedTuple
 
-from lab.files import BLOCK, ENTRY_KINDS
+from lab import kinds
+from lab.files import BLOCK
 from lab.numbers import MOST
 
 LONGEST = 496
@@ -20,11 +21,11 @@ class NoTape(ValueError):
 
 
 def block(number, session, entry):
-    if not 0 <= session <= MOST or entry.kind not in ENTRY_KINDS[1:]:
+    if not 0 <= session <= MOST or entry.kind not in kinds.WORDS:
         raise NoTape(f"{entry.kind} is no kind of entry" if 0 <= session <= MOST else "no session number")
     if len(entry.payload) > LONGEST:
         raise NoTape(f"{entry.kind} of {len(entry.payload)} bytes: a block has room for {LONGEST}")
-    head = number.to_bytes(4, "big") + session.to_bytes(4, "big") + bytes([ENTRY_KINDS.index(entry.kind), 0])
+    head = number.to_bytes(4, "big") + session.to_bytes(4, "big") + bytes([kinds.NAMED[entry.kind].number, 0])
     data = (head + len(entry.payload).to_bytes(2, "big") + entry.payload).ljust(BLOCK - 4, b"\0")
     return data + zlib.crc32(data).to_bytes(4, "big")
 
@@ -36,7 +37,7 @@ def written(session, entries):
 def entries(data):
     """The session number and the entries of a tape, whose blocks the judge has read: asked only of one that is not UNREADABLE."""
     blocks = [data[at:at + BLOCK] for at in range(0, len(data), BLOCK)]
-    made = [Entry(ENTRY_KINDS[one[8]], one[12:12 + int.from_bytes(one[10:12], "big")]) for one in blocks]
+    made = [Entry(kinds.KINDS[one[8]].name, one[12:12 + int.from_bytes(one[10:12], "big")]) for one in blocks]
     session = int.from_bytes(data[4:8], "big")
     if written(session, made) != data:
         raise NoTape("its blocks are not those of its entries")

@@ -6,7 +6,7 @@ import os
 import re
 from typing import NamedTuple, Optional
 
-from lab import files, findings
+from lab import files, kinds
 from lab.numbers import MOST
 from lab.reports import MEMBERS
 from lab.words import Undone, text
@@ -17,8 +17,8 @@ LARGEST = 2 ** 64 - 1
 SHA256 = re.compile(r"[0-9a-f]{64}")
 DIGITS = re.compile(r"[0-9A-F]*")
 NO_KIND = re.compile(r"kind [0-9]{1,3}")
-KINDS = files.ENTRY_KINDS[1:]
-COUNTED = tuple(kind.decode() for kind in findings.COUNTED)
+KINDS = kinds.WORDS
+COUNTED = tuple(kind.name for kind in kinds.KINDS if kind.told == kinds.COUNT)
 TOLD = ("COMMAND", "DECISION")
 IN_ORDER = operator.itemgetter(*MEMBERS[1:])
 NEEDED = set(MEMBERS)
