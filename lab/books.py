@@ -17,7 +17,7 @@ import tempfile
 import time
 
 from lab import files, findings, programs
-from lab.words import Undone, named, shown, text, voice
+from lab.words import Undone, named, shown, text
 
 PROGRAM = "book_file"
 BLOCK, FULL = 512, 4096

@@ -1,5 +1,4 @@
 """bin/book: one campaign book."""
-import os
 
 from lab import books, files, findings, numbers, programs
 from lab.words import NOT_ALL, Undone, command, text, voice
