@@ -47,10 +47,10 @@ use text_input::read_line;
 use text_lines::after_word;
 
 // A line with 8,192 bytes.
-const LONGEST: usize = 16_500;
+const LINE: usize = 16_500;
 
 fn main() {
-    let mut line = [0u8; LONGEST];
+    let mut line = [0u8; LINE];
     let mut out = [0u8; LONGEST];
     let mut message = [0u8; ANSWER_MOST];
     exchange(&mut line, &mut out, &mut message);

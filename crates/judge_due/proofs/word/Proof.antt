@@ -9,7 +9,7 @@ use Rattle.judge_due.proofs.word.Tie as tie
 
 returns : tie.Need-returns
 unfolding wordDue
-returns c = c .numbers .ensures ∙ (λ i. numbers (c .before .before .awaits .ensures i) (c .before .results-due .ensures i))
+returns c = c .numbers .ensures ∙ (λ i. numbers (c .before .before .awaits .ensures i) (c .before .count-due .ensures i))
 
 pub word-spec : {M : Type 1} → statement M
 word-spec = tie.close (tie.spec (λ c κs. search needs) (λ c κs. search needs) (λ c κs. search needs) returns)
