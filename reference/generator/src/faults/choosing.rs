@@ -137,14 +137,19 @@ fn directory() -> Vec<Fault> {
     all
 }
 
-/// All that can befall the answers of a stage.
-pub fn choosing(stage: Stage) -> Vec<Fault> {
+/// What is peculiar to the answers of a stage: statuses and its own objects.
+pub fn choosing_own(stage: Stage) -> Vec<Fault> {
     let own = match stage {
-        Stage::Pse => [pse(), select()].concat(),
+        Stage::Pse => pse(),
         Stage::Directory => directory(),
-        _ => [application(), select()].concat(),
+        _ => application(),
     };
+    [statuses(), own].concat()
+}
+
+/// What can befall them as it can befall others.
+pub fn choosing_other(stage: Stage) -> Vec<Fault> {
+    let all = if stage == Stage::Directory { anywhere() } else { [select(), anywhere()].concat() };
     // What 01 has as a reason is none here.
-    let all = [statuses(), own, anywhere()].concat();
     all.into_iter().map(|fault| Fault { reason: None, ..fault }).collect()
 }

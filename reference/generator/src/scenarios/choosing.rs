@@ -4,8 +4,9 @@ use super::chance::by_chance;
 use super::scenario::{long_plan, Scenario};
 use crate::damages::grown;
 use crate::endings::{choices, endings, filled_up_to, Ending};
-use crate::faults::choosing as faults_of;
+use crate::faults::{choosing_other, choosing_own};
 use crate::random::Random;
+use crate::sessions::fault::Fault;
 use crate::sessions::plan::{Choosing, Place, Plan, Shopper};
 use crate::tweaks::applications::{
     blocked, exact, falling_out, in_directory, indicators, long, occurring, odd, shopper, Named,
@@ -80,21 +81,32 @@ fn leading_to(stage: Stage) -> Named {
     }
 }
 
-/// Every fault at every stage: in its first answer, in the second, in all.
+/// The answers of a stage that a fault befalls: the first, the second, all.
+fn places(stage: Stage) -> [Place; 3] {
+    [Place::ChoosingAt(stage, 1), Place::ChoosingAt(stage, 2), Place::Choosing(stage)]
+}
+
+fn with_fault(number: usize, place: Place, stage: Stage, fault: Fault) -> Scenario {
+    let setups = [leading_to(stage), shopper(!number.is_multiple_of(4))];
+    let mut scenario = listed(number, &setups, Shopper::Willing);
+    scenario.label += &format!(", {place:?}: {}", fault.label);
+    scenario.plan.faults.push((place, fault));
+    scenario
+}
+
+/// Every fault at every stage: in all these answers what is peculiar to it, in
+/// some of them what is not.
 fn faulty() -> Vec<Scenario> {
     let mut all = Vec::new();
     for stage in STAGES {
-        for fault in faults_of(stage) {
-            let place = match all.len() % 3 {
-                0 => Place::ChoosingAt(stage, 1),
-                1 if stage != Stage::Pse => Place::ChoosingAt(stage, 2),
-                _ => Place::Choosing(stage),
-            };
-            let setups = [leading_to(stage), shopper(!all.len().is_multiple_of(4))];
-            let mut scenario = listed(all.len(), &setups, Shopper::Willing);
-            scenario.label += &format!(", {place:?}: {}", fault.label);
-            scenario.plan.faults.push((place, fault));
-            all.push(scenario);
+        for fault in choosing_own(stage) {
+            for place in places(stage) {
+                all.push(with_fault(all.len(), place, stage, fault.clone()));
+            }
+        }
+        for fault in choosing_other(stage) {
+            let place = places(stage)[all.len() % 3];
+            all.push(with_fault(all.len(), place, stage, fault));
         }
     }
     all
@@ -175,7 +187,8 @@ fn any_shape(r: &mut Random) -> Named {
 fn bend(scenario: &mut Scenario, r: &mut Random) {
     for _ in 0..*r.pick(&[0, 0, 0, 1, 1, 2]) {
         let stage = *r.pick(&STAGES);
-        let fault = r.pick(&faults_of(stage)).clone();
+        let table = if r.chance(60) { choosing_own(stage) } else { choosing_other(stage) };
+        let fault = r.pick(&table).clone();
         let number = r.between(1, 3);
         let place =
             if r.chance(25) { Place::Choosing(stage) } else { Place::ChoosingAt(stage, number) };

@@ -151,6 +151,14 @@ fn odd_directories() -> Vec<Named> {
             a.directory = dealt_out(&[a.files.clone(), a.files.clone()].concat(), r);
             a.file = Some(1);
         }),
+        named("longer names on the card than in the directory", |a, r| {
+            a.aids = vec![aid(&PROVIDER, true)];
+            let entries = adfs(&names(3), r);
+            a.files = adfs(&names(3), r);
+            let longer = r.between(1, 3);
+            a.files.iter_mut().take(longer).for_each(|file| file.name.push(7));
+            (a.file, a.directory) = (Some(1), dealt_out(&entries, r));
+        }),
         named("a directory of other names", |a, _| {
             a.file = Some(3);
             a.directory.iter_mut().flatten().for_each(|entry| {
