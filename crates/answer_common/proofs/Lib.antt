@@ -1,8 +1,10 @@
 mod CardNumber
 pub mod Limits
-pub mod Lines
+pub mod Any
 pub mod Outer
+pub mod Single
 pub mod Members
+pub mod Membered
 pub mod Templates
 pub mod Sizes
 pub mod Alike
@@ -10,5 +12,6 @@ pub mod Accepted
 pub mod Present
 mod Pinned
 pub mod Absent
+pub mod BothForms
 pub mod Opened
 pub mod Names

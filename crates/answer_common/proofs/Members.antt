@@ -17,8 +17,7 @@ use Rattle.tlv_head.specs.Head.{constructed}
 use Rattle.slices.specs.Tests.{isSome}
 use Rattle.tlv_list.specs.Objects.{Object, between, before, rightInside, objects, isList}
 use Rattle.tlv_list.specs.Place.{nextAt, dataField}
-use Rattle.tlv_list.specs.Lookup.{Lookup, absent, once, twice, met, lookup, findInChecked, foundValue}
-use Rattle.tlv_list.specs.declared.Found.{Found}
+use Rattle.tlv_list.specs.Lookup.{Lookup, absent, once, twice, met, lookup}
 use Rattle.tlv_head.specs.declared.Next.{Next}
 use Rattle.tlv_head.specs.declared.Next.the-variants.{Member, End, Broken}
 use Rattle.tlv_list.proofs.Objects.{objects-empty}
@@ -121,7 +120,7 @@ looked-size n tag (and-then {m} {ms} h k rest) =
     (λ y. met-size (n - 2) (m .value) (lookup tag ms) (omega arith))
     (λ e. looked-size n tag rest)
 
-named-list : (s : List ℕ) (tag : ℕ) → isList s ≡ true → constructed tag ≡ true → isList (valueOf (lookup tag (membersIn s))) ≡ true
+pub named-list : (s : List ℕ) (tag : ℕ) → isList s ≡ true → constructed tag ≡ true → isList (valueOf (lookup tag (membersIn s))) ≡ true
 named-list s tag e c = looked-list (length s) tag c (held s (membersIn s) (members-of s e))
 
 among-size : (s : List ℕ) (name : ℕ) → length (valueOf (among s name)) ≤ length s - 2
@@ -174,11 +173,6 @@ direct-size tag a name = let outside = inside-size tag a in omega (arith, among-
 
 pub inner-size : (tag name inner : ℕ) (a : List ℕ) → length (valueOf (among (valueOf (direct tag a name)) inner)) ≤ 250
 inner-size tag name inner a = let outside = direct-size tag a name in omega (arith, among-size (valueOf (direct tag a name)) inner)
-
--- what the search found tells what stands there
-pub by-place : (s : List ℕ) (name : ℕ) {r f : Found} → r ≡ findInChecked s name → r ≡ f → standing s name ≡ foundValue s f
-unfolding standing
-by-place s name p q = ap (foundValue s) (sym p ∙ q)
 
 -- the constructed objects that 01 names: in them the search by place finds what stands among the members
 pub direct-standing : (tag : ℕ) (a : List ℕ) → constructed tag ≡ true → standing (inside tag a) ≡ direct tag a

@@ -3,6 +3,7 @@
 pub mod CardNumber
 pub mod Content
 pub mod Answer
+pub mod Single
 pub mod Named
 pub mod Forms
 pub mod Right

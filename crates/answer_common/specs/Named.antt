@@ -9,6 +9,8 @@ use lib.Dec.{eqb}
 use Rattle.slices.specs.Choice.{pick}
 use Rattle.tlv_list.specs.Objects.{Object, objects}
 use Rattle.tlv_list.specs.Lookup.{Lookup, absent, once, twice, lookup, findInChecked, foundValue}
+use Rattle.tlv_list.specs.declared.Found.{Found}
+use Rattle.tlv_list.specs.declared.Found.the-variants.{Absent, Once, Twice}
 use Rattle.slices.specs.Tables.{anyOf}
 use Rattle.answer_common.specs.Answer.{inside}
 use Rattle.answer_common.specs.Content.{rightValue}
@@ -42,6 +44,12 @@ unfoldable pub times : Lookup → ℕ
 times absent = 0
 times (once v) = 1
 times twice = 2
+
+-- the same of what a search found by place
+unfoldable pub foundTimes : Found → ℕ
+foundTimes Absent = 0
+foundTimes (Once start end) = 1
+foundTimes Twice = 2
 
 -- its value, where it stands once
 unfoldable pub told : Lookup → Option (List ℕ)

@@ -8,17 +8,27 @@ use tlv_list::place::value;
 ghost use mathlib.Core.Path.{_≡_};
 ghost use Prim.Native.Nat.{_≤_};
 ghost use lib.ListN.{length};
-ghost use Rattle.slices.specs.Choice.{firstOf};
 ghost use Rattle.tlv_list.specs.Objects.{objects};
 ghost use Rattle.tlv_list.specs.Place.{dataField};
 ghost use Rattle.answer_common.specs.Answer.{sizeBad, statusBad, outer as outerOf, isOne};
-ghost use Rattle.answer_common.specs.Answer.{inside as insideOf, outerBad, frame, only as onlyOf, theOne};
+ghost use Rattle.answer_common.specs.Single.{aloneIn, singleOf};
+ghost use Rattle.answer_common.specs.Answer.{inside as insideOf, only as onlyOf, theOne};
 
 // The most bytes of an answer.
 const MOST: usize = 258;
 
 // The most bytes of a value in its one object: less the status, and a tag and a length at each depth.
 pub const VALUE_MOST: usize = MOST - 2 - 2 - 2;
+
+// What an answer is found to be: a reason, 1 to 3, or one object, which is not looked into.
+pub enum Single {
+    Refused(usize),
+    Object {
+        tag: usize,
+        start: usize,
+        end: usize,
+    },
+}
 
 fn is_size_bad(answer: &[u8]) -> bool
     ensures { λ r. ⌜ r ≡ sizeBad (now (answer .entry)) ⌝ }
@@ -98,31 +108,34 @@ pub fn inside(answer: &[u8], tag: usize) -> &[u8]
     }
 }
 
-fn is_outer_bad(answer: &[u8], expected: &[usize]) -> bool
-    ensures { λ r. ⌜ r ≡ outerBad (now (expected .entry)) (now (answer .entry)) ⌝ }
+// The only object that the reader finds in some bytes.
+fn alone(s: &[u8]) -> Single
+    ensures { λ r. ⌜ r ≡ aloneIn (now (s .entry)) ⌝ }
 {
-    let mut i = 0;
-    while i < expected.len() {
-        if is_one(answer, expected[i]) {
-            return false;
-        }
-        i += 1;
+    match next(s, 0) {
+        Next::End => Single::Refused(3),
+        Next::Broken => Single::Refused(3),
+        Next::Member { tag, start, end } => match next(s, end) {
+            Next::End => Single::Object { tag, start, end },
+            Next::Broken => Single::Refused(3),
+            Next::Member {
+                tag: _,
+                start: _,
+                end: _,
+            } => Single::Refused(3),
+        },
     }
-    true
 }
 
-// Reasons 1 to 3; 0 where none of them applies.
-pub fn frame_reason(answer: &[u8], expected: &[usize]) -> usize
-    ensures { λ r. ⌜ r ≡ firstOf (frame (now (expected .entry)) (now (answer .entry))) ⌝ }
+// The one object of an answer, found once: where its value stands in the answer's data.
+pub fn single_of(answer: &[u8]) -> Single
+    ensures { λ r. ⌜ r ≡ singleOf (now (answer .entry)) ⌝ }
 {
     if is_size_bad(answer) {
-        return 1;
+        return Single::Refused(1);
     }
     if is_status_bad(answer) {
-        return 2;
+        return Single::Refused(2);
     }
-    if is_outer_bad(answer, expected) {
-        return 3;
-    }
-    0
+    alone(data_field(answer))
 }

@@ -2,21 +2,28 @@
 use answer_afl::entries::are_right;
 use answer_afl::entries::are_too_many;
 use answer_afl::entries::are_whole;
-use answer_common::answer::frame_reason;
+use answer_common::answer::Single;
 use answer_common::answer::inside;
 use answer_common::answer::is_one;
+use answer_common::answer::single_of;
 use answer_common::forms::JOINED;
 use answer_common::forms::TEMPLATE;
-use answer_common::forms::lacks;
-use answer_common::named::any_times_in_checked;
-use answer_common::named::any_wrong_in_checked;
+use answer_common::named::any_times;
+use answer_common::named::is_wrong;
 use answer_common::named::value_in_checked;
+use answer_common::named::value_of;
 use slices::part;
+use tlv_list::lookup::members;
+use tlv_list::place::data_field;
+use tlv_list::place::value;
 ghost use mathlib.Core.Path.{_≡_};
+ghost use mathlib.Core.List.{_++_};
 ghost use Rattle.slices.specs.Choice.{firstOf};
-ghost use Rattle.answer_gpo.specs.Options.{profileOf, locatorOf, optionsWrong, optionsLines, optionsReason};
-
-const NAMES: [usize; 2] = [0x82, 0x94];
+ghost use Rattle.answer_common.specs.Answer.{frame};
+ghost use Rattle.answer_common.specs.Forms.{bothForms};
+ghost use Rattle.answer_common.specs.Single.{singleOf};
+ghost use Rattle.answer_common.specs.declared.answer.Single.the-variants.{Object};
+ghost use Rattle.answer_gpo.specs.Options.{profileOf, locatorOf, optionsLines, optionsReason};
 
 // The AIP's bytes.
 pub fn profile(answer: &[u8]) -> &[u8]
@@ -41,48 +48,72 @@ pub fn locator(answer: &[u8]) -> &[u8]
     }
 }
 
-fn is_wrong(answer: &[u8]) -> bool
-    ensures { λ r. ⌜ r ≡ optionsWrong (now (answer .entry)) ⌝ }
+// Reasons 5 to 7 of an answer whose one object has the values joined; 0 where none of them applies.
+fn joined_reason(answer: &[u8], start: usize, end: usize) -> usize
+    requires { ⌜ singleOf (now answer) ≡ Object 0x80 start end ⌝ }
+    ensures { λ r. ⌜ r ≡ firstOf (frame bothForms (now (answer .entry)) ++ optionsLines (now (answer .entry))) ⌝ }
 {
-    let names = NAMES;
-    if any_wrong_in_checked(inside(answer, TEMPLATE), &names) {
-        return true;
-    }
-    is_one(answer, JOINED) && !are_whole(locator(answer))
-}
-
-// Reasons 4 to 8; 0 where none of them applies.
-fn content_reason(answer: &[u8]) -> usize
-    ensures { λ r. ⌜ r ≡ firstOf (optionsLines (now (answer .entry))) ⌝ }
-{
-    let names = NAMES;
-    if any_times_in_checked(inside(answer, TEMPLATE), 2, &names) {
-        return 4;
-    }
-    if is_wrong(answer) {
+    let both = value(data_field(answer), start, end);
+    let afl = part(both, 2, both.len());
+    if !are_whole(afl) {
         return 5;
     }
-    let afl = locator(answer);
+    if !are_right(afl) {
+        return 6;
+    }
+    if are_too_many(afl) { 7 } else { 0 }
+}
+
+// Reasons 3 to 8 of an answer whose one object is a template, by its members; 0 where none of them applies.
+fn template_reason(answer: &[u8], start: usize, end: usize) -> usize
+    requires { ⌜ singleOf (now answer) ≡ Object 0x77 start end ⌝ }
+    ensures { λ r. ⌜ r ≡ firstOf (frame bothForms (now (answer .entry)) ++ optionsLines (now (answer .entry))) ⌝ }
+{
+    let s = value(data_field(answer), start, end);
+    let m = members(s, 0x82, 0x94, 0x82, 0x94);
+    if !m.list {
+        return 3;
+    }
+    let profile = m.first;
+    let locator = m.second;
+    if any_times(2, profile, locator, profile, locator) {
+        return 4;
+    }
+    if is_wrong(s, 0x82, profile) {
+        return 5;
+    }
+    if is_wrong(s, 0x94, locator) {
+        return 5;
+    }
+    let afl = value_of(s, locator);
     if !are_right(afl) {
         return 6;
     }
     if are_too_many(afl) {
         return 7;
     }
-    if lacks(answer, &names) {
-        return 8;
+    if any_times(0, profile, locator, profile, locator) {
+        8
+    } else {
+        0
     }
-    0
 }
 
 // The lowest reason that applies; 0 where none does.
 pub fn options_reason(answer: &[u8]) -> usize
     ensures { λ r. ⌜ r ≡ optionsReason (now (answer .entry)) ⌝ }
 {
-    let expected = [TEMPLATE, JOINED];
-    let why = frame_reason(answer, &expected);
-    if why != 0 {
-        return why;
+    match single_of(answer) {
+        Single::Refused(why) => why,
+        Single::Object { tag, start, end } => {
+            if tag == JOINED {
+                return joined_reason(answer, start, end);
+            }
+            if tag == TEMPLATE {
+                template_reason(answer, start, end)
+            } else {
+                3
+            }
+        }
     }
-    content_reason(answer)
 }

@@ -1,2 +1,5 @@
-pub mod Standing
+pub mod Walked
+mod OneApart
+pub mod Doubled
+pub mod Taken
 mod RecordsWorked

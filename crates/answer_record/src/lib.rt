@@ -1,96 +1,96 @@
 // The answer to READ RECORD, and what all records together must tell.
-use answer_common::answer::frame_reason;
-use answer_common::answer::inside;
+use answer_common::answer::Single;
+use answer_common::answer::single_of;
 use answer_common::content::MANDATORY;
 use answer_common::content::RECORD;
-use answer_common::named::any_times_in_checked;
-use answer_common::named::any_wrong_in_checked;
-use answer_common::named::times_in_checked;
-use answer_common::named::value_in_checked;
+use answer_common::content::is_right;
+use answer_common::named::is_listed;
 use dol_wanted::is_fillable;
 use session_records::slots::has;
+use session_records::slots::keep;
 use session_records::slots::value;
+use tlv_head::Next;
+use tlv_list::place;
+use tlv_list::place::data_field;
+use tlv_list::place::next_checked;
 ghost use mathlib.Core.Path.{_≡_};
 ghost use mathlib.Core.Bool.{not};
-ghost use mathlib.Core.List.{[], map};
-ghost use mathlib.Core.Option.{Option·getD};
-ghost use Rattle.slices.specs.Choice.{firstOf};
+ghost use mathlib.Core.List.{map};
 ghost use Rattle.slices.specs.Tests.{isSome};
 ghost use Rattle.slices.specs.Tables.{anyOf};
-ghost use Rattle.answer_common.specs.Named.{standing};
-ghost use Rattle.answer_record.specs.Records.{again, anyAgain, recordTwice, recordLines, recordReason, valueIn, afterRecords};
+ghost use Rattle.answer_record.specs.Records.{afterRecords};
+ghost use Rattle.answer_record.specs.Taken.{taken, worse as worseOf, oneTaken, takenFrom, recordTaken};
 ghost use Rattle.session_records.specs.Slots.{toldIn};
 
-fn is_again(told: &[u8], s: &[u8], name: usize) -> bool
-    ensures { λ r. ⌜ r ≡ again (isSome (toldIn (now (told .entry)) name)) (standing (now (s .entry)) name) ⌝ }
+// 4 where a name was told before, 5 where a value is wrong; 4 stands before 5.
+fn worse(why: usize, again: bool, right: bool) -> usize
+    ensures { λ r. ⌜ r ≡ worseOf why again right ⌝ }
 {
-    has(told, name) && times_in_checked(s, name) != 0
-}
-
-// Whether one of the names stands there, and had been told before.
-fn any_again(told: &[u8], s: &[u8], names: &[usize]) -> bool
-    ensures { λ r. ⌜ r ≡ anyAgain (λ name. isSome (toldIn (now (told .entry)) name)) (now (names .entry)) (standing (now (s .entry))) ⌝ }
-{
-    let mut i = 0;
-    while i < names.len() {
-        if is_again(told, s, names[i]) {
-            return true;
-        }
-        i += 1;
-    }
-    false
-}
-
-fn is_twice(told: &[u8], names: &[usize], answer: &[u8]) -> bool
-    ensures { λ r. ⌜ r
-        ≡ recordTwice (now (names .entry)) (λ name. isSome (toldIn (now (told .entry)) name)) (now (answer .entry)) ⌝ }
-{
-    let s = inside(answer, RECORD);
-    if any_times_in_checked(s, 2, names) {
-        return true;
-    }
-    any_again(told, s, names)
-}
-
-// Reasons 4 and 5; 0 where neither applies.
-fn content_reason(told: &[u8], names: &[usize], answer: &[u8]) -> usize
-    ensures { λ r. ⌜ r
-        ≡ firstOf (recordLines (now (names .entry)) (λ name. isSome (toldIn (now (told .entry)) name)) (now (answer .entry))) ⌝ }
-{
-    if is_twice(told, names, answer) {
+    if again {
         return 4;
     }
-    if any_wrong_in_checked(inside(answer, RECORD), names) {
-        return 5;
-    }
-    0
-}
-
-// The lowest reason that applies to one record, given what was told before and the names that count; 0 where none does.
-pub fn record_reason(told: &[u8], names: &[usize], answer: &[u8]) -> usize
-    ensures { λ r. ⌜ r
-        ≡ recordReason (now (names .entry)) (λ name. isSome (toldIn (now (told .entry)) name)) (now (answer .entry)) ⌝ }
-{
-    let expected = [RECORD];
-    let why = frame_reason(answer, &expected);
-    if why != 0 {
+    if right {
         return why;
     }
-    content_reason(told, names, answer)
+    if why == 4 {
+        return 4;
+    }
+    5
 }
 
-// Whether a record tells a name's value.
-pub fn has_value(answer: &[u8], name: usize) -> bool
-    ensures { λ r. ⌜ r ≡ isSome (valueIn name (now (answer .entry))) ⌝ }
+// One object of a record, tested and kept where its name counts, with the reason so far. A wrong value is kept as an empty one, so that a
+// second one of its name is seen.
+fn take_one(told: &mut [u8], names: &[usize], tag: usize, v: &[u8], why: usize) -> usize
+    ensures { λ r. ⌜ taken r (now (told .exit))
+        ≡ oneTaken (now (names .entry)) tag (now (v .entry)) (taken why (now (told .entry))) ⌝ }
 {
-    times_in_checked(inside(answer, RECORD), name) == 1
+    if is_listed(tag, names) {
+        let again = has(told, tag);
+        if is_right(tag, v) {
+            keep(told, tag, v);
+            worse(why, again, true)
+        } else {
+            keep(told, tag, &v[0..0]);
+            worse(why, again, false)
+        }
+    } else {
+        why
+    }
 }
 
-// That value; nothing where it tells none.
-pub fn record_value(answer: &[u8], name: usize) -> &[u8]
-    ensures { λ r. ⌜ now r ≡ Option·getD (valueIn name (now (answer .entry))) [] ⌝ }
+// All objects of a record, gone through once; 3 where they turn out to be no list.
+fn take_all(told: &mut [u8], names: &[usize], s: &[u8]) -> usize
+    ensures { λ r. ⌜ taken r (now (told .exit)) ≡ takenFrom (now (names .entry)) (now (s .entry)) 0 (taken 0 (now (told .entry))) ⌝ }
 {
-    value_in_checked(inside(answer, RECORD), name)
+    let mut why = 0;
+    let mut p = 0;
+    while p < s.len() {
+        match next_checked(s, p) {
+            Next::End => return why,
+            Next::Broken => return 3,
+            Next::Member { tag, start, end } => {
+                why = take_one(told, names, tag, place::value(s, start, end), why);
+                p = end;
+            }
+        }
+    }
+    why
+}
+
+// One record, tested and kept in one pass: the lowest reason that applies, given what was told before and the names that count; 0 where none
+// does. Then all that it tells has been kept; else the slots are of no use any more.
+pub fn take(told: &mut [u8], names: &[usize], answer: &[u8]) -> usize
+    ensures { λ r. ⌜ taken r (now (told .exit)) ≡ recordTaken (now (names .entry)) (now (answer .entry)) (now (told .entry)) ⌝ }
+{
+    match single_of(answer) {
+        Single::Refused(why) => why,
+        Single::Object { tag, start, end } => {
+            if tag != RECORD {
+                return 3;
+            }
+            take_all(told, names, place::value(data_field(answer), start, end))
+        }
+    }
 }
 
 // Whether one of the names was not told.

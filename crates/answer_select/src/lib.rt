@@ -1,24 +1,30 @@
 // The answer to SELECT.
-use answer_common::answer::frame_reason;
+use answer_common::answer::Single;
 use answer_common::answer::inside;
-use answer_common::named::any_times_in_checked;
-use answer_common::named::any_wrong_in_checked;
-use answer_common::named::times_in_checked;
+use answer_common::answer::single_of;
+use answer_common::named;
+use answer_common::named::any_times;
 use answer_common::named::value_in_checked;
+use answer_common::named::value_of;
 use dol_wanted::is_fillable;
 use start_fields::fields;
+use tlv_list::Found;
+use tlv_list::lookup::members;
+use tlv_list::place::data_field;
+use tlv_list::place::value;
 ghost use mathlib.Core.Path.{_≡_};
+ghost use mathlib.Core.List.{[], _∷_, _++_};
 ghost use Rattle.slices.specs.Choice.{firstOf};
+ghost use Rattle.slices.specs.Tables.{anyOf};
 ghost use Rattle.start_fields.specs.Reading.{readingOf};
-ghost use Rattle.answer_common.specs.Named.{direct, valueOf};
-ghost use Rattle.answer_select.specs.Select.{begins as beginsOf, nameWrong, selectTwice};
-ghost use Rattle.answer_select.specs.Select.{selectWrong, selectLines, selectReason, pdolOf};
+ghost use Rattle.tlv_list.specs.Lookup.{foundValue};
+ghost use Rattle.answer_common.specs.Answer.{frame};
+ghost use Rattle.answer_common.specs.Named.{direct, valueOf, wrongValue};
+ghost use Rattle.answer_common.specs.Single.{singleOf};
+ghost use Rattle.answer_common.specs.declared.answer.Single.the-variants.{Object};
+ghost use Rattle.answer_select.specs.Select.{begins as beginsOf, nameWrong, selectLines, selectReason, pdolOf};
 
 const SELECTED: usize = 0x6F;
-
-const NAMES: [usize; 2] = [0x84, 0xA5];
-
-const INNER_NAMES: [usize; 1] = [0x9F38];
 
 // A5's value.
 fn proprietary(answer: &[u8]) -> &[u8]
@@ -51,67 +57,77 @@ fn begins(aid: &[u8], v: &[u8]) -> bool
     true
 }
 
-// Whether the name 84 is there and does not begin with the AID.
-fn is_name_wrong(aid: &[u8], answer: &[u8]) -> bool
-    ensures { λ r. ⌜ r ≡ nameWrong (now (aid .entry)) (direct 0x6F (now (answer .entry)) 0x84) ⌝ }
+// Whether the name 84 was found and does not begin with the AID.
+fn is_name_wrong(aid: &[u8], s: &[u8], found: Found) -> bool
+    ensures { λ r. ⌜ r ≡ nameWrong (now (aid .entry)) (foundValue (now (s .entry)) found) ⌝ }
 {
-    let s = inside(answer, SELECTED);
-    times_in_checked(s, 0x84) == 1 && !begins(aid, value_in_checked(s, 0x84))
+    match found {
+        Found::Absent => false,
+        Found::Once { start, end } => !begins(aid, value(s, start, end)),
+        Found::Twice => false,
+    }
 }
 
-fn is_twice(answer: &[u8]) -> bool
-    ensures { λ r. ⌜ r ≡ selectTwice (now (answer .entry)) ⌝ }
+// Whether one of the values is wrong: 84 and A5 in 6F, 9F38 in A5.
+fn is_wrong(aid: &[u8], s: &[u8], name: Found, inner: Found, p: &[u8], list: Found) -> bool
+    ensures { λ r. ⌜ r
+        ≡ anyOf (wrongValue 0x84 (foundValue (now (s .entry)) name) ∷ wrongValue 0xA5 (foundValue (now (s .entry)) inner)
+        ∷ wrongValue 0x9F38 (foundValue (now (p .entry)) list) ∷ nameWrong (now (aid .entry)) (foundValue (now (s .entry)) name) ∷ []) ⌝ }
 {
-    let names = NAMES;
-    if any_times_in_checked(inside(answer, SELECTED), 2, &names) {
+    if named::is_wrong(s, 0x84, name) {
         return true;
     }
-    let inner = INNER_NAMES;
-    any_times_in_checked(proprietary(answer), 2, &inner)
+    if named::is_wrong(s, 0xA5, inner) {
+        return true;
+    }
+    if named::is_wrong(p, 0x9F38, list) {
+        return true;
+    }
+    is_name_wrong(aid, s, name)
 }
 
-fn is_wrong(aid: &[u8], answer: &[u8]) -> bool
-    ensures { λ r. ⌜ r ≡ selectWrong (now (aid .entry)) (now (answer .entry)) ⌝ }
+// Reasons 3 to 9 of an answer whose one object is 6F, by its members; 0 where none of them applies.
+fn content_reason(aid: &[u8], answer: &[u8], start: usize, end: usize) -> usize
+    requires { ⌜ singleOf (now answer) ≡ Object 0x6F start end ⌝ }
+    ensures { λ r. ⌜ r ≡ firstOf (frame (0x6F ∷ []) (now (answer .entry)) ++ selectLines (now (aid .entry)) (now (answer .entry))) ⌝ }
 {
-    let names = NAMES;
-    if any_wrong_in_checked(inside(answer, SELECTED), &names) {
-        return true;
+    let s = value(data_field(answer), start, end);
+    let m = members(s, 0x84, 0xA5, 0x84, 0xA5);
+    if !m.list {
+        return 3;
     }
-    let inner = INNER_NAMES;
-    if any_wrong_in_checked(proprietary(answer), &inner) {
-        return true;
-    }
-    is_name_wrong(aid, answer)
-}
-
-// Reasons 4 to 9; 0 where none of them applies.
-fn content_reason(aid: &[u8], answer: &[u8]) -> usize
-    ensures { λ r. ⌜ r ≡ firstOf (selectLines (now (aid .entry)) (now (answer .entry))) ⌝ }
-{
-    if is_twice(answer) {
+    let name = m.first;
+    let inner = m.second;
+    let p = value_of(s, inner);
+    let n = members(p, 0x9F38, 0x9F38, 0x9F38, 0x9F38);
+    let list = n.first;
+    if any_times(2, name, inner, list, list) {
         return 4;
     }
-    if is_wrong(aid, answer) {
+    if is_wrong(aid, s, name, inner, p, list) {
         return 5;
     }
-    let names = NAMES;
-    if any_times_in_checked(inside(answer, SELECTED), 0, &names) {
+    if any_times(0, name, inner, name, inner) {
         return 8;
     }
-    if !is_fillable(pdol(answer)) {
-        return 9;
-    }
-    0
+    if is_fillable(value_of(p, list)) { 0 } else { 9 }
 }
 
 // The lowest reason that applies; 0 where none does.
 pub fn select_reason(start: &[u8], answer: &[u8]) -> usize
     ensures { λ r. ⌜ r ≡ selectReason (readingOf (now (start .entry))) (now (answer .entry)) ⌝ }
 {
-    let expected = [SELECTED];
-    let why = frame_reason(answer, &expected);
-    if why != 0 {
-        return why;
+    match single_of(answer) {
+        Single::Refused(why) => why,
+        Single::Object {
+            tag,
+            start: from,
+            end,
+        } => {
+            if tag != SELECTED {
+                return 3;
+            }
+            content_reason(fields::aid(start), answer, from, end)
+        }
     }
-    content_reason(fields::aid(start), answer)
 }

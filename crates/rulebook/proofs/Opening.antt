@@ -19,96 +19,100 @@ use Rattle.tlv_head.specs.Head.{tagRight as o20, lengthByte as o21, lengthForm 
 use Rattle.tlv_head.specs.Head.{valueStart as o25, valueEnd as o26, whole as o27}
 use Rattle.tlv_head.specs.Member.{memberAt as o28}
 use Rattle.tlv_list.specs.Lookup.{met as o29, lookup as o30, firstAmong as o31, firstFrom as o32, unless as o33, alone as o34}
-use Rattle.tlv_list.specs.Lookup.{findInChecked as o35, foundValue as o36, seek as o37, lookupRefusal as o38}
-use Rattle.tlv_list.specs.Objects.{between as o39, firstObject as o40, before as o41, rightInside as o42, listed as o43}
-use Rattle.tlv_list.specs.Objects.{objects as o44, isList as o45, readRefusal as o46}
-use Rattle.tlv_list.specs.Place.{fillers as o47, nextAt as o48, objectAt as o49, follow as o50, walk as o51, placesFrom as o52}
-use Rattle.tlv_list.specs.Place.{dataField as o53}
-use Rattle.tlv_write.specs.Written.{isTag as o54, tagBytes as o55, lengthBytes as o56, written as o57, writtenAll as o58}
-use Rattle.tlv_write.specs.Written.{fitsTag as o59, writeRefusal as o60, refusalOf as o61, sizeOf as o62, sizeWritten as o63}
-use Rattle.tlv_write.specs.Written.{bufferAfter as o64}
-use Rattle.tape_read.specs.Blocks.{head as o65, body as o66, block as o67, window as o68, field as o69, paddingIn as o70}
-use Rattle.tape_read.specs.Blocks.{allZero as o71, checkBad as o72, numberBad as o73, sessionBad as o74, kindBad as o75}
-use Rattle.tape_read.specs.Blocks.{spareBad as o76, lengthBad as o77, paddingBad as o78, contentTests as o79, codeOf as o80}
-use Rattle.tape_read.specs.Blocks.{payloadIn as o81, entryIn as o82}
-use Rattle.tape_read.specs.Entries.{isKind as o83, storable as o84, allStorable as o85}
-use Rattle.tape_read.specs.Numbers.{numberOf as o86, bytesOf as o87}
-use Rattle.tape_read.specs.Tapes.{preceded as o88, blockAt as o89, cut as o90, blocksOf as o91, readBlocks as o92}
-use Rattle.tape_read.specs.Tapes.{readFrom as o93, sessionOf as o94, readTape as o95, written as o96}
-use Rattle.sessions.specs.Machine.{due as o97, andOn as o98, sayable as o99, next as o100}
-use Rattle.sessions.specs.Session.{isPayload as o101, phasesOf as o102}
-use Rattle.decimal_dates.specs.Dates.{dateKey as o103, monthAndDay as o104, validStartDate as o105, validCardDate as o106}
-use Rattle.decimal_dates.specs.Decimal.{decimalFrom as o107, decimal as o108, decimalByte as o109, digitsOnly as o110}
-use Rattle.decimal_dates.specs.Decimal.{zerosOnly as o111}
-use Rattle.start_fields.specs.Layout.{isLength as o112}
-use Rattle.start_fields.specs.Reading.{readingOf as o113}
-use Rattle.start_valid.specs.Start.{validKind as o114, validDigits as o115, validRandom as o116, validPercentages as o117}
-use Rattle.start_valid.specs.Start.{validThreshold as o118, validAid as o119, validStart as o120, terminalOf as o121}
-use Rattle.start_valid.specs.Start.{beginsSession as o122}
-use Rattle.decide_cryptogram.specs.Cryptograms.{givenBy as o123, allowedBy as o124}
-use Rattle.answer_afl.specs.Cursor.{fromEntry as o125, entryAt as o126, start as o127, isLeft as o128, recordAt as o129}
-use Rattle.answer_afl.specs.Cursor.{stepped as o130, remaining as o131}
-use Rattle.answer_afl.specs.Entries.{firstEntry as o132, entries as o133, wholeEntries as o134, sfi as o135, records as o136}
-use Rattle.answer_afl.specs.Entries.{fileRight as o137, entryRight as o138, entriesRight as o139, recordsOf as o140}
-use Rattle.answer_afl.specs.Entries.{recordCount as o141, tooMany as o142, run as o143, readEntry as o144, readAll as o145}
-use Rattle.answer_afl.specs.Entries.{toRead as o146}
-use Rattle.answer_common.specs.Answer.{sizeBad as o147, statusBad as o148, only as o149, outer as o150, theOne as o151}
-use Rattle.answer_common.specs.Answer.{tagged as o152, valueUnder as o153, isOne as o154, inside as o155, outerBad as o156}
-use Rattle.answer_common.specs.Answer.{frame as o157}
-use Rattle.answer_common.specs.CardNumber.{halves as o158, digits as o159, onlyF as o160, cardNumber as o161}
-use Rattle.answer_common.specs.Content.{meets as o162, rowsFor as o163, namesFor as o164, rules as o165, ruleFor as o166}
-use Rattle.answer_common.specs.Content.{rightValue as o167}
-use Rattle.answer_common.specs.Forms.{lacks as o168}
-use Rattle.answer_common.specs.Named.{membersIn as o169, listed as o170, named as o171, among as o172, direct as o173}
-use Rattle.answer_common.specs.Named.{standing as o174, times as o175, told as o176, valueOf as o177, wrongValue as o178}
-use Rattle.answer_common.specs.Named.{anyTimes as o179, anyWrong as o180}
-use Rattle.cvm_rules.specs.Conditions.{satisfied as o181}
-use Rattle.cvm_rules.specs.Methods.{methodOf as o182, supported as o183, succeeds as o184, pinBits as o185, triedBits as o186}
-use Rattle.cvm_rules.specs.Turns.{triedTurn as o187, tried as o188, turnOf as o189}
-use Rattle.cvm.specs.Lists.{limitOf as o190, limitX as o191, limitY as o192, rulesOf as o193, rulesIn as o194, isResult as o195}
-use Rattle.cvm.specs.Lists.{areResults as o196, inApplicationCurrency as o197}
-use Rattle.cvm.specs.Verified.{following as o198, verifiedFrom as o199, verified as o200}
-use Rattle.decide_tvr.specs.Bits.{joined as o201, meet as o202, flag as o203}
-use Rattle.decide_tvr.specs.Results.{differentVersions as o204, expired as o205, notYetEffective as o206, riskManaged as o207}
-use Rattle.decide_tvr.specs.Results.{atFloorLimit as o208, drawn as o209, restrictions as o210, risks as o211}
-use Rattle.decide_tvr.specs.Results.{tvrAfterRecords as o212, tsiAfterRecords as o213, tsiAfterFirstAnswer as o214}
-use Rattle.decide_tvr.specs.Selection.{biased as o215, chosen as o216, selected as o217}
-use Rattle.decide_requests.specs.Replies.{codeIn as o218, saidBy as o219, replyOf as o220, isReply as o221, responseCode as o222}
-use Rattle.decide_requests.specs.Requests.{issuerCode as o223, codeMatch as o224, byType as o225, firstRequest as o226}
-use Rattle.decide_requests.specs.Requests.{whenUnable as o227, secondRequest as o228}
-use Rattle.decide_verification.specs.Verification.{verificationSupported as o229, resultsDue as o230, verificationList as o231}
-use Rattle.decide_verification.specs.Verification.{resultsWanted as o232, circumstancesOf as o233, tvrAfterResults as o234}
-use Rattle.decide_verification.specs.Verification.{tsiAfterResults as o235}
-use Rattle.dol_wanted.specs.Wanted.{andThen as o236, sizeAt as o237, firstWanted as o238, asks as o239, wantedStep as o240}
-use Rattle.dol_wanted.specs.Wanted.{entriesOf as o241, total as o242, totalBy as o243, totalOf as o244, fits as o245}
-use Rattle.dol_wanted.specs.Wanted.{fillable as o246, tally as o247}
-use Rattle.dol_values.specs.Known.{ownField as o248, valueBy as o249, valueFor as o250, withFormat as o251, supplied as o252}
-use Rattle.dol_values.specs.Shape.{shaped as o253, formatOf as o254}
-use Rattle.dol_fill.specs.Filled.{entryBytes as o255, firstBytes as o256, filled as o257, filledBy as o258, filledList as o259}
-use Rattle.dol_fill.specs.Filled.{filling as o260, missing as o261, missingIn as o262, missingBy as o263, unsupplied as o264}
-use Rattle.dol_fill.specs.Filled.{summed as o265}
-use Rattle.commands.specs.Commands.{selectCommand as o266, optionsCommand as o267, recordCommand as o268, withLength as o269}
-use Rattle.commands.specs.Commands.{cryptogramCommand as o270, sizeIn as o271, dataSize as o272}
-use Rattle.answer_select.specs.Select.{inner as o273, pdolOf as o274, begins as o275, nameWrong as o276, selectTwice as o277}
-use Rattle.answer_select.specs.Select.{selectWrong as o278, selectLines as o279, selectReason as o280}
-use Rattle.answer_record.specs.Records.{again as o281, anyAgain as o282, recordTwice as o283, recordLines as o284}
-use Rattle.answer_record.specs.Records.{recordReason as o285, valueIn as o286, namedIn as o287, incomplete as o288}
-use Rattle.answer_record.specs.Records.{completeReason as o289, afterRecords as o290}
-use Rattle.answer_gpo.specs.Options.{profileOf as o291, locatorOf as o292, optionsWrong as o293, optionsLines as o294}
-use Rattle.answer_gpo.specs.Options.{optionsReason as o295}
-use Rattle.answer_cryptogram.specs.Cryptogram.{informationOf as o296, cryptogramOf as o297, cryptogramWrong as o298}
-use Rattle.answer_cryptogram.specs.Cryptogram.{cryptogramLines as o299, cryptogramReason as o300}
-use Rattle.words.specs.Words.{wordKind as o301, wordAllowed as o302, wordRefusal as o303}
-use Rattle.rulebook.specs.Phase.{situationOf as o304, commandOf as o305, dueKind as o306, decisionOf as o307}
-use Rattle.rulebook.specs.Phase.{decided as o308, ended as o309, tvrOf as o310, tsiOf as o311}
-use Rattle.rulebook.specs.Roles.{given as o312, begins as o313}
-use Rattle.rulebook.specs.Situation.{begun as o314, knownIn as o315, listIn as o316}
-use Rattle.rulebook.specs.Turn.{goesOn as o317, opened as o318, selected as o319, managed as o320, requested as o321}
-use Rattle.rulebook.specs.Turn.{verifying as o322, allRead as o323, readOn as o324, withProfile as o325, optioned as o326}
-use Rattle.rulebook.specs.Turn.{withRecord as o327, recorded as o328, answered as o329, replied as o330, online as o331}
-use Rattle.rulebook.specs.Turn.{byFirst as o332, firstAnswered as o333, bySecond as o334, secondAnswered as o335}
-use Rattle.rulebook.specs.Turn.{turn as o336, wantedIn as o337, allowed as o338, replyMade as o339, heard as o340}
-use Rattle.rulebook.specs.Turn.{verifiedBy as o341, after as o342}
+use Rattle.tlv_list.specs.Lookup.{findInChecked as o35, further as o36, noted as o37, notedAll as o38, noMembers as o39}
+use Rattle.tlv_list.specs.Lookup.{membersOf as o40, foundValue as o41, seek as o42, lookupRefusal as o43}
+use Rattle.tlv_list.specs.Objects.{between as o44, firstObject as o45, before as o46, rightInside as o47, listed as o48}
+use Rattle.tlv_list.specs.Objects.{objects as o49, isList as o50, readRefusal as o51}
+use Rattle.tlv_list.specs.Place.{fillers as o52, nextAt as o53, lookedInto as o54, checkedAt as o55, objectAt as o56}
+use Rattle.tlv_list.specs.Place.{follow as o57, walk as o58, placesFrom as o59, dataField as o60}
+use Rattle.tlv_write.specs.Written.{isTag as o61, tagBytes as o62, lengthBytes as o63, written as o64, writtenAll as o65}
+use Rattle.tlv_write.specs.Written.{fitsTag as o66, writeRefusal as o67, refusalOf as o68, sizeOf as o69, sizeWritten as o70}
+use Rattle.tlv_write.specs.Written.{bufferAfter as o71}
+use Rattle.tape_read.specs.Blocks.{head as o72, body as o73, block as o74, window as o75, field as o76, paddingIn as o77}
+use Rattle.tape_read.specs.Blocks.{allZero as o78, checkBad as o79, numberBad as o80, sessionBad as o81, kindBad as o82}
+use Rattle.tape_read.specs.Blocks.{spareBad as o83, lengthBad as o84, paddingBad as o85, contentTests as o86, codeOf as o87}
+use Rattle.tape_read.specs.Blocks.{payloadIn as o88, entryIn as o89}
+use Rattle.tape_read.specs.Entries.{isKind as o90, storable as o91, allStorable as o92}
+use Rattle.tape_read.specs.Numbers.{numberOf as o93, bytesOf as o94}
+use Rattle.tape_read.specs.Tapes.{preceded as o95, blockAt as o96, cut as o97, blocksOf as o98, readBlocks as o99}
+use Rattle.tape_read.specs.Tapes.{readFrom as o100, sessionOf as o101, readTape as o102, written as o103}
+use Rattle.sessions.specs.Machine.{due as o104, andOn as o105, sayable as o106, next as o107}
+use Rattle.sessions.specs.Session.{isPayload as o108, phasesOf as o109}
+use Rattle.decimal_dates.specs.Dates.{dateKey as o110, monthAndDay as o111, validStartDate as o112, validCardDate as o113}
+use Rattle.decimal_dates.specs.Decimal.{decimalFrom as o114, decimal as o115, decimalByte as o116, digitsOnly as o117}
+use Rattle.decimal_dates.specs.Decimal.{zerosOnly as o118}
+use Rattle.start_fields.specs.Layout.{isLength as o119}
+use Rattle.start_fields.specs.Reading.{readingOf as o120}
+use Rattle.start_valid.specs.Start.{validKind as o121, validDigits as o122, validRandom as o123, validPercentages as o124}
+use Rattle.start_valid.specs.Start.{validThreshold as o125, validAid as o126, validStart as o127, terminalOf as o128}
+use Rattle.start_valid.specs.Start.{beginsSession as o129}
+use Rattle.decide_cryptogram.specs.Cryptograms.{givenBy as o130, allowedBy as o131}
+use Rattle.answer_afl.specs.Cursor.{fromEntry as o132, entryAt as o133, start as o134, isLeft as o135, recordAt as o136}
+use Rattle.answer_afl.specs.Cursor.{stepped as o137, remaining as o138}
+use Rattle.answer_afl.specs.Entries.{firstEntry as o139, entries as o140, wholeEntries as o141, sfi as o142, records as o143}
+use Rattle.answer_afl.specs.Entries.{fileRight as o144, entryRight as o145, entriesRight as o146, recordsOf as o147}
+use Rattle.answer_afl.specs.Entries.{recordCount as o148, tooMany as o149, run as o150, readEntry as o151, readAll as o152}
+use Rattle.answer_afl.specs.Entries.{toRead as o153}
+use Rattle.answer_common.specs.Answer.{sizeBad as o154, statusBad as o155, only as o156, outer as o157, theOne as o158}
+use Rattle.answer_common.specs.Answer.{tagged as o159, valueUnder as o160, isOne as o161, inside as o162, outerBad as o163}
+use Rattle.answer_common.specs.Answer.{frame as o164}
+use Rattle.answer_common.specs.CardNumber.{halves as o165, digits as o166, onlyF as o167, cardNumber as o168}
+use Rattle.answer_common.specs.Content.{meets as o169, rowsFor as o170, namesFor as o171, rules as o172, ruleFor as o173}
+use Rattle.answer_common.specs.Content.{rightValue as o174}
+use Rattle.answer_common.specs.Forms.{lacks as o175}
+use Rattle.answer_common.specs.Named.{membersIn as o176, listed as o177, named as o178, among as o179, direct as o180}
+use Rattle.answer_common.specs.Named.{standing as o181, times as o182, foundTimes as o183, told as o184, valueOf as o185}
+use Rattle.answer_common.specs.Named.{wrongValue as o186, anyTimes as o187, anyWrong as o188}
+use Rattle.answer_common.specs.Single.{lastOne as o189, aloneBy as o190, aloneIn as o191, singleOf as o192}
+use Rattle.cvm_rules.specs.Conditions.{satisfied as o193}
+use Rattle.cvm_rules.specs.Methods.{methodOf as o194, supported as o195, succeeds as o196, pinBits as o197, triedBits as o198}
+use Rattle.cvm_rules.specs.Turns.{triedTurn as o199, tried as o200, turnOf as o201}
+use Rattle.cvm.specs.Lists.{limitOf as o202, limitX as o203, limitY as o204, rulesOf as o205, rulesIn as o206, isResult as o207}
+use Rattle.cvm.specs.Lists.{areResults as o208, inApplicationCurrency as o209}
+use Rattle.cvm.specs.Verified.{following as o210, verifiedFrom as o211, verified as o212}
+use Rattle.decide_tvr.specs.Bits.{joined as o213, meet as o214, flag as o215}
+use Rattle.decide_tvr.specs.Results.{differentVersions as o216, expired as o217, notYetEffective as o218, riskManaged as o219}
+use Rattle.decide_tvr.specs.Results.{atFloorLimit as o220, drawn as o221, restrictions as o222, risks as o223}
+use Rattle.decide_tvr.specs.Results.{tvrAfterRecords as o224, tsiAfterRecords as o225, tsiAfterFirstAnswer as o226}
+use Rattle.decide_tvr.specs.Selection.{biased as o227, chosen as o228, selected as o229}
+use Rattle.decide_requests.specs.Replies.{codeIn as o230, saidBy as o231, replyOf as o232, isReply as o233, responseCode as o234}
+use Rattle.decide_requests.specs.Requests.{issuerCode as o235, codeMatch as o236, byType as o237, firstRequest as o238}
+use Rattle.decide_requests.specs.Requests.{whenUnable as o239, secondRequest as o240}
+use Rattle.decide_verification.specs.Verification.{verificationSupported as o241, resultsDue as o242, verificationList as o243}
+use Rattle.decide_verification.specs.Verification.{resultsWanted as o244, circumstancesOf as o245, tvrAfterResults as o246}
+use Rattle.decide_verification.specs.Verification.{tsiAfterResults as o247}
+use Rattle.dol_wanted.specs.Wanted.{andThen as o248, sizeAt as o249, firstWanted as o250, asks as o251, wantedStep as o252}
+use Rattle.dol_wanted.specs.Wanted.{entriesOf as o253, total as o254, totalBy as o255, totalOf as o256, fits as o257}
+use Rattle.dol_wanted.specs.Wanted.{fillable as o258, tally as o259}
+use Rattle.dol_values.specs.Known.{ownField as o260, valueBy as o261, valueFor as o262, withFormat as o263, supplied as o264}
+use Rattle.dol_values.specs.Shape.{shaped as o265, formatOf as o266}
+use Rattle.dol_fill.specs.Filled.{entryBytes as o267, firstBytes as o268, filled as o269, filledBy as o270, filledList as o271}
+use Rattle.dol_fill.specs.Filled.{filling as o272, missing as o273, missingIn as o274, missingBy as o275, unsupplied as o276}
+use Rattle.dol_fill.specs.Filled.{summed as o277}
+use Rattle.commands.specs.Commands.{selectCommand as o278, optionsCommand as o279, recordCommand as o280, withLength as o281}
+use Rattle.commands.specs.Commands.{cryptogramCommand as o282, sizeIn as o283, dataSize as o284}
+use Rattle.answer_select.specs.Select.{inner as o285, pdolOf as o286, begins as o287, nameWrong as o288, selectTwice as o289}
+use Rattle.answer_select.specs.Select.{selectWrong as o290, selectLines as o291, selectReason as o292}
+use Rattle.answer_record.specs.Records.{again as o293, anyAgain as o294, recordTwice as o295, recordLines as o296}
+use Rattle.answer_record.specs.Records.{recordReason as o297, valueIn as o298, namedIn as o299, incomplete as o300}
+use Rattle.answer_record.specs.Records.{completeReason as o301, afterRecords as o302}
+use Rattle.answer_record.specs.Taken.{taken as o303, worse as o304, oneTaken as o305, objectsTaken as o306, takenBy as o307}
+use Rattle.answer_record.specs.Taken.{takenWalk as o308, takenFrom as o309, takenIn as o310, recordTaken as o311}
+use Rattle.answer_gpo.specs.Options.{profileOf as o312, locatorOf as o313, optionsWrong as o314, optionsLines as o315}
+use Rattle.answer_gpo.specs.Options.{optionsReason as o316}
+use Rattle.answer_cryptogram.specs.Cryptogram.{informationOf as o317, cryptogramOf as o318, cryptogramWrong as o319}
+use Rattle.answer_cryptogram.specs.Cryptogram.{cryptogramLines as o320, cryptogramReason as o321}
+use Rattle.words.specs.Words.{wordKind as o322, wordAllowed as o323, wordRefusal as o324}
+use Rattle.rulebook.specs.Phase.{situationOf as o325, commandOf as o326, dueKind as o327, decisionOf as o328}
+use Rattle.rulebook.specs.Phase.{decided as o329, ended as o330, tvrOf as o331, tsiOf as o332}
+use Rattle.rulebook.specs.Roles.{given as o333, begins as o334}
+use Rattle.rulebook.specs.Situation.{begun as o335, knownIn as o336, listIn as o337}
+use Rattle.rulebook.specs.Turn.{goesOn as o338, opened as o339, selected as o340, managed as o341, requested as o342}
+use Rattle.rulebook.specs.Turn.{verifying as o343, allRead as o344, readOn as o345, withProfile as o346, optioned as o347}
+use Rattle.rulebook.specs.Turn.{withRecord as o348, recorded as o349, answered as o350, replied as o351, online as o352}
+use Rattle.rulebook.specs.Turn.{byFirst as o353, firstAnswered as o354, bySecond as o355, secondAnswered as o356}
+use Rattle.rulebook.specs.Turn.{turn as o357, wantedIn as o358, allowed as o359, replyMade as o360, heard as o361}
+use Rattle.rulebook.specs.Turn.{verifiedBy as o362, after as o363}
 
 -- the state that a session's entries lead to
 unfoldable pub reached : List Entry → Option Machine
@@ -124,5 +128,6 @@ unfolding o0 o1 o2 o3 o4 o5 o6 o7 o8 o9 o10 o11 o12 o13 o14 o15 o16 o17 o18 o19 
     o245 o246 o247 o248 o249 o250 o251 o252 o253 o254 o255 o256 o257 o258 o259 o260 o261 o262 o263 o264 o265 o266 o267 o268 o269
     o270 o271 o272 o273 o274 o275 o276 o277 o278 o279 o280 o281 o282 o283 o284 o285 o286 o287 o288 o289 o290 o291 o292 o293 o294
     o295 o296 o297 o298 o299 o300 o301 o302 o303 o304 o305 o306 o307 o308 o309 o310 o311 o312 o313 o314 o315 o316 o317 o318 o319
-    o320 o321 o322 o323 o324 o325 o326 o327 o328 o329 o330 o331 o332 o333 o334 o335 o336 o337 o338 o339 o340 o341 o342 run
+    o320 o321 o322 o323 o324 o325 o326 o327 o328 o329 o330 o331 o332 o333 o334 o335 o336 o337 o338 o339 o340 o341 o342 o343 o344
+    o345 o346 o347 o348 o349 o350 o351 o352 o353 o354 o355 o356 o357 o358 o359 o360 o361 o362 o363 run
 reached es = run rules es (at opens)

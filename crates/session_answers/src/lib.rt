@@ -3,7 +3,6 @@ use answer_common::content::NAMES;
 use answer_common::content::names_for;
 use answer_cryptogram as cryptogram;
 use answer_gpo::options_reason;
-use answer_record::record_reason;
 use commands::write;
 use decide_cryptogram::Cryptogram;
 use decide_cryptogram::Given;
@@ -17,8 +16,8 @@ use session_moves::ends::end;
 use session_moves::known::at_options;
 use session_online::by_first;
 use session_phase::Question;
+use session_records::Store;
 use session_records::records::bytes_of;
-use session_records::records::with_record;
 use session_records_read::read_on;
 use session_state::State;
 use session_state::change::change;
@@ -83,12 +82,12 @@ pub fn on_record(s: State, a: &[u8], buf: &mut [u8]) -> Step
     let names = NAMES;
     let n = names_of(s);
     let store = s.told;
-    let told = bytes_of(store);
-    let why = record_reason(&told, &names[..n], a);
+    let mut told = bytes_of(store);
+    let why = answer_record::take(&mut told, &names[..n], a);
     if why != 0 {
         return end(s, why);
     }
-    read_on(with_told(s, with_record(store, &names[..n], a)), buf)
+    read_on(with_told(s, Store { bytes: told }), buf)
 }
 
 fn after_first(s: State) -> State

@@ -5,7 +5,6 @@ use crate::Slot;
 use answer_common::content::NAMES;
 use answer_common::content::Rule;
 use answer_common::content::rule_for;
-use answer_common::named::is_listed;
 use slices::byte;
 use slices::lay;
 use slices::part;
@@ -18,7 +17,7 @@ ghost use Rattle.answer_common.specs.Content.{ruleFor};
 ghost use Rattle.slices.specs.Tests.{isSome};
 ghost use Rattle.session_records.specs.Runs.{longest};
 ghost use Rattle.session_records.specs.Slots.{end, room as roomOf, roomsOf, toldFrom, nowhere, placed, total};
-ghost use Rattle.session_records.specs.Slots.{recordSlot, slotFor, cellIn, toldIn, keptAt, keptTold, keptIn};
+ghost use Rattle.session_records.specs.Slots.{recordSlot, slotFor, cellIn, toldIn, keptAt, keptIn};
 
 // The most bytes that a value may have.
 fn room(name: usize) -> usize
@@ -116,13 +115,4 @@ pub fn keep(d: &mut [u8], tag: usize, v: &[u8])
     ensures { λ _. ⌜ now (d .exit) ≡ keptIn tag (now (v .entry)) (now (d .entry)) ⌝ }
 {
     keep_at(d, slot_of(tag), v);
-}
-
-// The same for a record's object: only where its name counts.
-pub fn keep_told(d: &mut [u8], names: &[usize], tag: usize, v: &[u8])
-    ensures { λ _. ⌜ now (d .exit) ≡ keptTold (now (names .entry)) tag (now (v .entry)) (now (d .entry)) ⌝ }
-{
-    if is_listed(tag, names) {
-        keep(d, tag, v);
-    }
 }

@@ -2,7 +2,9 @@ pub mod Objects
 pub mod Reading
 pub mod Fillers
 pub mod ListCheck
+pub mod Checked
 pub mod Walking
+pub mod Noting
 pub mod Refusals
 pub mod Joined
 pub mod Pinned

@@ -33,7 +33,7 @@ nothing-past zero s at h = refl
 nothing-past (suc n) s at h = ap (follow (walk n s)) (next-end s at h)
 
 -- any two numbers of steps that reach the end find the same
-enough : (n m : ℕ) (s : List ℕ) (at : ℕ) → length s ≤ at + n → length s ≤ at + m → walk n s at ≡ walk m s at
+pub enough : (n m : ℕ) (s : List ℕ) (at : ℕ) → length s ≤ at + n → length s ≤ at + m → walk n s at ≡ walk m s at
 unfolding walk
 enough zero m s at h k = sym (nothing-past m s at (omega arith))
 enough (suc n) zero s at h k = nothing-past (suc n) s at (omega arith)

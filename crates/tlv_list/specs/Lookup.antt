@@ -1,6 +1,7 @@
 -- Looking up a tag among the direct members of a list: it is absent, it stands there once, or more than once. In bytes that are
 -- no list nothing is looked up.
 -- Assumes nothing.
+use mathlib.Core.Bool.{true, false}
 use mathlib.Core.List.{List, [], _∷_}
 use Prim.Native.Nat.{ℕ}
 use lib.Dec.{eqb}
@@ -9,6 +10,7 @@ use Rattle.tlv_list.specs.Objects.{Object, between, readRefusal}
 use Rattle.tlv_list.specs.Place.{Place, placesFrom}
 use Rattle.tlv_list.specs.declared.Found.{Found}
 use Rattle.tlv_list.specs.declared.Found.the-variants.{Absent, Once, Twice}
+use Rattle.tlv_list.specs.declared.Members.{Members}
 use Rattle.tlv_list.specs.declared.Sought.{Sought}
 use Rattle.tlv_list.specs.declared.Sought.the-variants.{Refused, InList}
 
@@ -50,6 +52,35 @@ alone again Twice = Twice
 -- none it reads up to the break, so it is asked only of bytes that were checked
 unfoldable pub findInChecked : List ℕ → ℕ → Found
 findInChecked s tag = alone (λ end. firstFrom s end tag) (firstFrom s 0 tag)
+
+-- the same in one pass over the places that the reader finds: what was found so far, and one place more
+unfoldable pub further : ℕ → ℕ → Found → Found
+further start end Absent = Once start end
+further start end (Once a e) = Twice
+further start end Twice = Twice
+
+unfoldable pub noted : ℕ → ℕ → ℕ → ℕ → Found → Found
+noted tag t start end f = pick (eqb t tag) (further start end f) f
+
+unfoldable pub notedAll : ℕ → List Place → Found → Found
+notedAll tag [] f = f
+notedAll tag (p ∷ ps) f = notedAll tag ps (noted tag (p .tag) (p .start) (p .end) f)
+
+-- and of four tags, with the check of the list
+unfoldable pub noMembers : Members
+noMembers = record { list = false; first = Absent; second = Absent; third = Absent; fourth = Absent }
+
+unfoldable pub membersOf : List ℕ → ℕ → ℕ → ℕ → ℕ → Members
+membersOf s a b c d =
+    pick (eqb (readRefusal s) 0)
+    (record {
+      list = true;
+      first = findInChecked s a;
+      second = findInChecked s b;
+      third = findInChecked s c;
+      fourth = findInChecked s d;
+    })
+    noMembers
 
 -- what a place says of the bytes
 unfoldable pub foundValue : List ℕ → Found → Lookup

@@ -6,8 +6,9 @@ use Prim.Native.Nat.{ℕ, zero, suc, _+_, _-_}
 use lib.Dec.{leb, eqb}
 use lib.ListN.{length, take, drop}
 use Rattle.slices.specs.Choice.{pick}
+use Rattle.tlv_head.specs.Head.{constructed}
 use Rattle.tlv_head.specs.Member.{memberAt}
-use Rattle.tlv_list.specs.Objects.{Object, between}
+use Rattle.tlv_list.specs.Objects.{Object, between, readRefusal}
 use Rattle.tlv_head.specs.declared.Next.{Next}
 use Rattle.tlv_head.specs.declared.Next.the-variants.{Member, End, Broken}
 
@@ -20,6 +21,17 @@ fillers (b ∷ s) = pick (eqb b 0) (suc (fillers s)) 0
 -- In the middle of an object, and on bytes that are no list, the bytes there are read as if a head stood there
 unfoldable pub nextAt : List ℕ → ℕ → Next
 nextAt s at = pick (leb (length s) (at + fillers (drop at s))) End (memberAt s (at + fillers (drop at s)))
+
+-- the same with a look inside: a constructed object whose value is refused as a list is none. A walk that goes by this from the front to the
+-- end of some bytes has checked that they are a list
+unfoldable pub lookedInto : List ℕ → Next → Next
+lookedInto s (Member tag start end) =
+    pick (constructed tag) (pick (eqb (readRefusal (between s start end)) 0) (Member tag start end) Broken) (Member tag start end)
+lookedInto s End = End
+lookedInto s Broken = Broken
+
+unfoldable pub checkedAt : List ℕ → ℕ → Next
+checkedAt s at = lookedInto s (nextAt s at)
 
 -- a place where an object was found: its tag, where its value starts and where it ends, which is where to go on
 pub record Place : Type 0 where

@@ -10,6 +10,15 @@ pub enum Found {
     Twice,
 }
 
+// What stands under four tags in a list, found in one pass; nothing where the bytes are no list.
+pub struct Members {
+    pub list: bool,
+    pub first: Found,
+    pub second: Found,
+    pub third: Found,
+    pub fourth: Found,
+}
+
 // What a look-up answers: refusal 9, or what stands in the list.
 pub enum Sought {
     Refused,

@@ -1,11 +1,13 @@
 // Looking up a tag among the direct members of a list.
 use crate::Found;
+use crate::Members;
 use crate::Sought;
 use crate::place::list_refusal;
 use crate::place::next;
+use crate::place::next_checked;
 use tlv_head::Next;
 ghost use mathlib.Core.Path.{_≡_};
-ghost use Rattle.tlv_list.specs.Lookup.{findInChecked, firstFrom, seek};
+ghost use Rattle.tlv_list.specs.Lookup.{findInChecked, firstFrom, seek, noted as notedOf, noMembers, membersOf};
 
 // The first object with the tag from a place on.
 fn first_from(s: &[u8], at: usize, tag: usize) -> Found
@@ -51,4 +53,65 @@ pub fn find(s: &[u8], tag: usize) -> Sought
         return Sought::Refused;
     }
     Sought::InList(find_in_checked(s, tag))
+}
+
+// What was found of a tag, and one object more.
+fn noted(found: Found, name: usize, tag: usize, start: usize, end: usize) -> Found
+    ensures { λ r. ⌜ r ≡ notedOf name tag start end found ⌝ }
+{
+    if tag == name {
+        match found {
+            Found::Absent => Found::Once { start, end },
+            Found::Once { start: _, end: _ } => Found::Twice,
+            Found::Twice => Found::Twice,
+        }
+    } else {
+        found
+    }
+}
+
+fn no_members() -> Members
+    ensures { λ r. ⌜ r ≡ noMembers ⌝ }
+{
+    Members {
+        list: false,
+        first: Found::Absent,
+        second: Found::Absent,
+        third: Found::Absent,
+        fourth: Found::Absent,
+    }
+}
+
+// Whether the bytes are a list, and four tags looked up in it, all in one pass. Whoever asks for fewer names one of them again.
+pub fn members(s: &[u8], a: usize, b: usize, c: usize, d: usize) -> Members
+    ensures { λ r. ⌜ r ≡ membersOf (now (s .entry)) a b c d ⌝ }
+{
+    if 4096 < s.len() {
+        return no_members();
+    }
+    let mut first = Found::Absent;
+    let mut second = Found::Absent;
+    let mut third = Found::Absent;
+    let mut fourth = Found::Absent;
+    let mut p = 0;
+    while p < s.len() {
+        match next_checked(s, p) {
+            Next::End => p = s.len(),
+            Next::Broken => return no_members(),
+            Next::Member { tag, start, end } => {
+                first = noted(first, a, tag, start, end);
+                second = noted(second, b, tag, start, end);
+                third = noted(third, c, tag, start, end);
+                fourth = noted(fourth, d, tag, start, end);
+                p = end;
+            }
+        }
+    }
+    Members {
+        list: true,
+        first,
+        second,
+        third,
+        fourth,
+    }
 }

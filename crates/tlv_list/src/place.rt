@@ -4,11 +4,12 @@ use slices::byte;
 use slices::part;
 use tlv_head::Next;
 use tlv_head::head::member_at;
+use tlv_head::tag::is_constructed;
 ghost use mathlib.Core.Path.{_≡_};
 ghost use Prim.Native.Nat.{_+_, _<_, _≤_};
 ghost use lib.ListN.{length, drop};
 ghost use Rattle.tlv_list.specs.Objects.{between, readRefusal};
-ghost use Rattle.tlv_list.specs.Place.{fillers, nextAt, dataField};
+ghost use Rattle.tlv_list.specs.Place.{fillers, nextAt, checkedAt, dataField};
 
 // The place of the first byte from `at` on that is not '00', or the end.
 fn past_fillers(s: &[u8], at: usize) -> usize
@@ -60,6 +61,24 @@ pub fn value(s: &[u8], start: usize, end: usize) -> &[u8]
         return part(s, start, 0);
     }
     part(s, start, end - start)
+}
+
+// The next object at or after a place; none too where a constructed one has no list in it.
+pub fn next_checked(s: &[u8], at: usize) -> Next
+    ensures { λ r. ⌜ r ≡ checkedAt (now (s .entry)) at ⌝ }
+{
+    match next(s, at) {
+        Next::End => Next::End,
+        Next::Broken => Next::Broken,
+        Next::Member { tag, start, end } => {
+            if is_constructed(tag) {
+                if list_refusal(value(s, start, end)) != 0 {
+                    return Next::Broken;
+                }
+            }
+            Next::Member { tag, start, end }
+        }
+    }
 }
 
 // The data field of a card's answer.

@@ -1,22 +1,17 @@
--- `answer_common::named::times_in_checked` meets its contract: what the search found decides.
+-- `answer_common::named::times_in_checked` meets its contract: how often the search found it.
 -- Assumes nothing.
-use mathlib.Core.Path.{sym, ap}
+use mathlib.Core.Path.{sym, ap, _∙_}
 use borrow.Author.Needs.{needs}
-use Rattle.tlv_list.specs.Lookup.{foundValue}
-use Rattle.answer_common.specs.Named.{times}
-use Rattle.answer_common.proofs.Members.{by-place}
+use Rattle.answer_common.specs.Named.{standing, foundTimes}
+use Rattle.answer_common.proofs.Membered.{times-found}
 use Rattle.answer_common.proofs.named.times_in_checked.Statement.{statement}
 use Rattle.answer_common.proofs.named.times_in_checked.Tie as tie
 
+returns : tie.Need-returns
+unfolding standing
+returns c =
+    let s = c .before .before .before .args .s .now in
+    c .times-of .ensures ∙ (ap foundTimes (c .before .find-in-checked .ensures) ∙ sym (times-found s _))
+
 pub times-in-checked-spec : {M : Type 1} → statement M
-unfolding times foundValue
-times-in-checked-spec =
-    tie.close
-    (tie.spec
-    (λ c κs. search needs)
-    (λ c. search needs)
-    (λ c. search needs)
-    (λ c. search needs)
-    (λ c. sym (ap times (by-place _ _ (c .before .before .find-in-checked .ensures) (c .enum-told .given .1))))
-    (λ c. sym (ap times (by-place _ _ (c .before .before .find-in-checked .ensures) (c .enum-told2 .given .1))))
-    (λ c. sym (ap times (by-place _ _ (c .before .before .find-in-checked .ensures) (c .enum-told3 .given .1)))))
+times-in-checked-spec = tie.close (tie.spec (λ c κs. search needs) (λ c κs. search needs) returns)

@@ -8,10 +8,10 @@ use Rattle.bench_answers.proofs.records.print_values.Statement.{stateme
 use Rattle.bench_answers.proofs.records.print_values.Tie as tie
 
 abbrev Inv-loop : tie.InvT-loop
-Inv-loop names answer i₀ i = i ≤ length names
+Inv-loop before told names i₀ i = i ≤ length names
 
 abbrev μ-loop : tie.MeasureT-loop
-μ-loop names answer i₀ i = length names - i
+μ-loop before told names i₀ i = length names - i
 
 pub print-values-spec : {M : Type 1} → statement M
 print-values-spec =

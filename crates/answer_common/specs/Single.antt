@@ -1,0 +1,30 @@
+-- An answer's one object by place, found once and not looked into: what is in a constructed one is checked where its members are gone
+-- through. proofs/Single says what reasons 1 to 3 of `frame` come to by it.
+-- Assumes nothing.
+use mathlib.Core.List.{List}
+use Prim.Native.Nat.{ℕ}
+use Rattle.slices.specs.Choice.{pick}
+use Rattle.tlv_list.specs.Place.{nextAt, dataField}
+use Rattle.tlv_head.specs.declared.Next.{Next}
+use Rattle.tlv_head.specs.declared.Next.the-variants.{Member, End, Broken}
+use Rattle.answer_common.specs.Answer.{sizeBad, statusBad}
+use Rattle.answer_common.specs.declared.answer.Single.{Single}
+use Rattle.answer_common.specs.declared.answer.Single.the-variants.{Refused, Object}
+
+-- an object, where none follows it
+unfoldable pub lastOne : Single → Next → Single
+lastOne o (Member tag start end) = Refused 3
+lastOne o End = o
+lastOne o Broken = Refused 3
+
+unfoldable pub aloneBy : (ℕ → Next) → Next → Single
+aloneBy after (Member tag start end) = lastOne (Object tag start end) (after end)
+aloneBy after End = Refused 3
+aloneBy after Broken = Refused 3
+
+-- the only object that the reader finds in some bytes
+unfoldable pub aloneIn : List ℕ → Single
+aloneIn s = aloneBy (nextAt s) (nextAt s 0)
+
+unfoldable pub singleOf : List ℕ → Single
+singleOf a = pick (sizeBad a) (Refused 1) (pick (statusBad a) (Refused 2) (aloneIn (dataField a)))
