@@ -14,7 +14,7 @@ import zlib
 
 from trying import BLOCK, ROOT, SAMPLES, Trial, program
 
-MADE = 4000
+MADE = 10000
 ARCHIVE = ROOT / "target" / "staticlib" / "liblab.a"
 LIBRARY = ROOT / "library"
 WORDS = ("", "PASS", "FAIL", "INCONCLUSIVE", "UNREADABLE")
