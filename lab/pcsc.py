@@ -60,17 +60,17 @@ class Service:
     """A context of the service. Raises OSError where the library is not there, Fault where the service is not."""
 
     def __init__(self):
-        self.library = ctypes.CDLL(LIBRARY)
-        self.library.pcsc_stringify_error.restype = ctypes.c_char_p
+        self.linked = ctypes.CDLL(LIBRARY)
+        self.linked.pcsc_stringify_error.restype = ctypes.c_char_p
         self.context = Long()
         self.call("SCardEstablishContext", Dword(SYSTEM), None, None, ctypes.byref(self.context))
 
     def call(self, name, *words):
-        function = getattr(self.library, name)
+        function = getattr(self.linked, name)
         function.restype = Long
         number = function(*words) & 0xFFFF_FFFF
         if number:
-            raise Fault(name, number, self.library.pcsc_stringify_error(Long(number)).decode("utf-8", "backslashreplace"))
+            raise Fault(name, number, self.linked.pcsc_stringify_error(Long(number)).decode("utf-8", "backslashreplace"))
 
     def readers(self):
         """The readers' names. None is an answer here, not a fault."""

@@ -36,7 +36,7 @@ class Lab:
     """The library in a shared object, by its name."""
 
     def __init__(self, name):
-        self.library = ctypes.CDLL(name)
+        self.linked = ctypes.CDLL(name)
         self.declare("lab_book_open", ctypes.c_uint8, ctypes.c_void_p, ctypes.c_size_t, ctypes.c_void_p)
         self.declare(
             "lab_book_enter",
@@ -66,17 +66,17 @@ class Lab:
         self.declare("lab_recover", ctypes.c_bool, ctypes.c_void_p, ctypes.c_size_t, ctypes.c_size_t, ctypes.c_void_p)
 
     def declare(self, name, result, *types):
-        function = getattr(self.library, name)
+        function = getattr(self.linked, name)
         function.restype, function.argtypes = result, types
 
     def lab_book_open(self, bytes, end):
         """Any bytes reopened. 0: the blocks used and the four counts, PASS, FAIL, INCONCLUSIVE, UNREADABLE. Else the fault, and the
         block first."""
-        return self.library.lab_book_open(*read(bytes), numbers(end, 5))
+        return self.linked.lab_book_open(*read(bytes), numbers(end, 5))
 
     def lab_book_enter(self, used, tape, verdict, place, code, bytes):
         """An entry handed in to a book that has so many blocks used: 0 entered, 1 no verdict, 2 already entered, 3 full."""
-        return self.library.lab_book_enter(
+        return self.linked.lab_book_enter(
             number(used, 32),
             number(tape, 32),
             number(verdict, 8),
@@ -87,25 +87,25 @@ class Lab:
 
     def lab_judge(self, tape, finding):
         """The verdict of a tape (1 PASS, 2 FAIL, 3 INCONCLUSIVE, 4 UNREADABLE), its place, its code, and the number of zeros."""
-        return self.library.lab_judge(*read(tape), numbers(finding, 4))
+        return self.linked.lab_judge(*read(tape), numbers(finding, 4))
 
     def lab_due(self, tape, next, out):
         """What is due after the entries of a tape: its kind, and the number of its bytes, which stand at the start of `out`, or of
         what is wanted. Kind 0: nothing is due; 255: its bytes do not fit; 254: the tape is unreadable, beside the code."""
-        return self.library.lab_due(*read(tape), numbers(next, 2), *written(out))
+        return self.linked.lab_due(*read(tape), numbers(next, 2), *written(out))
 
     def lab_atr(self, capture, warm, told):
         """An answer to reset, after a cold or a warm one. True: inverse, F, D, N, interval, specific, the protocol, its parameters
         (WI; or IFSC, BWI and CWI) with zeros behind them, and where the historical bytes start and end. False: inverse, the rules
         broken, the first, its place."""
-        return self.library.lab_atr(*read(capture), number(warm, 1), numbers(told, 12))
+        return self.linked.lab_atr(*read(capture), number(warm, 1), numbers(told, 12))
 
     def lab_append(self, used, session, kind, payload, tape):
         """One entry more on a tape that has so many blocks used, under a session number: 0, or the number under which it is turned
         away."""
-        return self.library.lab_append(number(used, 64), number(session, 32), number(kind, 8), *read(payload), *written(tape))
+        return self.linked.lab_append(number(used, 64), number(session, 32), number(kind, 8), *read(payload), *written(tape))
 
     def lab_recover(self, bytes, step, block):
         """The next good block of any bytes at or after a step: the step it stands at, its number, session number and kind, and where
         its payload starts and how long it is. False, and nothing changes, where there is none."""
-        return self.library.lab_recover(*read(bytes), number(step, 64), numbers(block, 6))
+        return self.linked.lab_recover(*read(bytes), number(step, 64), numbers(block, 6))
