@@ -8,6 +8,7 @@ use Prim.Native.Nat.{ℕ, _-_}
 use lib.Dec.{ltb, eqb}
 use lib.ListN.{length, getD}
 use Rattle.slices.specs.Choice.{pick}
+use Rattle.numbers.specs.Reasons.{forSize, forStatus, forObject}
 use Rattle.tlv_list.specs.Objects.{Object, between, objects}
 use Rattle.tlv_list.specs.Place.{dataField}
 use Rattle.tlv_head.specs.declared.Next.{Next}
@@ -70,4 +71,4 @@ outerBad expected a = not (anyOf (map (λ tag. isOne tag a) expected))
 
 -- the lines that every answer is asked first; `expected` are the tags that its one object may have
 unfoldable pub frame : List ℕ → List ℕ → List (Bool × ℕ)
-frame expected a = (sizeBad a, 1) ∷ (statusBad a, 2) ∷ (outerBad expected a, 3) ∷ []
+frame expected a = (sizeBad a, forSize) ∷ (statusBad a, forStatus) ∷ (outerBad expected a, forObject) ∷ []

@@ -4,6 +4,7 @@
 use mathlib.Core.List.{List}
 use Prim.Native.Nat.{ℕ}
 use Rattle.slices.specs.Choice.{pick}
+use Rattle.numbers.specs.Reasons.{forSize, forStatus, forObject}
 use Rattle.tlv_list.specs.Place.{nextAt, dataField}
 use Rattle.tlv_head.specs.declared.Next.{Next}
 use Rattle.tlv_head.specs.declared.Next.the-variants.{Member, End, Broken}
@@ -13,18 +14,18 @@ use Rattle.answer_common.specs.declared.answer.Single.the-variants.{Refu
 
 -- an object, where none follows it
 unfoldable pub lastOne : Single → Next → Single
-lastOne o (Member tag start end) = Refused 3
+lastOne o (Member tag start end) = Refused forObject
 lastOne o End = o
-lastOne o Broken = Refused 3
+lastOne o Broken = Refused forObject
 
 unfoldable pub aloneBy : (ℕ → Next) → Next → Single
 aloneBy after (Member tag start end) = lastOne (Object tag start end) (after end)
-aloneBy after End = Refused 3
-aloneBy after Broken = Refused 3
+aloneBy after End = Refused forObject
+aloneBy after Broken = Refused forObject
 
 -- the only object that the reader finds in some bytes
 unfoldable pub aloneIn : List ℕ → Single
 aloneIn s = aloneBy (nextAt s) (nextAt s 0)
 
 unfoldable pub singleOf : List ℕ → Single
-singleOf a = pick (sizeBad a) (Refused 1) (pick (statusBad a) (Refused 2) (aloneIn (dataField a)))
+singleOf a = pick (sizeBad a) (Refused forSize) (pick (statusBad a) (Refused forStatus) (aloneIn (dataField a)))

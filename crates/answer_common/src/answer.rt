@@ -1,4 +1,5 @@
 // An answer as a whole: its size, its status and its one object.
+use numbers::reasons;
 use slices::byte;
 use tlv_head::Next;
 use tlv_list::place::data_field;
@@ -113,16 +114,16 @@ fn alone(s: &[u8]) -> Single
     ensures { λ r. ⌜ r ≡ aloneIn (now (s .entry)) ⌝ }
 {
     match next(s, 0) {
-        Next::End => Single::Refused(3),
-        Next::Broken => Single::Refused(3),
+        Next::End => Single::Refused(reasons::OBJECT),
+        Next::Broken => Single::Refused(reasons::OBJECT),
         Next::Member { tag, start, end } => match next(s, end) {
             Next::End => Single::Object { tag, start, end },
-            Next::Broken => Single::Refused(3),
+            Next::Broken => Single::Refused(reasons::OBJECT),
             Next::Member {
                 tag: _,
                 start: _,
                 end: _,
-            } => Single::Refused(3),
+            } => Single::Refused(reasons::OBJECT),
         },
     }
 }
@@ -132,10 +133,10 @@ pub fn single_of(answer: &[u8]) -> Single
     ensures { λ r. ⌜ r ≡ singleOf (now (answer .entry)) ⌝ }
 {
     if is_size_bad(answer) {
-        return Single::Refused(1);
+        return Single::Refused(reasons::SIZE);
     }
     if is_status_bad(answer) {
-        return Single::Refused(2);
+        return Single::Refused(reasons::STATUS);
     }
     alone(data_field(answer))
 }

@@ -7,6 +7,7 @@ use Prim.Native.Nat.{ℕ}
 use lib.ListN.{length, getD}
 use Rattle.slices.specs.Choice.{pick, firstOf}
 use Rattle.slices.specs.Tests.{between}
+use Rattle.numbers.specs.Reasons.{forTwice, forContent, forMissing, forCryptogram}
 use Rattle.answer_common.specs.Answer.{isOne, inside, frame}
 use Rattle.answer_common.specs.Named.{direct, valueOf, anyTwice, anyWrong}
 use Rattle.answer_common.specs.Forms.{template, joined, bothForms, lacks}
@@ -35,10 +36,10 @@ cryptogramWrong a =
 
 unfoldable pub cryptogramLines : (Given → Bool) → List ℕ → List (Bool × ℕ)
 cryptogramLines allowed a =
-    (anyTwice cryptogramNames (direct template a), 4)
-    ∷ (cryptogramWrong a, 5)
-    ∷ (lacks mandatoryNames a, 8)
-    ∷ (not (allowed (cryptogramOf a)), 10)
+    (anyTwice cryptogramNames (direct template a), forTwice)
+    ∷ (cryptogramWrong a, forContent)
+    ∷ (lacks mandatoryNames a, forMissing)
+    ∷ (not (allowed (cryptogramOf a)), forCryptogram)
     ∷ []
 
 -- `allowed` are the answers that the request allows

@@ -13,6 +13,7 @@ use decide_cryptogram::Given;
 use decide_cryptogram::Request;
 use decide_cryptogram::allowed;
 use decide_cryptogram::given_by;
+use numbers::reasons;
 use slices::byte;
 use tlv_list::Found;
 use tlv_list::lookup::members;
@@ -24,6 +25,7 @@ ghost use mathlib.Core.List.{[], _∷_, _++_};
 ghost use lib.ListN.{getD};
 ghost use Rattle.slices.specs.Choice.{firstOf};
 ghost use Rattle.slices.specs.Tables.{anyOf};
+ghost use Rattle.numbers.specs.Reasons.{forCryptogram};
 ghost use Rattle.tlv_list.specs.Lookup.{foundValue};
 ghost use Rattle.decide_cryptogram.specs.Cryptograms.{givenBy, allowedBy};
 ghost use Rattle.answer_common.specs.Answer.{frame};
@@ -76,12 +78,12 @@ fn is_any_wrong(
 
 // Reason 10 of the bytes that begin with that of 9F27; 0 where it does not apply.
 fn given_reason(request: Request, information: &[u8]) -> usize
-    ensures { λ r. ⌜ r ≡ firstOf ((not (allowedBy request (givenBy (getD (now (information .entry)) 0 0))), 10) ∷ []) ⌝ }
+    ensures { λ r. ⌜ r ≡ firstOf ((not (allowedBy request (givenBy (getD (now (information .entry)) 0 0))), forCryptogram) ∷ []) ⌝ }
 {
     if allowed(request, given_by(byte(information, 0) as u8)) {
         0
     } else {
-        10
+        reasons::CRYPTOGRAM
     }
 }
 
@@ -92,10 +94,10 @@ fn joined_reason(request: Request, answer: &[u8], start: usize, end: usize) -> u
 {
     let both = value(data_field(answer), start, end);
     if both.len() < 11 {
-        return 5;
+        return reasons::CONTENT;
     }
     if 43 < both.len() {
-        return 5;
+        return reasons::CONTENT;
     }
     given_reason(request, both)
 }
@@ -108,20 +110,20 @@ fn template_reason(request: Request, answer: &[u8], start: usize, end: usize) ->
     let s = value(data_field(answer), start, end);
     let m = members(s, 0x9F27, 0x9F36, 0x9F26, 0x9F10);
     if !m.list {
-        return 3;
+        return reasons::OBJECT;
     }
     let information = m.first;
     let counter = m.second;
     let cryptogram = m.third;
     let issuer = m.fourth;
     if any_times(2, information, counter, cryptogram, issuer) {
-        return 4;
+        return reasons::TWICE;
     }
     if is_any_wrong(s, information, counter, cryptogram, issuer) {
-        return 5;
+        return reasons::CONTENT;
     }
     if any_times(0, information, counter, cryptogram, cryptogram) {
-        return 8;
+        return reasons::MISSING;
     }
     given_reason(request, value_of(s, information))
 }
@@ -139,7 +141,7 @@ pub fn cryptogram_reason(request: Request, answer: &[u8]) -> usize
             if tag == TEMPLATE {
                 template_reason(request, answer, start, end)
             } else {
-                3
+                reasons::OBJECT
             }
         }
     }

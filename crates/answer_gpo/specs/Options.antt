@@ -5,6 +5,7 @@ use mathlib.Core.List.{List, [], _∷_, _++_}
 use Prim.Native.Nat.{ℕ}
 use lib.ListN.{take, drop}
 use Rattle.slices.specs.Choice.{pick, firstOf}
+use Rattle.numbers.specs.Reasons.{forTwice, forContent, forLocator, forRecords, forMissing}
 use Rattle.answer_common.specs.Answer.{isOne, inside, frame}
 use Rattle.answer_afl.specs.Entries.{wholeEntries, entriesRight, tooMany}
 use Rattle.answer_common.specs.Named.{direct, valueOf, anyTwice, anyWrong}
@@ -29,11 +30,11 @@ optionsWrong a =
 -- an AFL that is not there names nothing, so it is neither wrong nor too long
 unfoldable pub optionsLines : List ℕ → List (Bool × ℕ)
 optionsLines a =
-    (anyTwice optionNames (direct template a), 4)
-    ∷ (optionsWrong a, 5)
-    ∷ (not (entriesRight (locatorOf a)), 6)
-    ∷ (tooMany (locatorOf a), 7)
-    ∷ (lacks optionNames a, 8)
+    (anyTwice optionNames (direct template a), forTwice)
+    ∷ (optionsWrong a, forContent)
+    ∷ (not (entriesRight (locatorOf a)), forLocator)
+    ∷ (tooMany (locatorOf a), forRecords)
+    ∷ (lacks optionNames a, forMissing)
     ∷ []
 
 unfoldable pub optionsReason : List ℕ → ℕ

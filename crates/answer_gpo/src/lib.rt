@@ -12,6 +12,7 @@ use answer_common::named::any_times;
 use answer_common::named::is_wrong;
 use answer_common::named::value_in_checked;
 use answer_common::named::value_of;
+use numbers::reasons;
 use slices::part;
 use tlv_list::lookup::members;
 use tlv_list::place::data_field;
@@ -56,12 +57,16 @@ fn joined_reason(answer: &[u8], start: usize, end: usize) -> usize
     let both = value(data_field(answer), start, end);
     let afl = part(both, 2, both.len());
     if !are_whole(afl) {
-        return 5;
+        return reasons::CONTENT;
     }
     if !are_right(afl) {
-        return 6;
+        return reasons::LOCATOR;
     }
-    if are_too_many(afl) { 7 } else { 0 }
+    if are_too_many(afl) {
+        reasons::RECORDS
+    } else {
+        0
+    }
 }
 
 // Reasons 3 to 8 of an answer whose one object is a template, by its members; 0 where none of them applies.
@@ -72,28 +77,28 @@ fn template_reason(answer: &[u8], start: usize, end: usize) -> usize
     let s = value(data_field(answer), start, end);
     let m = members(s, 0x82, 0x94, 0x82, 0x94);
     if !m.list {
-        return 3;
+        return reasons::OBJECT;
     }
     let profile = m.first;
     let locator = m.second;
     if any_times(2, profile, locator, profile, locator) {
-        return 4;
+        return reasons::TWICE;
     }
     if is_wrong(s, 0x82, profile) {
-        return 5;
+        return reasons::CONTENT;
     }
     if is_wrong(s, 0x94, locator) {
-        return 5;
+        return reasons::CONTENT;
     }
     let afl = value_of(s, locator);
     if !are_right(afl) {
-        return 6;
+        return reasons::LOCATOR;
     }
     if are_too_many(afl) {
-        return 7;
+        return reasons::RECORDS;
     }
     if any_times(0, profile, locator, profile, locator) {
-        8
+        reasons::MISSING
     } else {
         0
     }
@@ -112,7 +117,7 @@ pub fn options_reason(answer: &[u8]) -> usize
             if tag == TEMPLATE {
                 template_reason(answer, start, end)
             } else {
-                3
+                reasons::OBJECT
             }
         }
     }

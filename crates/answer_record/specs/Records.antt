@@ -7,6 +7,7 @@ use Prim.Native.Nat.{ℕ}
 use lib.Dec.{eqb}
 use Rattle.slices.specs.Choice.{pick, firstOf}
 use Rattle.slices.specs.Tests.{isSome}
+use Rattle.numbers.specs.Reasons.{forTwice, forContent, forMissing, forList}
 use Rattle.tlv_list.specs.Lookup.{Lookup}
 use Rattle.dol_wanted.specs.Wanted.{fillable}
 use Rattle.slices.specs.Tables.{anyOf}
@@ -26,7 +27,7 @@ unfoldable pub recordTwice : List ℕ → (ℕ → Bool) → List ℕ → Bool
 recordTwice names before a = anyTwice names (direct recordTag a) || anyAgain before names (direct recordTag a)
 
 unfoldable pub recordLines : List ℕ → (ℕ → Bool) → List ℕ → List (Bool × ℕ)
-recordLines names before a = (recordTwice names before a, 4) ∷ (anyWrong names (direct recordTag a), 5) ∷ []
+recordLines names before a = (recordTwice names before a, forTwice) ∷ (anyWrong names (direct recordTag a), forContent) ∷ []
 
 -- `names` are those that count in a record, and `before` tells which of them earlier records told
 unfoldable pub recordReason : List ℕ → (ℕ → Bool) → List ℕ → ℕ
@@ -45,7 +46,7 @@ incomplete there = anyOf (map (λ name. not (there name)) mandatory)
 
 -- after the last record, given which names were told and the object list for the first GENERATE AC
 unfoldable pub completeReason : (ℕ → Bool) → List ℕ → ℕ
-completeReason there list = firstOf ((incomplete there, 8) ∷ (not (fillable list), 9) ∷ [])
+completeReason there list = firstOf ((incomplete there, forMissing) ∷ (not (fillable list), forList) ∷ [])
 
 -- the same over all that the records told
 unfoldable pub afterRecords : (ℕ → Option (List ℕ)) → ℕ

@@ -9,6 +9,7 @@ use lib.Dec.{eqb}
 use lib.ListN.{length}
 use Rattle.slices.specs.Choice.{pick}
 use Rattle.slices.specs.Tests.{isSome}
+use Rattle.numbers.specs.Reasons.{forObject, forTwice, forContent}
 use Rattle.tlv_list.specs.Objects.{Object as Obj, between}
 use Rattle.tlv_list.specs.Place.{checkedAt, dataField}
 use Rattle.tlv_head.specs.declared.Next.{Next}
@@ -30,7 +31,7 @@ taken r out = record { why = r; bytes = out }
 
 -- reason 4 stands before reason 5
 unfoldable pub worse : ℕ → Bool → Bool → ℕ
-worse why again right = pick again 4 (pick right why (pick (eqb why 4) 4 5))
+worse why again right = pick again forTwice (pick right why (pick (eqb why forTwice) forTwice forContent))
 
 unfoldable pub oneTaken : List ℕ → ℕ → List ℕ → Taken → Taken
 oneTaken names tag v k =
@@ -46,7 +47,7 @@ objectsTaken names (m ∷ ms) k = objectsTaken names ms (oneTaken names (m .tag)
 unfoldable pub takenBy : (ℕ → Taken → Taken) → List ℕ → List ℕ → Taken → Next → Taken
 takenBy further names s k (Member tag start end) = further end (oneTaken names tag (between s start end) k)
 takenBy further names s k End = k
-takenBy further names s k Broken = taken 3 (k .bytes)
+takenBy further names s k Broken = taken forObject (k .bytes)
 
 -- at most n objects
 unfoldable pub takenWalk : ℕ → List ℕ → List ℕ → ℕ → Taken → Taken
@@ -60,7 +61,7 @@ takenFrom names s at k = takenWalk (length s) names s at k
 unfoldable pub takenIn : List ℕ → List ℕ → List ℕ → Single → Taken
 takenIn names a d (Refused why) = taken why d
 takenIn names a d (Object tag start end) =
-    pick (eqb tag recordTag) (takenFrom names (between (dataField a) start end) 0 (taken 0 d)) (taken 3 d)
+    pick (eqb tag recordTag) (takenFrom names (between (dataField a) start end) 0 (taken 0 d)) (taken forObject d)
 
 unfoldable pub recordTaken : List ℕ → List ℕ → List ℕ → Taken
 recordTaken names a d = takenIn names a d (singleOf a)

@@ -6,6 +6,7 @@ use answer_common::content::RECORD;
 use answer_common::content::is_right;
 use answer_common::named::is_listed;
 use dol_wanted::is_fillable;
+use numbers::reasons;
 use session_records::slots::has;
 use session_records::slots::keep;
 use session_records::slots::value;
@@ -27,15 +28,15 @@ fn worse(why: usize, again: bool, right: bool) -> usize
     ensures { λ r. ⌜ r ≡ worseOf why again right ⌝ }
 {
     if again {
-        return 4;
+        return reasons::TWICE;
     }
     if right {
         return why;
     }
-    if why == 4 {
-        return 4;
+    if why == reasons::TWICE {
+        return reasons::TWICE;
     }
-    5
+    reasons::CONTENT
 }
 
 // One object of a record, tested and kept where its name counts, with the reason so far. A wrong value is kept as an empty one, so that a
@@ -67,7 +68,7 @@ fn take_all(told: &mut [u8], names: &[usize], s: &[u8]) -> usize
     while p < s.len() {
         match next_checked(s, p) {
             Next::End => return why,
-            Next::Broken => return 3,
+            Next::Broken => return reasons::OBJECT,
             Next::Member { tag, start, end } => {
                 why = take_one(told, names, tag, place::value(s, start, end), why);
                 p = end;
@@ -86,7 +87,7 @@ pub fn take(told: &mut [u8], names: &[usize], answer: &[u8]) -> usize
         Single::Refused(why) => why,
         Single::Object { tag, start, end } => {
             if tag != RECORD {
-                return 3;
+                return reasons::OBJECT;
             }
             take_all(told, names, place::value(data_field(answer), start, end))
         }
@@ -113,7 +114,11 @@ pub fn complete_reason(told: &[u8]) -> usize
 {
     let mandatory = MANDATORY;
     if any_untold(told, &mandatory) {
-        return 8;
+        return reasons::MISSING;
     }
-    if is_fillable(value(told, 0x8C)) { 0 } else { 9 }
+    if is_fillable(value(told, 0x8C)) {
+        0
+    } else {
+        reasons::LIST
+    }
 }

@@ -6,6 +6,7 @@ use mathlib.Core.List.{List, [], _∷_, _++_}
 use Prim.Native.Nat.{ℕ}
 use lib.Dec.{eqb}
 use Rattle.slices.specs.Choice.{firstOf}
+use Rattle.numbers.specs.Reasons.{forTwice, forContent, forMissing, forList}
 use Rattle.tlv_list.specs.Lookup.{Lookup, absent, once, twice}
 use Rattle.start_fields.specs.Reading.{Terminal}
 use Rattle.dol_wanted.specs.Wanted.{fillable}
@@ -52,10 +53,10 @@ selectWrong aid a =
 
 unfoldable pub selectLines : List ℕ → List ℕ → List (Bool × ℕ)
 selectLines aid a =
-    (selectTwice a, 4)
-    ∷ (selectWrong aid a, 5)
-    ∷ (anyMissing selectNames (direct selectTag a), 8)
-    ∷ (not (fillable (pdolOf a)), 9)
+    (selectTwice a, forTwice)
+    ∷ (selectWrong aid a, forContent)
+    ∷ (anyMissing selectNames (direct selectTag a), forMissing)
+    ∷ (not (fillable (pdolOf a)), forList)
     ∷ []
 
 unfoldable pub selectReason : Terminal → List ℕ → ℕ

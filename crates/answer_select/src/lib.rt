@@ -7,6 +7,7 @@ use answer_common::named::any_times;
 use answer_common::named::value_in_checked;
 use answer_common::named::value_of;
 use dol_wanted::is_fillable;
+use numbers::reasons;
 use start_fields::fields;
 use tlv_list::Found;
 use tlv_list::lookup::members;
@@ -94,7 +95,7 @@ fn content_reason(aid: &[u8], answer: &[u8], start: usize, end: usize) -> usize
     let s = value(data_field(answer), start, end);
     let m = members(s, 0x84, 0xA5, 0x84, 0xA5);
     if !m.list {
-        return 3;
+        return reasons::OBJECT;
     }
     let name = m.first;
     let inner = m.second;
@@ -102,15 +103,19 @@ fn content_reason(aid: &[u8], answer: &[u8], start: usize, end: usize) -> usize
     let n = members(p, 0x9F38, 0x9F38, 0x9F38, 0x9F38);
     let list = n.first;
     if any_times(2, name, inner, list, list) {
-        return 4;
+        return reasons::TWICE;
     }
     if is_wrong(aid, s, name, inner, p, list) {
-        return 5;
+        return reasons::CONTENT;
     }
     if any_times(0, name, inner, name, inner) {
-        return 8;
+        return reasons::MISSING;
     }
-    if is_fillable(value_of(p, list)) { 0 } else { 9 }
+    if is_fillable(value_of(p, list)) {
+        0
+    } else {
+        reasons::LIST
+    }
 }
 
 // The lowest reason that applies; 0 where none does.
@@ -125,7 +130,7 @@ pub fn select_reason(start: &[u8], answer: &[u8]) -> usize
             end,
         } => {
             if tag != SELECTED {
-                return 3;
+                return reasons::OBJECT;
             }
             content_reason(fields::aid(start), answer, from, end)
         }

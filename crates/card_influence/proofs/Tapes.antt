@@ -7,7 +7,8 @@ use mathlib.Core.List.{List}
 use mathlib.Core.Logic.{_↔_}
 use mathlib.Core.Option.{some}
 use Prim.Native.Nat.{ℕ, _+_}
-use Rattle.tape_read.specs.Entries.{Entry, entry, answer}
+use Rattle.numbers.specs.Kinds.{answer}
+use Rattle.tape_read.specs.Entries.{Entry, entry}
 use Rattle.tape_read.specs.Tapes.{readTape}
 use Rattle.sessions.specs.Session.{isPayload}
 use Rattle.sessions.specs.Machine.{next}

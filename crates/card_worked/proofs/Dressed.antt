@@ -6,7 +6,8 @@ use mathlib.Core.Path.{refl}
 use mathlib.Core.List.{List, [], _∷_, _++_}
 use Prim.Native.Nat.{ℕ}
 use lib.ListN.{drop}
-use Rattle.tape_read.specs.Entries.{Entry, entry, start, command, answer, host}
+use Rattle.numbers.specs.Kinds.{start, command, answer, host}
+use Rattle.tape_read.specs.Entries.{Entry, entry}
 use Rattle.rulebook.proofs.Opening.{reached}
 use Rattle.rulebook.proofs.Made.{startOf, select, withList, withNumber, readOne, reads as readsAll}
 use Rattle.card_seen.specs.Given.{placeOf}

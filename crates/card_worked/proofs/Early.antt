@@ -3,7 +3,8 @@
 -- Assumes nothing.
 use mathlib.Core.Path.{refl}
 use mathlib.Core.List.{[], _∷_}
-use Rattle.tape_read.specs.Entries.{entry, command, answer}
+use Rattle.numbers.specs.Kinds.{command, answer}
+use Rattle.tape_read.specs.Entries.{entry}
 use Rattle.rulebook.specs.Roles.{given}
 use Rattle.rulebook.proofs.Opening.{reached}
 use Rattle.rulebook.proofs.Made.{withList, withNumber, readOne, reads as readsAll}

@@ -2,14 +2,14 @@
 use judge::UnderWay;
 use judge_follow::Judgement;
 use judge_stages::Stage;
+use numbers::kinds::ANSWER;
+use numbers::kinds::COMMAND;
+use numbers::kinds::DECISION;
 use session_phase::awaits;
 use session_phase::count_due;
 use session_state::result::decision;
 use slices::lay;
 use slices::part;
-use tape_read::ANSWER;
-use tape_read::COMMAND;
-use tape_read::DECISION;
 ghost use mathlib.Core.Path.{_≡_};
 ghost use Rattle.judge_due.specs.Telling.{numbers as numbersOf, handed, withBytes};
 ghost use Rattle.judge_due.specs.Standing.{wordDue, commandDue, decisionDue, dueOf};

@@ -15,7 +15,8 @@ use Rattle.slices.proofs.Choice.{pick-yes, pick-no, either}
 use Rattle.slices.proofs.Writing.{zeros-length}
 use Rattle.slices.proofs.Cutting.{none-left}
 use Rattle.slices.proofs.Comparing.{alike-same, same-alike}
-use Rattle.tape_read.specs.Entries.{Entry, entry, command, answer, silence, decision}
+use Rattle.numbers.specs.Kinds.{command, answer, silence, decision}
+use Rattle.tape_read.specs.Entries.{Entry, entry}
 use Rattle.commands.specs.Commands.{longest}
 use Rattle.sessions.specs.Session.{isPayload}
 use Rattle.rulebook.specs.Situation.{Situation}

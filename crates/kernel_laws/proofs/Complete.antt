@@ -13,7 +13,8 @@ use Rattle.slices.specs.Choice.{pick}
 use Rattle.slices.specs.Writing.{zeros}
 use Rattle.slices.proofs.Choice.{and-both}
 use Rattle.slices.proofs.Writing.{zeros-length}
-use Rattle.tape_read.specs.Entries.{Entry, entry, command, answer, decision}
+use Rattle.numbers.specs.Kinds.{command, answer, decision}
+use Rattle.tape_read.specs.Entries.{Entry, entry}
 use Rattle.commands.specs.Commands.{longest}
 use Rattle.sessions.specs.Session as Under
 use Rattle.sessions.specs.Machine.{run}

@@ -9,7 +9,8 @@ use lib.Dec.{eqb}
 use lib.Pow.{areBytes}
 use borrow.Author.Tests.{eqb-true, eqb-false}
 use Rattle.slices.proofs.Choice.{either}
-use Rattle.tape_read.specs.Entries.{Entry, entry, silence}
+use Rattle.numbers.specs.Kinds.{silence}
+use Rattle.tape_read.specs.Entries.{Entry, entry}
 use Rattle.session_events.specs.Events.{step}
 use Rattle.session_laws.specs.Agreeing.{StandsAt}
 use Rattle.session_laws.specs.Logging.{Reached}

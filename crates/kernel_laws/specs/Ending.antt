@@ -7,7 +7,9 @@ use Prim.Native.Nat.{ℕ}
 use lib.Dec.{ltb}
 use lib.ListN.{length}
 use Rattle.slices.specs.Choice.{pick}
-use Rattle.tape_read.specs.Entries.{Entry, entry, decision}
+use Rattle.numbers.specs.Refusals.{refusedBuffer, refusedOver}
+use Rattle.numbers.specs.Kinds.{decision}
+use Rattle.tape_read.specs.Entries.{Entry, entry}
 use Rattle.commands.specs.Commands.{longest}
 use Rattle.session_phase.specs.Waiting.{isDecided}
 use Rattle.session_state.specs.Results.{decisionIn}
@@ -18,7 +20,7 @@ use Rattle.kernel_laws.specs.Replay.{callsIn}
 
 -- the number of a call after the end: 1 where the buffer is short, else 2
 abbrev pub atEnd : List ℕ → ℕ
-atEnd buf = pick (ltb (length buf) longest) 1 2
+atEnd buf = pick (ltb (length buf) longest) refusedBuffer refusedOver
 
 -- each further call is answered with its number and nothing else, and no calls change the session or its log
 pub record Ended (cs : List Call) : Type 0 where

@@ -5,7 +5,8 @@ use mathlib.Core.Bool.{true, false}
 use mathlib.Core.List.{List, [], _∷_, _++_}
 use Prim.Native.Nat.{ℕ}
 use lib.ListN.{length, take, drop}
-use Rattle.tape_read.specs.Entries.{Entry, entry, silence}
+use Rattle.numbers.specs.Kinds.{silence}
+use Rattle.tape_read.specs.Entries.{Entry, entry}
 use Rattle.rulebook.specs.Situation.{Situation}
 use Rattle.rulebook.specs.Phase.{Asked, Phase, asks, hears, decides, situationOf, commandOf, dueKind, decisionOf, tvrOf, tsiOf}
 use Rattle.rulebook.specs.Session.{Session as WholeSession, AwaitsCard, Open, LeadsTo}

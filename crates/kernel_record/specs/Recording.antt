@@ -8,7 +8,9 @@ use lib.Dec.{eqb, leb, ltb}
 use lib.ListN.{length, take}
 use Rattle.slices.specs.Choice.{pick, firstOf}
 use Rattle.slices.specs.Writing.{put}
-use Rattle.tape_read.specs.Entries.{Entry, entry, command, decision, isKind, blockSize, blocksMost, payloadMost}
+use Rattle.numbers.specs.Refusals.{refusedEntry, refusedRoom}
+use Rattle.numbers.specs.Kinds.{command, decision, isKind}
+use Rattle.tape_read.specs.Entries.{Entry, entry, blockSize, blocksMost, payloadMost}
 use Rattle.tape_read.specs.Tapes.{written}
 use Rattle.tape_write.specs.declared.Writer.{Writer}
 use Rattle.tape_write.specs.declared.Appended.{Appended}
@@ -44,7 +46,7 @@ blocksOfCall = 2
 -- why the entries of a call are turned away, the first that applies to the call; 0: they are not
 unfoldable pub tapeRefusal : ℕ → List Entry → List ℕ → ℕ
 tapeRefusal used [] t = 0
-tapeRefusal used (e ∷ es) t = firstOf ((anyWrong (e ∷ es), 7) ∷ (not (hasRoom (length (e ∷ es)) used t), 8) ∷ [])
+tapeRefusal used (e ∷ es) t = firstOf ((anyWrong (e ∷ es), refusedEntry) ∷ (not (hasRoom (length (e ∷ es)) used t), refusedRoom) ∷ [])
 
 -- what is left at the end: the writer, the refusal if any, and the tape
 pub record Kept : Type 0 where

@@ -1,12 +1,13 @@
 // A kernel session recorded onto a tape: each accepted call's event, and after it the command or the decision that it led to.
 use kernel::Session;
+use numbers::kinds::COMMAND;
+use numbers::kinds::DECISION;
+use numbers::refusals;
 use session_phase::Reply;
 use session_state::result::decision;
 use slices::part;
 use tape_read::BLOCK;
 use tape_read::BLOCKS;
-use tape_read::COMMAND;
-use tape_read::DECISION;
 use tape_read::PAYLOAD;
 use tape_read::no_kind;
 use tape_write::Appended;
@@ -96,12 +97,16 @@ fn why_refused(
         (now (tape .entry)) ⌝ }
 {
     if is_wrong(kind, payload) {
-        return 7;
+        return refusals::ENTRY;
     }
     if is_wrong(next_kind, next_payload) {
-        return 7;
+        return refusals::ENTRY;
     }
-    if has_room(writer, tape) { 0 } else { 8 }
+    if has_room(writer, tape) {
+        0
+    } else {
+        refusals::ROOM
+    }
 }
 
 // No kind, or a payload that is too long.

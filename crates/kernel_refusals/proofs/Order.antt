@@ -10,7 +10,8 @@ use borrow.Author.Tests.{lt-ltb, le-ltb}
 use Rattle.slices.specs.Choice.{pick, firstOf}
 use Rattle.slices.proofs.Choice.{pick-yes, pick-no}
 use Rattle.start_valid.specs.Start.{beginsSession}
-use Rattle.tape_read.specs.Entries.{Entry, entry, start, answer, silence}
+use Rattle.numbers.specs.Kinds.{start, answer, silence}
+use Rattle.tape_read.specs.Entries.{Entry, entry}
 use Rattle.commands.specs.Commands.{longest}
 use Rattle.session_phase.specs.Waiting.{awaited, isOver}
 use Rattle.session_phase.specs.Saying.{allowedBy, refusalBy}

@@ -7,7 +7,9 @@ use Prim.Native.Nat.{ℕ}
 use lib.Dec.{eqb, ltb}
 use lib.ListN.{length}
 use Rattle.slices.specs.Choice.{pick, firstOf}
-use Rattle.tape_read.specs.Entries.{Entry, start, answer, silence, payloadMost}
+use Rattle.numbers.specs.Refusals.{refusedBuffer, refusedOver, refusedStart, refusedEvent, refusedAnswer}
+use Rattle.numbers.specs.Kinds.{start, answer, silence}
+use Rattle.tape_read.specs.Entries.{Entry, payloadMost}
 use Rattle.start_valid.specs.Start.{beginsSession}
 use Rattle.commands.specs.Commands.{longest}
 use Rattle.session_phase.specs.Waiting.{awaited, isOver}
@@ -39,15 +41,15 @@ wordLines Closed p = []
 unfoldable pub refusalLines : Waiting → Entry → List ℕ → List (Bool × ℕ)
 refusalLines waiting e buf =
     -- command buffer under 261 bytes
-    (ltb (length buf) longest, 1)
+    (ltb (length buf) longest, refusedBuffer)
     -- session decided, or closed by silence
-    ∷ (isOver waiting, 2)
+    ∷ (isOver waiting, refusedOver)
     -- START invalid or not 77 bytes
-    ∷ (startBad e, 3)
+    ∷ (startBad e, refusedStart)
     -- event not the one due
-    ∷ (not (isDue waiting e), 4)
+    ∷ (not (isDue waiting e), refusedEvent)
     -- answer over 496 bytes
-    ∷ (answerBad e, 5)
+    ∷ (answerBad e, refusedAnswer)
     -- 6 for HOST, 12 for the results
     ∷ wordLines waiting (e .payload)
 

@@ -1,15 +1,16 @@
 // When a call of a session is turned away. The event is handed in as the entry that it would be on a tape, by its kind and payload.
 use commands::write::LONGEST;
+use numbers::kinds::ANSWER;
+use numbers::kinds::SILENCE;
+use numbers::kinds::START;
+use numbers::refusals;
 use session_phase::Speaker;
 use session_phase::Waiting;
 use session_phase::awaits;
 use session_phase::is_allowed;
 use session_phase::refusal_by;
 use start_valid::begins_session;
-use tape_read::ANSWER;
 use tape_read::PAYLOAD;
-use tape_read::SILENCE;
-use tape_read::START;
 ghost use mathlib.Core.Path.{_≡_};
 ghost use Rattle.tape_read.specs.Entries.{entry};
 ghost use Rattle.slices.specs.Choice.{firstOf};
@@ -65,19 +66,19 @@ pub fn refusal(waiting: Waiting, kind: u8, payload: &[u8], command: &[u8]) -> us
     ensures { λ r. ⌜ r ≡ callRefusal waiting (entry kind (now (payload .entry))) (now (command .entry)) ⌝ }
 {
     if command.len() < LONGEST {
-        return 1;
+        return refusals::BUFFER;
     }
     if awaits(waiting) == 0 {
-        return 2;
+        return refusals::OVER;
     }
     if is_start_bad(kind, payload) {
-        return 3;
+        return refusals::START;
     }
     if !is_due(waiting, kind, payload) {
-        return 4;
+        return refusals::EVENT;
     }
     if is_answer_bad(kind, payload) {
-        return 5;
+        return refusals::ANSWER;
     }
     word_refusal(waiting, payload)
 }

@@ -1,10 +1,10 @@
 // What a line asks, and what is wrong with one that asks nothing.
+use numbers::kinds::ANSWER;
+use numbers::kinds::HOST;
+use numbers::kinds::RESULTS;
+use numbers::kinds::SILENCE;
+use numbers::kinds::START;
 use slices::byte;
-use tape_read::ANSWER;
-use tape_read::HOST;
-use tape_read::RESULTS;
-use tape_read::SILENCE;
-use tape_read::START;
 use text_hex::digit_of;
 ghost use mathlib.Core.Path.{_≡_};
 ghost use Rattle.playing.specs.Lines.{named, kindOf, allDigits, faultOf};

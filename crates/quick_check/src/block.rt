@@ -1,6 +1,7 @@
 // One block: its code, by a check that does not take in the zeros behind the payload.
 use crate::register::after;
 use crate::register::past;
+use numbers::codes;
 use tape_read::CHECK_AT;
 use tape_read::PAYLOAD;
 use tape_read::PAYLOAD_AT;
@@ -43,7 +44,7 @@ pub fn code(
     if is_zero(&block[from..CHECK_AT]) {
         let check = check_of(block, from, rows, behind);
         if number(&block[CHECK_AT..]) != check {
-            return 3;
+            return codes::CHECK;
         }
         return heading(block, due_number, due_session);
     }
@@ -84,16 +85,16 @@ fn heading(block: &[u8], due_number: usize, due_session: u32) -> u8
     ensures { λ r. ⌜ r ≡ codeOf «due_number» «due_session» (now (block .entry)) ⌝ }
 {
     if number(block) as usize != due_number {
-        return 4;
+        return codes::NUMBER;
     }
     if session(block) != due_session {
-        return 5;
+        return codes::SESSION;
     }
     if no_kind(kind(block)) {
-        return 6;
+        return codes::KIND;
     }
     if slices::byte(block, 9) != 0 {
-        return 7;
+        return codes::SPARE;
     }
     0
 }

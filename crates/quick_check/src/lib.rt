@@ -6,6 +6,7 @@ mod rows;
 
 use behind::BEHIND;
 use block::code;
+use numbers::codes;
 use rows::ROWS;
 use tape_feed::Damage;
 use tape_read::BLOCK;
@@ -99,10 +100,10 @@ fn of_tape(tape: &[u8], rows: &[u32; 2048], behind: &[u32; 512]) -> Damage
     ensures { λ r. ⌜ r ≡ damageIn (now (tape .entry)) ⌝ }
 {
     if TAPE < tape.len() {
-        return at(0, 1);
+        return at(0, codes::LONG);
     }
     if tape.len() % BLOCK != 0 {
-        return at(tape.len() / BLOCK, 2);
+        return at(tape.len() / BLOCK, codes::TORN);
     }
     first_bad(tape, session(block_at(tape, 0)), rows, behind)
 }

@@ -7,6 +7,7 @@ use Prim.Native.Nat.{ℕ, _+_, _*_, _%_}
 use lib.Dec.{eqb}
 use lib.ListN.{length, take, drop}
 use Rattle.slices.specs.Choice.{pick, firstOf}
+use Rattle.numbers.specs.Codes.{codeCheck}
 use Rattle.tape_read.specs.Entries.{blockSize}
 use Rattle.tape_read.specs.Blocks.{numberIn, sessionIn, kindIn, payloadAt, payloadIn, checkBad, contentTests}
 use Rattle.tape_read.specs.Tapes.{blocksOf}
@@ -15,7 +16,7 @@ use Rattle.recover.specs.declared.Found.the-variants.{Block, End}
 
 -- the check (code 3) and the content (6 to 9) are right; which block number (4) and session number (5) it has is not asked
 unfoldable pub isGood : List ℕ → Bool
-isGood b = eqb (firstOf ((checkBad b, 3) ∷ contentTests b)) 0
+isGood b = eqb (firstOf ((checkBad b, codeCheck) ∷ contentTests b)) 0
 
 -- a good block: the step it stands at, counted from 0, and what it says
 pub record Salvaged : Type 0 where

@@ -3,7 +3,8 @@
 -- Assumes nothing.
 use mathlib.Core.Path.{refl}
 use mathlib.Core.List.{List, _∷_}
-use Rattle.tape_read.specs.Entries.{Entry, entry, start}
+use Rattle.numbers.specs.Kinds.{start}
+use Rattle.tape_read.specs.Entries.{Entry, entry}
 use Rattle.sessions.specs.Session as Under
 use Rattle.sessions.specs.Kept.{Kept}
 use Rattle.sessions.proofs.Ends.{finishes}

@@ -32,7 +32,8 @@ use Rattle.tape_read.specs.Blocks.{head as o72, body as o73, block as o74, wind
 use Rattle.tape_read.specs.Blocks.{allZero as o78, checkBad as o79, numberBad as o80, sessionBad as o81, kindBad as o82}
 use Rattle.tape_read.specs.Blocks.{spareBad as o83, lengthBad as o84, paddingBad as o85, contentTests as o86, codeOf as o87}
 use Rattle.tape_read.specs.Blocks.{payloadIn as o88, entryIn as o89}
-use Rattle.tape_read.specs.Entries.{isKind as o90, storable as o91, allStorable as o92}
+use Rattle.numbers.specs.Kinds.{isKind as o90}
+use Rattle.tape_read.specs.Entries.{storable as o91, allStorable as o92}
 use Rattle.tape_read.specs.Numbers.{numberOf as o93, bytesOf as o94}
 use Rattle.tape_read.specs.Tapes.{preceded as o95, blockAt as o96, cut as o97, blocksOf as o98, readBlocks as o99}
 use Rattle.tape_read.specs.Tapes.{readFrom as o100, sessionOf as o101, readTape as o102, written as o103}

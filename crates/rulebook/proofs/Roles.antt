@@ -7,7 +7,8 @@ use mathlib.Core.List.{List, [], _∷_, _++_}
 use mathlib.Core.Logic.{inl, inr, ⊎-elim}
 use mathlib.Core.Option.{Option, none, some}
 use Prim.Native.Nat.{ℕ}
-use Rattle.tape_read.specs.Entries.{Entry, entry, command, answer, decision}
+use Rattle.numbers.specs.Kinds.{command, answer, decision}
+use Rattle.tape_read.specs.Entries.{Entry, entry}
 use Rattle.sessions.specs.Session as Under
 use Rattle.sessions.specs.Stated.{Sort, finished, unfinished, neither}
 use Rattle.sessions.specs.Machine.{due, next, run}

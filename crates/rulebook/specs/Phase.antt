@@ -4,8 +4,9 @@ use mathlib.Core.List.{List, _∷_, _++_}
 use mathlib.Core.Option.{none, some}
 use Prim.Native.Nat.{ℕ}
 use Rattle.slices.specs.Writing.{zeros}
+use Rattle.numbers.specs.Outcomes.{terminated}
 use Rattle.dol_fill.specs.Filled.{filling}
-use Rattle.tape_read.specs.Entries.{start}
+use Rattle.numbers.specs.Kinds.{start}
 use Rattle.words.specs.Words.{wordKind}
 use Rattle.words.specs.declared.Word.{Word}
 use Rattle.commands.specs.Commands.{selectCommand, optionsCommand, recordCommand, cryptogramCommand}
@@ -63,16 +64,6 @@ commandOf (second s request code) = cryptogramCommand (p1Of request) (filling (s
 unfoldable pub dueKind : Heard → ℕ
 dueKind terminal = start
 dueKind (says word s) = wordKind word
-
--- the outcomes (01, "The tape")
-abbrev pub approved : ℕ
-approved = 1
-
-abbrev pub declined : ℕ
-declined = 2
-
-abbrev pub terminated : ℕ
-terminated = 3
 
 -- DECISION's nine bytes: outcome, reason or 0, TVR and TSI as they stand at that moment
 unfoldable pub decisionOf : ℕ → ℕ → Situation → List ℕ

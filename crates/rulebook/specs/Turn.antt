@@ -7,6 +7,7 @@ use Prim.Native.Nat.{ℕ}
 use lib.Dec.{eqb}
 use Rattle.slices.specs.Choice.{pick}
 use Rattle.slices.specs.Tests.{isSome}
+use Rattle.numbers.specs.Reasons.{forMissing, forList}
 use Rattle.start_fields.specs.Reading.{Terminal, readingOf}
 use Rattle.start_valid.specs.Start.{validStart}
 use Rattle.facts.specs.Facts.{orElse}
@@ -36,7 +37,8 @@ use Rattle.decide_requests.specs.declared.reply.HostHeard.{HostHeard}
 use Rattle.decide_requests.specs.declared.reply.HostHeard.the-variants.{Said, Nothing}
 use Rattle.rulebook.specs.Situation.{Situation, begun, listIn}
 use Rattle.rulebook.specs.Phase.{Asked, selecting, optioning, reading, first, second, Heard, terminal}
-use Rattle.rulebook.specs.Phase.{says, Phase, asks, hears, decided, ended, approved, declined}
+use Rattle.numbers.specs.Outcomes.{approved, declined}
+use Rattle.rulebook.specs.Phase.{says, Phase, asks, hears, decided, ended}
 
 -- a bad answer ends the session with its reason; otherwise it goes on
 unfoldable pub goesOn : ℕ → Situation → Phase → Phase
@@ -72,7 +74,7 @@ verifying s =
 
 -- after the last record: 8 comes before the bits are set; 9 after, and after the results of cardholder verification
 unfoldable pub allRead : Situation → Phase
-allRead s = pick (eqb (afterRecords (s .facts)) 8) (ended 8 s) (verifying (managed s))
+allRead s = pick (eqb (afterRecords (s .facts)) forMissing) (ended forMissing s) (verifying (managed s))
 
 -- the next record, or the end of them
 unfoldable pub readOn : Situation → List (ℕ × ℕ) → Phase
@@ -110,7 +112,7 @@ answered s = record { terminal = s .terminal; profile = s .profile; facts = s .f
 unfoldable pub replied : Situation → HostReply → List ℕ → Phase
 replied s reply code =
     let request = secondRequest reply (s .terminal) (s .facts) (s .tvr) in
-    pick (fillable (listIn s 0x8D)) (asks (second s request (responseCode reply request code))) (ended 9 s)
+    pick (fillable (listIn s 0x8D)) (asks (second s request (responseCode reply request code))) (ended forList s)
 
 -- an ARQC waits for the issuer; a terminal of type 0 goes on as unable
 unfoldable pub online : Situation → Phase

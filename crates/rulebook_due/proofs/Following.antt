@@ -8,7 +8,8 @@ use mathlib.Core.Option.{Option, none, some}
 use Prim.Native.Nat.{ℕ}
 use Rattle.slices.specs.Tests.{alike}
 use Rattle.slices.proofs.Comparing.{alike-same}
-use Rattle.tape_read.specs.Entries.{Entry, entry, command, answer, silence, decision}
+use Rattle.numbers.specs.Kinds.{command, answer, silence, decision}
+use Rattle.tape_read.specs.Entries.{Entry, entry}
 use Rattle.sessions.specs.Session.{isPayload}
 use Rattle.sessions.specs.Session as Under
 use Rattle.sessions.specs.Machine.{due, sayable, next, run}

@@ -4,7 +4,8 @@
 use mathlib.Core.Path.{refl}
 use mathlib.Core.List.{List, [], _∷_, _++_}
 use Prim.Native.Nat.{ℕ}
-use Rattle.tape_read.specs.Entries.{Entry, entry, start, host, decision}
+use Rattle.numbers.specs.Kinds.{start, host, decision}
+use Rattle.tape_read.specs.Entries.{Entry, entry}
 use Rattle.rulebook.specs.Session.{Session}
 use Rattle.rulebook.proofs.Opening.{reached}
 use Rattle.rulebook.proofs.Made.{startIn, amountOf, startOf, select, selected, options, optioned, readOne, recordedWith, recorded, expiring}

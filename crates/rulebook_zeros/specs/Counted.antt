@@ -6,7 +6,8 @@ use mathlib.Core.List.{List, [], _∷_, _++_}
 use mathlib.Core.Logic.{_⊎_}
 use Prim.Native.Nat.{ℕ, _+_}
 use lib.ListN.{length, take}
-use Rattle.tape_read.specs.Entries.{Entry, entry, silence}
+use Rattle.numbers.specs.Kinds.{silence}
+use Rattle.tape_read.specs.Entries.{Entry, entry}
 use Rattle.sessions.specs.Rules.{Phase, Rules}
 use Rattle.sessions.specs.Session.{Plays, exchanged, heard, decided, AwaitsCard, BreaksAt}
 

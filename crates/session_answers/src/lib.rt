@@ -8,6 +8,7 @@ use decide_cryptogram::Cryptogram;
 use decide_cryptogram::Given;
 use decide_cryptogram::Request;
 use decide_tvr::results::tsi_after_first_answer;
+use numbers::outcomes;
 use session_moves::Step;
 use session_moves::command::missing;
 use session_moves::ends::ask;
@@ -116,11 +117,11 @@ fn by_second(given: Given) -> u8
 {
     match given {
         Given::Of(cryptogram) => match cryptogram {
-            Cryptogram::Tc => 1,
-            Cryptogram::Aac => 2,
-            Cryptogram::Arqc => 2,
+            Cryptogram::Tc => outcomes::APPROVED,
+            Cryptogram::Aac => outcomes::DECLINED,
+            Cryptogram::Arqc => outcomes::DECLINED,
         },
-        Given::Reserved => 2,
+        Given::Reserved => outcomes::DECLINED,
     }
 }
 

@@ -4,6 +4,7 @@ use decide_requests::reply::HostHeard;
 use decide_requests::reply::HostReply;
 use decide_requests::reply::code_in;
 use decide_requests::reply::reply_of;
+use numbers::refusals;
 use session_moves::Step;
 use session_online::request_second;
 use session_phase::Question;
@@ -15,6 +16,7 @@ use session_state::change::begun;
 use session_verification::on_results;
 use words::Word;
 ghost use mathlib.Core.Path.{_≡_};
+ghost use Rattle.numbers.specs.Refusals.{refusedEvent};
 ghost use Rattle.start_fields.specs.Reading.{readingOf};
 ghost use Rattle.decide_requests.specs.Replies.{replyOf};
 ghost use Rattle.rulebook.specs.Phase.{says};
@@ -86,11 +88,11 @@ fn on_answer(s: State, question: Question, a: &[u8], buf: &mut [u8]) -> Step
 }
 
 fn stay(s: State) -> Step
-    ensures { λ r. ⌜ (r .state ≡ s) × (r .reply ≡ Refused 4) × (r .zeros ≡ 0) ⌝ }
+    ensures { λ r. ⌜ (r .state ≡ s) × (r .reply ≡ Refused refusedEvent) × (r .zeros ≡ 0) ⌝ }
 {
     Step {
         state: s,
-        reply: Reply::Refused(4),
+        reply: Reply::Refused(refusals::EVENT),
         zeros: 0,
     }
 }

@@ -9,7 +9,8 @@ use native.Mathlib.Omega.{arith}
 use lib.ListN.{length}
 use borrow.Author.Tests.{eqb-false}
 use Rattle.start_valid.proofs.Laws.{valid-length}
-use Rattle.tape_read.specs.Entries.{entry, answer, silence, isKind, payloadMost}
+use Rattle.numbers.specs.Kinds.{answer, silence, isKind}
+use Rattle.tape_read.specs.Entries.{entry, payloadMost}
 use Rattle.words.specs.Words.{wordKind}
 use Rattle.words.proofs.Laws.{other-kind, said-short}
 use Rattle.rulebook.specs.Phase.{Heard, terminal, says, dueKind}

@@ -5,6 +5,7 @@ use mathlib.Core.List.{List}
 use Prim.Native.Nat.{ℕ}
 use lib.ListN.{length}
 use Rattle.slices.specs.Writing.{laid}
+use Rattle.numbers.specs.Refusals.{refusedEvent}
 use Rattle.commands.specs.Commands.{sizeIn}
 use Rattle.answer_afl.specs.Cursor.{stepped}
 use Rattle.answer_afl.specs.declared.cursor.Cursor.{Cursor}
@@ -86,7 +87,7 @@ moved p s buf = record { state = standing p s; reply = replyIn (length buf) p; b
 
 -- a session that is over takes nothing: the event is not the one due (01, "When a call is turned away", 4), and nothing changes
 unfoldable pub unmoved : State → List ℕ → Moved
-unmoved s buf = record { state = s; reply = Refused 4; buffer = buf; zeros = 0 }
+unmoved s buf = record { state = s; reply = Refused refusedEvent; buffer = buf; zeros = 0 }
 
 -- the same state, but for what is waited for
 unfoldable pub waitingFor : Waiting → Reply → State → Step

@@ -1,5 +1,6 @@
 // A state that waits for what comes next.
 use crate::Step;
+use numbers::outcomes;
 use session_phase::Question;
 use session_phase::Reply;
 use session_phase::Speaker;
@@ -9,6 +10,7 @@ use session_state::change::change;
 use words::Word;
 ghost use mathlib.Core.Path.{_≡_};
 ghost use Prim.Native.Nat.{_%_};
+ghost use Rattle.numbers.specs.Outcomes.{terminated};
 ghost use Rattle.session_moves.specs.Moves.{waitingFor, askedFor};
 ghost use Rattle.session_phase.specs.declared.Reply.the-variants.{Due, Decided as DecidedReply};
 ghost use Rattle.session_phase.specs.declared.Speaker.the-variants.{Says};
@@ -62,7 +64,11 @@ pub fn decide(s: State, outcome: u8) -> Step
 
 // Terminated, for a reason: 01 has ten, and of a larger number the low byte is kept.
 pub fn end(s: State, reason: usize) -> Step
-    ensures { λ r. ⌜ r ≡ waitingFor (DecidedKept 3 (reason % 256)) DecidedReply s ⌝ }
+    ensures { λ r. ⌜ r ≡ waitingFor (DecidedKept terminated (reason % 256)) DecidedReply s ⌝ }
 {
-    wait(s, Waiting::Decided(3, (reason % 256) as u8), Reply::Decided)
+    wait(
+        s,
+        Waiting::Decided(outcomes::TERMINATED, (reason % 256) as u8),
+        Reply::Decided,
+    )
 }

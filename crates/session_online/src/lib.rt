@@ -5,6 +5,8 @@ use decide_requests::reply::HostReply;
 use decide_requests::reply::response_code;
 use decide_requests::requests::second_request;
 use dol_wanted::is_fillable;
+use numbers::outcomes;
+use numbers::reasons;
 use session_moves::Step;
 use session_moves::command::generate;
 use session_moves::command::missing;
@@ -52,7 +54,7 @@ pub fn request_second(s: State, reply: HostReply, code: [u8; 2], buf: &mut [u8])
         let zeros = missing(s, value(&told, 0x8D), &known);
         ask(s, Question::Second(request), n, zeros)
     } else {
-        end(s, 9)
+        end(s, reasons::LIST)
     }
 }
 
@@ -74,10 +76,10 @@ pub fn by_first(given: Given, s: State, buf: &mut [u8]) -> Step
 {
     match given {
         Given::Of(cryptogram) => match cryptogram {
-            Cryptogram::Tc => decide(s, 1),
-            Cryptogram::Aac => decide(s, 2),
+            Cryptogram::Tc => decide(s, outcomes::APPROVED),
+            Cryptogram::Aac => decide(s, outcomes::DECLINED),
             Cryptogram::Arqc => go_online(s, buf),
         },
-        Given::Reserved => decide(s, 2),
+        Given::Reserved => decide(s, outcomes::DECLINED),
     }
 }

@@ -4,6 +4,7 @@
 use mathlib.Core.Bool.{Bool}
 use mathlib.Core.List.{List}
 use Prim.Native.Nat.{ℕ}
+use Rattle.numbers.specs.Refusals.{refusedStart}
 use Rattle.start_valid.specs.Start.{validStart}
 use Rattle.words.specs.Words.{wordAllowed, wordRefusal}
 use Rattle.session_phase.specs.declared.Speaker.{Speaker}
@@ -16,5 +17,5 @@ allowedBy (Says word count) p = wordAllowed word count p
 
 -- the line of 01's table for anything else
 unfoldable pub refusalBy : Speaker → ℕ
-refusalBy Terminal = 3
+refusalBy Terminal = refusedStart
 refusalBy (Says word count) = wordRefusal word

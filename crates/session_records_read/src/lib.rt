@@ -3,6 +3,7 @@ use answer_afl::cursor;
 use answer_afl::cursor::Cursor;
 use decide_tvr::results::tsi_after_records;
 use decide_tvr::results::tvr_after_records;
+use numbers::reasons;
 use session_moves::Step;
 use session_moves::command::read;
 use session_moves::ends::end;
@@ -72,8 +73,8 @@ fn all_read(s: State, buf: &mut [u8]) -> Step
     ensures { λ r. ⌜ played r (now (buf .exit)) ≡ moved (allRead (late s)) s (now (buf .entry)) ⌝ }
 {
     let why = reason(s);
-    if why == 8 {
-        return end(s, 8);
+    if why == reasons::MISSING {
+        return end(s, reasons::MISSING);
     }
     verify(managed(s), buf)
 }

@@ -9,7 +9,8 @@ use Prim.Native.Nat.{ℕ, _+_, _≤_}
 use lib.Dec.{leb}
 use lib.ListN.{length, take}
 use lib.Pow.{areBytes}
-use Rattle.tape_read.specs.Entries.{Entry, entry, command, answer, silence, decision, payloadMost}
+use Rattle.numbers.specs.Kinds.{command, answer, silence, decision}
+use Rattle.tape_read.specs.Entries.{Entry, entry, payloadMost}
 use Rattle.sessions.specs.Rules.{Phase, asks, hears, decides, Rules}
 
 -- a payload that a tape can hold: bytes, and not too many

@@ -7,6 +7,7 @@ use Prim.Native.Nat.{ℕ, _+_, _/_}
 use lib.Dec.{eqb, ltb}
 use lib.ListN.{length}
 use Rattle.slices.specs.Choice.{pick}
+use Rattle.numbers.specs.Codes.{codeLong, codeTorn}
 use Rattle.tape_read.specs.Entries.{Entry, blockSize, blocksMost}
 use Rattle.tape_read.specs.Blocks.{sessionIn, codeOf, entryIn}
 use Rattle.tape_read.specs.Tapes.{Reading, entries, unreadable, cut}
@@ -63,7 +64,7 @@ damaged place code = record { place = place; code = code }
 
 -- what makes the tape unreadable, where it ends here; code 0: nothing
 unfoldable pub damageOf : Reader → Damage
-damageOf r = pick (tooLong r) (damaged 0 1) (pick (r .torn) (damaged (r .blocks) 2) (damaged (r .place) (r .code)))
+damageOf r = pick (tooLong r) (damaged 0 codeLong) (pick (r .torn) (damaged (r .blocks) codeTorn) (damaged (r .place) (r .code)))
 
 -- ---- pieces in a row
 

@@ -1,4 +1,5 @@
 // A tape read piece by piece: which block is due, and what makes the tape unreadable. One piece at a time is looked at and none is kept.
+use numbers::codes;
 use tape_read::BLOCK;
 use tape_read::BLOCKS;
 use tape_read::code;
@@ -148,10 +149,10 @@ pub fn found(end: Reader) -> Damage
     ensures { λ r. ⌜ r ≡ damageOf end ⌝ }
 {
     if is_too_long(end) {
-        return at(0, 1);
+        return at(0, codes::LONG);
     }
     if end.torn {
-        return at(end.blocks, 2);
+        return at(end.blocks, codes::TORN);
     }
     at(end.place, end.code as usize)
 }

@@ -14,7 +14,8 @@ use Rattle.slices.specs.Writing.{zeros}
 use Rattle.tape_crc.proofs.Bytes.{bytes-cons, bytes-append}
 use Rattle.tape_crc.proofs.Laws.{block-check-below}
 use Rattle.tape_read.specs.Numbers.{bytesOf}
-use Rattle.tape_read.specs.Entries.{Entry, entry, start, lastKind, isKind, payloadMost, storable}
+use Rattle.numbers.specs.Kinds.{start, lastKind, isKind}
+use Rattle.tape_read.specs.Entries.{Entry, entry, payloadMost, storable}
 use Rattle.tape_read.specs.Blocks.{head, body, block, allZero, numberIn, sessionIn, checkBad, numberBad}
 use Rattle.tape_read.specs.Blocks.{sessionBad, kindBad, spareBad, paddingBad, codeOf, entryIn}
 use Rattle.tape_read.proofs.Extra.{zeros-bytes}

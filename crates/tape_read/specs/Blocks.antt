@@ -7,9 +7,11 @@ use lib.Dec.{eqb, ltb}
 use lib.ListN.{length, getD, take, drop}
 use Rattle.slices.specs.Choice.{pick, firstOf}
 use Rattle.slices.specs.Writing.{zeros}
+use Rattle.numbers.specs.Codes.{codeCheck, codeNumber, codeSession, codeKind, codeSpare, codeLength, codePadding}
 use Rattle.tape_crc.specs.Check.{covered, blockCheckOf}
 use Rattle.tape_read.specs.Numbers.{numberOf, bytesOf}
-use Rattle.tape_read.specs.Entries.{payloadMost, isKind, Entry, entry}
+use Rattle.numbers.specs.Kinds.{isKind}
+use Rattle.tape_read.specs.Entries.{payloadMost, Entry, entry}
 
 -- the bytes before the payload: block number (0), session number (4), kind (8), a zero (9), length (10)
 unfoldable pub head : ℕ → ℕ → Entry → List ℕ
@@ -94,11 +96,11 @@ paddingBad b = not (allZero (paddingIn b))
 
 -- the tests that ask nothing but the block's own content, with their codes
 unfoldable pub contentTests : List ℕ → List (Bool × ℕ)
-contentTests b = (kindBad b, 6) ∷ (spareBad b, 7) ∷ (lengthBad b, 8) ∷ (paddingBad b, 9) ∷ []
+contentTests b = (kindBad b, codeKind) ∷ (spareBad b, codeSpare) ∷ (lengthBad b, codeLength) ∷ (paddingBad b, codePadding) ∷ []
 
 -- the code of a block where this block number and this session number are due; 0: a good block
 unfoldable pub codeOf : ℕ → ℕ → List ℕ → ℕ
-codeOf number session b = firstOf ((checkBad b, 3) ∷ (numberBad number b, 4) ∷ (sessionBad session b, 5) ∷ contentTests b)
+codeOf number session b = firstOf ((checkBad b, codeCheck) ∷ (numberBad number b, codeNumber) ∷ (sessionBad session b, codeSession) ∷ contentTests b)
 
 -- the payload of a block; none where its length is not allowed
 unfoldable pub payloadIn : List ℕ → List ℕ

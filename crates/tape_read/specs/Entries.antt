@@ -6,6 +6,7 @@ use Prim.Native.Nat.{ℕ, _*_}
 use lib.Dec.{leb}
 use lib.ListN.{length}
 use lib.Pow.{areBytes}
+use Rattle.numbers.specs.Kinds.{isKind}
 
 -- the bytes of a block
 abbrev pub blockSize : ℕ
@@ -21,37 +22,6 @@ tapeMost = blocksMost * blockSize
 -- at most so many bytes to a payload
 abbrev pub payloadMost : ℕ
 payloadMost = 496
-
--- the kinds of entries
-abbrev pub start : ℕ
-start = 1
-
-abbrev pub command : ℕ
-command = 2
-
-abbrev pub answer : ℕ
-answer = 3
-
-abbrev pub silence : ℕ
-silence = 4
-
-abbrev pub host : ℕ
-host = 5
-
-abbrev pub decision : ℕ
-decision = 6
-
--- the results of cardholder verification (02, R-7)
-abbrev pub results : ℕ
-results = 7
-
--- the last of them
-abbrev pub lastKind : ℕ
-lastKind = results
-
--- one of these
-unfoldable pub isKind : ℕ → Bool
-isKind k = leb start k && leb k lastKind
 
 -- what one block holds
 pub record Entry : Type 0 where

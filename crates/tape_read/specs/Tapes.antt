@@ -6,6 +6,7 @@ use Prim.Native.Nat.{ℕ, zero, suc, _+_, _*_, _/_, _%_}
 use lib.Dec.{eqb, ltb}
 use lib.ListN.{length, take, drop}
 use Rattle.slices.specs.Choice.{pick}
+use Rattle.numbers.specs.Codes.{codeLong, codeTorn}
 use Rattle.tape_read.specs.Entries.{Entry, blockSize, tapeMost}
 use Rattle.tape_read.specs.Blocks.{block, sessionIn, codeOf, entryIn}
 
@@ -49,8 +50,8 @@ sessionOf t = sessionIn (blockAt 0 t)
 -- any bytes: too many (code 1), no multiple of a block (code 2, after the whole blocks), then block by block
 unfoldable pub readTape : List ℕ → Reading
 readTape t =
-    pick (ltb tapeMost (length t)) (unreadable 0 1)
-    (pick (not (eqb (length t % blockSize) 0)) (unreadable (length t / blockSize) 2)
+    pick (ltb tapeMost (length t)) (unreadable 0 codeLong)
+    (pick (not (eqb (length t % blockSize) 0)) (unreadable (length t / blockSize) codeTorn)
     (readFrom 0 (sessionOf t) t))
 
 -- entries written one after the other, the first with the number n

@@ -1,6 +1,7 @@
 // The tape: entries in blocks of 512 bytes, read from any bytes.
 mod read;
 
+use numbers::kinds;
 pub use read::block_at;
 pub use read::code;
 pub use read::kind;
@@ -9,23 +10,8 @@ pub use read::payload;
 pub use read::session;
 ghost use mathlib.Core.Path.{_≡_};
 ghost use mathlib.Core.Bool.{not};
-ghost use Rattle.tape_read.specs.Entries.{isKind};
+ghost use Rattle.numbers.specs.Kinds.{isKind};
 ghost use Rattle.tape_read.specs.Numbers.{bytesOf};
-
-// The kinds of entries.
-pub const START: u8 = 1;
-
-pub const COMMAND: u8 = 2;
-
-pub const ANSWER: u8 = 3;
-
-pub const SILENCE: u8 = 4;
-
-pub const HOST: u8 = 5;
-
-pub const DECISION: u8 = 6;
-
-pub const RESULTS: u8 = 7;
 
 // The limits: the bytes of a block, the blocks of a tape and its bytes, the bytes of a payload.
 pub const BLOCK: usize = 512;
@@ -45,10 +31,10 @@ pub const CHECK_AT: usize = 508;
 pub fn no_kind(k: u8) -> bool
     ensures { λ r. ⌜ r ≡ not (isKind k) ⌝ }
 {
-    if k < START {
+    if k < kinds::START {
         return true;
     }
-    RESULTS < k
+    kinds::LAST < k
 }
 
 // A number as it stands in a block, its highest byte first.

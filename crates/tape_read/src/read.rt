@@ -4,6 +4,7 @@ use crate::CHECK_AT;
 use crate::PAYLOAD;
 use crate::PAYLOAD_AT;
 use crate::no_kind;
+use numbers::codes;
 use slices::part;
 ghost use mathlib.Core.Path.{_≡_};
 ghost use Prim.Native.Nat.{_≤_, _<_, _+_, _-_};
@@ -59,13 +60,13 @@ pub fn code(block: &[u8], due_number: usize, due_session: u32) -> u8
     ensures { λ r. ⌜ r ≡ codeOf «due_number» «due_session» (now (block .entry)) ⌝ }
 {
     if long_at(block, CHECK_AT) != tape_crc::of_block(block) {
-        return 3;
+        return codes::CHECK;
     }
     if number(block) as usize != due_number {
-        return 4;
+        return codes::NUMBER;
     }
     if session(block) != due_session {
-        return 5;
+        return codes::SESSION;
     }
     content_code(block)
 }
@@ -75,19 +76,19 @@ fn content_code(block: &[u8]) -> u8
     ensures { λ r. ⌜ r ≡ firstOf (contentTests (now (block .entry))) ⌝ }
 {
     if no_kind(kind(block)) {
-        return 6;
+        return codes::KIND;
     }
     if slices::byte(block, 9) != 0 {
-        return 7;
+        return codes::SPARE;
     }
     let n = payload_length(block);
     if PAYLOAD < n {
-        return 8;
+        return codes::LENGTH;
     }
     if zeros_from(block, PAYLOAD_AT + n) {
         0
     } else {
-        9
+        codes::PADDING
     }
 }
 

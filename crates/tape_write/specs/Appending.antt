@@ -7,7 +7,9 @@ use lib.Dec.{eqb, leb, ltb}
 use lib.ListN.{length}
 use Rattle.slices.specs.Choice.{pick, firstOf}
 use Rattle.slices.specs.Writing.{put}
-use Rattle.tape_read.specs.Entries.{Entry, isKind, blockSize, blocksMost, payloadMost}
+use Rattle.numbers.specs.Refusals.{refusedEntry, refusedRoom}
+use Rattle.numbers.specs.Kinds.{isKind}
+use Rattle.tape_read.specs.Entries.{Entry, blockSize, blocksMost, payloadMost}
 use Rattle.tape_read.specs.Blocks.{block}
 use Rattle.tape_write.specs.declared.Writer.{Writer}
 use Rattle.tape_write.specs.declared.Appended.{Appended}
@@ -16,10 +18,10 @@ use Rattle.tape_write.specs.declared.Appended.{Appended}
 unfoldable pub refusalOf : ℕ → Entry → List ℕ → ℕ
 refusalOf used e t =
     firstOf
-    ((not (isKind (e .kind)), 7)
-    ∷ (ltb payloadMost (length (e .payload)), 7)
-    ∷ (leb blocksMost used, 8)
-    ∷ (ltb (length t) (used * blockSize + blockSize), 8)
+    ((not (isKind (e .kind)), refusedEntry)
+    ∷ (ltb payloadMost (length (e .payload)), refusedEntry)
+    ∷ (leb blocksMost used, refusedRoom)
+    ∷ (ltb (length t) (used * blockSize + blockSize), refusedRoom)
     ∷ [])
 
 -- the answer: the writer one block further, or as it was beside the refusal's number

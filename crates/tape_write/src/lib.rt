@@ -1,4 +1,5 @@
 // A tape written entry by entry, each in a block after the last.
+use numbers::refusals;
 use tape_read::BLOCK;
 use tape_read::BLOCKS;
 use tape_read::CHECK_AT;
@@ -71,16 +72,16 @@ fn why_refused(used: usize, kind: u8, payload: &[u8], tape: &[u8]) -> u8
     ensures { λ r. ⌜ r ≡ refusalOf used (entry kind (now (payload .entry))) (now (tape .entry)) ⌝ }
 {
     if no_kind(kind) {
-        return 7;
+        return refusals::ENTRY;
     }
     if PAYLOAD < payload.len() {
-        return 7;
+        return refusals::ENTRY;
     }
     if BLOCKS <= used {
-        return 8;
+        return refusals::ROOM;
     }
     if tape.len() < used * BLOCK + BLOCK {
-        return 8;
+        return refusals::ROOM;
     }
     0
 }

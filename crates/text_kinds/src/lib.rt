@@ -1,12 +1,12 @@
 // The words for the kinds of entries, for programs that say what is due.
+use numbers::kinds::ANSWER;
+use numbers::kinds::COMMAND;
+use numbers::kinds::DECISION;
+use numbers::kinds::HOST;
+use numbers::kinds::RESULTS;
+use numbers::kinds::SILENCE;
+use numbers::kinds::START;
 use slices::lay;
-use tape_read::ANSWER;
-use tape_read::COMMAND;
-use tape_read::DECISION;
-use tape_read::HOST;
-use tape_read::RESULTS;
-use tape_read::SILENCE;
-use tape_read::START;
 ghost use mathlib.Core.Path.{_≡_};
 ghost use lib.ListN.{length};
 ghost use Rattle.slices.specs.Writing.{laid};

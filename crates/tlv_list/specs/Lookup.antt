@@ -6,6 +6,7 @@ use mathlib.Core.List.{List, [], _∷_}
 use Prim.Native.Nat.{ℕ}
 use lib.Dec.{eqb}
 use Rattle.slices.specs.Choice.{pick}
+use Rattle.numbers.specs.Refusals.{refusedReading}
 use Rattle.tlv_list.specs.Objects.{Object, between, readRefusal}
 use Rattle.tlv_list.specs.Place.{Place, placesFrom}
 use Rattle.tlv_list.specs.declared.Found.{Found}
@@ -90,9 +91,9 @@ foundValue s Twice = twice
 
 -- the look-up for any bytes: what is refused as a list (9) is refused here, whatever the tag
 unfoldable pub seek : List ℕ → ℕ → Sought
-seek s tag = pick (eqb (readRefusal s) 9) Refused (InList (findInChecked s tag))
+seek s tag = pick (eqb (readRefusal s) refusedReading) Refused (InList (findInChecked s tag))
 
 -- 01's number for each answer
 unfoldable pub lookupRefusal : Sought → ℕ
-lookupRefusal Refused = 9
+lookupRefusal Refused = refusedReading
 lookupRefusal (InList f) = 0

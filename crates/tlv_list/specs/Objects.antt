@@ -8,6 +8,7 @@ use lib.Dec.{ltb, eqb}
 use lib.ListN.{length, getD, take, drop}
 use Rattle.slices.specs.Choice.{pick, firstOf}
 use Rattle.slices.specs.Shorter.{shorter}
+use Rattle.numbers.specs.Refusals.{refusedReading}
 use Rattle.tlv_head.specs.Head.{constructed, tagOf, valueStart, valueEnd, whole}
 use Rattle.slices.specs.Tests.{isSome}
 
@@ -53,4 +54,4 @@ longest = 4096
 
 -- 01, "When a call is turned away", 9; 0 where the list is read
 unfoldable pub readRefusal : List ℕ → ℕ
-readRefusal s = firstOf ((ltb longest (length s), 9) ∷ (not (isList s), 9) ∷ [])
+readRefusal s = firstOf ((ltb longest (length s), refusedReading) ∷ (not (isList s), refusedReading) ∷ [])

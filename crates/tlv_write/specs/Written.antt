@@ -7,6 +7,7 @@ use lib.Dec.{ltb, eqb}
 use lib.ListN.{length}
 use Rattle.slices.specs.Choice.{pick, firstOf}
 use Rattle.slices.specs.Writing.{put}
+use Rattle.numbers.specs.Refusals.{refusedWriting, refusedSpace}
 use Rattle.tlv_head.specs.Head.{constructed, twoBytes}
 use Rattle.tlv_list.specs.Objects.{Object, isList, longest}
 use Rattle.tlv_write.specs.declared.Wrote.{Wrote}
@@ -42,10 +43,10 @@ fitsTag tag value = pick (constructed tag) (isList value) true
 unfoldable pub writeRefusal : ℕ → List ℕ → ℕ → ℕ
 writeRefusal tag value room =
     firstOf
-    ((not (isTag tag), 10)
-    ∷ (not (fitsTag tag value), 10)
-    ∷ (ltb longest (length (written tag value)), 10)
-    ∷ (ltb room (length (written tag value)), 11)
+    ((not (isTag tag), refusedWriting)
+    ∷ (not (fitsTag tag value), refusedWriting)
+    ∷ (ltb longest (length (written tag value)), refusedWriting)
+    ∷ (ltb room (length (written tag value)), refusedSpace)
     ∷ [])
 
 -- the answer's cases, with 01's number for each and the bytes written

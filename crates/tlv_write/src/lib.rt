@@ -1,4 +1,5 @@
 // The writer: one object at the start of a lent buffer, with the shortest length form.
+use numbers::refusals;
 use slices::lay;
 use tlv_head::tag::has_two_bytes;
 use tlv_head::tag::is_constructed;
@@ -73,20 +74,20 @@ fn refusal(tag: usize, value: &[u8], room: usize) -> usize
     ensures { λ r. ⌜ r ≡ writeRefusal tag (now (value .entry)) room ⌝ }
 {
     if 4096 < value.len() {
-        return 10;
+        return refusals::WRITING;
     }
     let size = tag_size(tag) + length_size(value.len()) + value.len();
     if 4096 < size {
-        return 10;
+        return refusals::WRITING;
     }
     if is_tag(tag) {
         if fits_tag(tag, value) {
-            if room < size { 11 } else { 0 }
+            if room < size { refusals::SPACE } else { 0 }
         } else {
-            10
+            refusals::WRITING
         }
     } else {
-        10
+        refusals::WRITING
     }
 }
 
@@ -139,10 +140,10 @@ pub fn write(tag: usize, value: &[u8], buf: &mut [u8]) -> Wrote
     ensures buffer { λ _. ⌜ now (buf .exit) ≡ bufferAfter tag (now (value .entry)) (now (buf .entry)) ⌝ }
 {
     let why = refusal(tag, value, buf.len());
-    if why == 10 {
+    if why == refusals::WRITING {
         return Wrote::BadObject;
     }
-    if why == 11 {
+    if why == refusals::SPACE {
         return Wrote::NoRoom;
     }
     Wrote::Bytes(lay_object(buf, tag, value))

@@ -9,6 +9,7 @@ use lib.Dec.{eqb}
 use lib.ListN.{length}
 use Rattle.slices.specs.Choice.{pick}
 use Rattle.slices.specs.Tests.{every, isSome}
+use Rattle.numbers.specs.Reasons.{forMissing}
 use Rattle.start_fields.specs.Layout.{startLength}
 use Rattle.start_valid.specs.Start.{validStart}
 use Rattle.facts.specs.Facts.{orElse}
@@ -42,7 +43,7 @@ namesBefore = map (λ row. row .0) recordsBefore
 
 -- after the last record: 8 comes before the bits are set, 9 after; nothing stands before the first request
 unfoldable pub allReadBefore : Situation → Phase
-allReadBefore s = pick (eqb (afterRecords (s .facts)) 8) (ended 8 s) (requested (afterRecords (s .facts)) (managed s))
+allReadBefore s = pick (eqb (afterRecords (s .facts)) forMissing) (ended forMissing s) (requested (afterRecords (s .facts)) (managed s))
 
 -- the next record, or the end of them
 unfoldable pub readOnBefore : Situation → List (ℕ × ℕ) → Phase

@@ -11,7 +11,8 @@ use lib.Dec.{eqb}
 use lib.ListN.{length, length-append}
 use borrow.Author.Tests.{eqb-true}
 use Rattle.slices.proofs.Choice.{picked, and-left, and-right}
-use Rattle.tape_read.specs.Entries.{Entry, entry, silence}
+use Rattle.numbers.specs.Kinds.{silence}
+use Rattle.tape_read.specs.Entries.{Entry, entry}
 use Rattle.tape_read.specs.Tapes.{Reading, entries, unreadable, readTape}
 use Rattle.sessions.specs.Session as Under
 use Rattle.sessions.specs.Machine.{next, run}

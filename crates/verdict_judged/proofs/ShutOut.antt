@@ -6,7 +6,8 @@ use mathlib.Core.List.{List, [], _∷_}
 use mathlib.Core.Logic.{inl}
 use Prim.Native.Nat.{ℕ}
 use native.Mathlib.Omega.{arith}
-use Rattle.tape_read.specs.Entries.{Entry, entry, start, command, isKind, storable, allStorable}
+use Rattle.numbers.specs.Kinds.{start, command, isKind}
+use Rattle.tape_read.specs.Entries.{Entry, entry, storable, allStorable}
 use Rattle.tape_read.specs.Tapes.{entries, readTape, sessionOf, written}
 use Rattle.tape_read.proofs.Steps.{read-end, tape-ragged, tape-blocks}
 use Rattle.sessions.specs.Session as Under

@@ -11,7 +11,8 @@ use lib.Dec.{eqb}
 use borrow.Author.Tests.{ne-eqb}
 use Rattle.slices.specs.Choice.{pick}
 use Rattle.slices.proofs.Choice.{pick-yes, pick-no, either, and-both}
-use Rattle.tape_read.specs.Entries.{Entry, entry, command, answer, silence, decision}
+use Rattle.numbers.specs.Kinds.{command, answer, silence, decision}
+use Rattle.tape_read.specs.Entries.{Entry, entry}
 use Rattle.sessions.specs.Session.{isPayload}
 use Rattle.sessions.specs.Machine.{due, sayable, next}
 use Rattle.sessions.proofs.Running.{takes-command, takes-answer, takes-heard, takes-decision}

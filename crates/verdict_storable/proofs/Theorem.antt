@@ -6,7 +6,8 @@ use mathlib.Core.List.{List, [], _∷_, _++_}
 use mathlib.Core.Logic.{⊎-elim}
 use Prim.Native.Nat.{ℕ}
 use Rattle.slices.proofs.Choice.{and-both}
-use Rattle.tape_read.specs.Entries.{Entry, entry, command, answer, silence, decision, isKind, storable, allStorable}
+use Rattle.numbers.specs.Kinds.{command, answer, silence, decision, isKind}
+use Rattle.tape_read.specs.Entries.{Entry, entry, storable, allStorable}
 use Rattle.tape_read.proofs.Roundtrip.{first-storable, rest-storable}
 use Rattle.sessions.specs.Session.{isPayload}
 use Rattle.sessions.specs.Session as Under

@@ -4,7 +4,8 @@
 use mathlib.Core.Bool.{Bool}
 use mathlib.Core.List.{List}
 use Prim.Native.Nat.{ℕ}
-use Rattle.tape_read.specs.Entries.{host, results}
+use Rattle.numbers.specs.Refusals.{refusedHost, refusedResults}
+use Rattle.numbers.specs.Kinds.{host, results}
 use Rattle.cvm.specs.Lists.{areResults}
 use Rattle.decide_requests.specs.Replies.{replyOf, isReply}
 use Rattle.words.specs.declared.Word.{Word}
@@ -22,5 +23,5 @@ wordAllowed Results count p = areResults count p
 
 -- the line of 01's table for what may not be said: HOST not 3 bytes, or not one of the replies; not a result for each rule, or not 0 to 4
 unfoldable pub wordRefusal : Word → ℕ
-wordRefusal Host = 6
-wordRefusal Results = 12
+wordRefusal Host = refusedHost
+wordRefusal Results = refusedResults

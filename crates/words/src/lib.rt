@@ -2,8 +2,9 @@
 // the number with which anything else is turned away.
 use cvm::list::are_results;
 use decide_requests::reply::is_reply;
-use tape_read::HOST;
-use tape_read::RESULTS;
+use numbers::kinds::HOST;
+use numbers::kinds::RESULTS;
+use numbers::refusals;
 ghost use mathlib.Core.Path.{_≡_};
 ghost use Rattle.words.specs.Words.{wordKind, wordAllowed, wordRefusal};
 
@@ -37,7 +38,7 @@ pub fn refusal(word: Word) -> usize
     ensures { λ r. ⌜ r ≡ wordRefusal word ⌝ }
 {
     match word {
-        Word::Host => 6,
-        Word::Results => 12,
+        Word::Host => refusals::HOST,
+        Word::Results => refusals::RESULTS,
     }
 }
