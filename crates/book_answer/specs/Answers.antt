@@ -3,7 +3,7 @@
 use Prim.Native.Nat.{ℕ, _%_, _^_}
 use Rattle.verdict.specs.declared.Verdict.{Verdict}
 use Rattle.verdict.specs.declared.Verdict.the-variants.{Pass, Fail, Inconclusive, Unreadable}
-use Rattle.verdict.specs.declared.Answer.{Answer}
+use Rattle.verdict.specs.declared.Ruling.{Ruling}
 use Rattle.book_block.specs.Entries.{pass, fail, inconclusive, unreadable, made}
 use Rattle.book_block.specs.declared.Entry.{Entry}
 
@@ -14,5 +14,5 @@ verdictNumber Inconclusive = inconclusive
 verdictNumber Unreadable = unreadable
 
 -- what is entered for a tape under its number; no place and no code that the judge gives is above four bytes (`book_judged`)
-unfoldable pub entryOf : ℕ → Answer → Entry
+unfoldable pub entryOf : ℕ → Ruling → Entry
 entryOf tape a = made tape (verdictNumber (a .verdict)) (a .place % 2 ^ 32) (a .code % 2 ^ 32)

@@ -4,7 +4,7 @@ use book_block::FAIL;
 use book_block::INCONCLUSIVE;
 use book_block::PASS;
 use book_block::UNREADABLE;
-use verdict::Answer;
+use verdict::Ruling;
 use verdict::Verdict;
 ghost use mathlib.Core.Path.{_≡_};
 ghost use Rattle.book_answer.specs.Answers.{verdictNumber, entryOf};
@@ -13,16 +13,16 @@ ghost use Rattle.book_answer.specs.Answers.{verdictNumber, entryOf};
 const LONG: usize = 0x1_0000_0000;
 
 // What is entered for a tape under its number, where the judge answers so.
-pub fn entry_of(tape: u32, answer: Answer) -> Entry
-    ensures { λ r. ⌜ r ≡ entryOf tape answer ⌝ }
+pub fn entry_of(tape: u32, ruling: Ruling) -> Entry
+    ensures { λ r. ⌜ r ≡ entryOf tape ruling ⌝ }
 {
-    let said = answer.verdict;
+    let said = ruling.verdict;
     let verdict = verdict_number(said);
     Entry {
         tape,
         verdict,
-        place: (answer.place % LONG) as u32,
-        code: (answer.code % LONG) as u32,
+        place: (ruling.place % LONG) as u32,
+        code: (ruling.code % LONG) as u32,
     }
 }
 

@@ -13,7 +13,7 @@ use Rattle.rulebook.specs.Session.{BreaksAt, Lawful}
 use Rattle.verdict.specs.Saying.{says}
 use Rattle.verdict.specs.declared.Verdict.{Verdict}
 use Rattle.verdict.specs.declared.Verdict.the-variants.{Pass, Fail, Inconclusive, Unreadable}
-use Rattle.verdict.specs.declared.Answer.{Answer}
+use Rattle.verdict.specs.declared.Ruling.{Ruling}
 use Rattle.verdict_judged.specs.Judged as judged
 use Rattle.verdict_judged.proofs.Once.{judged-once}
 use Rattle.book_block.specs.Entries.{made}
@@ -44,19 +44,19 @@ break-there es k b = go (decLt k (length es))
         absurd (b .broken (subst Lawful whole (b .before k (omega arith))))
 
 module _ (number : ℕ) (t : List ℕ) (e : Entry) where
-  by-answer : (a : Answer) → judged.Judged t a → e ≡ entryOf number a → Named number t e
+  by-ruling : (a : Ruling) → judged.Judged t a → e ≡ entryOf number a → Named number t e
   unfolding Small verdictNumber
-  by-answer a (judged.readable es r (judged.passes s is)) entry =
+  by-ruling a (judged.readable es r (judged.passes s is)) entry =
       let small : length es ≤ blocksMost = subst Small r (tape-small t) in
       passes es r s (entry ∙ (ap (entryOf number) is ∙ kept number (length es) 0 Pass (omega arith) (omega arith)))
-  by-answer a (judged.readable es r (judged.undecided o is)) entry =
+  by-ruling a (judged.readable es r (judged.undecided o is)) entry =
       let small : length es ≤ blocksMost = subst Small r (tape-small t) in
       undecided es r o (entry ∙ (ap (entryOf number) is ∙ kept number (length es) 0 Inconclusive (omega arith) (omega arith)))
-  by-answer a (judged.readable es r (judged.fails k b is)) entry =
+  by-ruling a (judged.readable es r (judged.fails k b is)) entry =
       let small : length es ≤ blocksMost = subst Small r (tape-small t) in
       let there = break-there es k b in
       fails es k r b (entry ∙ (ap (entryOf number) is ∙ kept number k 0 Fail (omega arith) (omega arith)))
-  by-answer a (judged.damaged place code r is) entry =
+  by-ruling a (judged.damaged place code r is) entry =
       let small : (place ≤ blocksMost) × (code ≤ codeMost) = subst Small r (tape-small t) in
       let p = small .0 in
       let c = small .1 in
@@ -64,4 +64,4 @@ module _ (number : ℕ) (t : List ℕ) (e : Entry) where
 
   -- what is entered for a tape is what demand 3 names
   pub entered-named : EnteredFor number t e → Named number t e
-  entered-named f = by-answer (f .answer) (f .promised) (f .entry)
+  entered-named f = by-ruling (f .ruling) (f .promised) (f .entry)

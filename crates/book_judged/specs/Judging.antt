@@ -7,17 +7,17 @@ use lib.ListN.{length}
 use Rattle.tape_read.specs.Entries.{Entry as TapeEntry}
 use Rattle.tape_read.specs.Tapes.{entries, unreadable, readTape}
 use Rattle.rulebook.specs.Session.{Session, Open, BreaksAt}
-use Rattle.verdict.specs.declared.Answer.{Answer}
+use Rattle.verdict.specs.declared.Ruling.{Ruling}
 use Rattle.verdict_judged.specs.Judged.{Judged}
 use Rattle.book_block.specs.Entries.{pass, fail, inconclusive, unreadable as unreadableNumber, made}
 use Rattle.book_block.specs.declared.Entry.{Entry}
 use Rattle.book_answer.specs.Answers.{entryOf}
 
--- some answer that the judge's promise admits for the tape, as an entry under this number
+-- some ruling that the judge's promise admits for the tape, as an entry under this number
 pub record EnteredFor (number : ℕ) (t : List ℕ) (e : Entry) : Type 0 where
-  pub answer : Answer
-  pub promised : Judged t answer
-  pub entry : e ≡ entryOf number answer
+  pub ruling : Ruling
+  pub promised : Judged t ruling
+  pub entry : e ≡ entryOf number ruling
 
 -- the entry that demand 3 names for a tape: by what the tape reads as, and by the rulebook
 pub data Named (number : ℕ) (t : List ℕ) (e : Entry) : Type 0 where

@@ -9,6 +9,6 @@ pub fn judged(number: u32, tape: &[u8]) -> Entry
     ensures { λ r. ⌜ EnteredFor number (now (tape .entry)) r ⌝ }
 {
     let found = judge(tape);
-    let answer = found.answer;
-    entry_of(number, answer)
+    let ruling = found.ruling;
+    entry_of(number, ruling)
 }

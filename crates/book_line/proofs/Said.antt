@@ -131,11 +131,11 @@ module _ (tape : ℕ) (v : Verdict) (p c : ℕ) (r : List ℕ) (t : Tail r) (hp 
       ∙ (ap (fieldsSaid tape) (take-at l (0x0A ∷ []) (length l) refl) ∙ line-said))
 
 -- the line that the judge's program writes gives the entry of the answer that it says; the fourth number is not entered
-pub answer-said : (tape : ℕ) (f : Finding) → f .answer .place < 2 ^ 32 → f .answer .code < 2 ^ 32 → f .zeros < 2 ^ 32
-    → entrySaid tape (lineOf f) ≡ entryOf tape (f .answer)
+pub answer-said : (tape : ℕ) (f : Finding) → f .ruling .place < 2 ^ 32 → f .ruling .code < 2 ^ 32 → f .zeros < 2 ^ 32
+    → entrySaid tape (lineOf f) ≡ entryOf tape (f .ruling)
 unfolding lineOf entryOf
 answer-said tape f p c z =
-    let a = f .answer in
+    let a = f .ruling in
     let v = a .verdict in
     ap (entrySaid tape) (sym (regrouped (wordOf v) (fieldOf (a .place)) (fieldOf (a .code)) (fieldOf (f .zeros)) (0x0A ∷ [])))
     ∙ (text-said tape v (a .place) (a .code) (fieldOf (f .zeros)) (fourth (f .zeros) z) p c

@@ -18,7 +18,7 @@ use Rattle.rulebook.specs.Turn.{turn}
 use Rattle.rulebook.specs.Machine.{Machine, at, owes}
 use Rattle.rulebook_zeros.specs.Summing.{newIn, countOn, zerosFrom}
 use Rattle.rulebook.specs.Session.{rules}
-use Rattle.verdict.specs.declared.Answer.{Answer}
+use Rattle.verdict.specs.declared.Ruling.{Ruling}
 use Rattle.verdict_judged.specs.Judged.{Judged}
 use Rattle.verdict_judged.specs.Zeroed.{Zeroed}
 use Rattle.verdict_judged.specs.Progress.{Progress, reached, begun, onward, reads, readsAll, concluded, finally, verdictOf}
@@ -72,13 +72,13 @@ module _ (t u : List ℕ) (tapes : TapesAlike t u) where
   same-number = ap zerosIn (tapes .first-read) ∙ (same-zeros (tapes .exchanged) ∙ sym (ap zerosIn (tapes .second-read)))
 
 -- tapes of which the same is said are judged alike, whatever that is
-judged-on : (t u : List ℕ) → verdictOf t ≡ verdictOf u → (a : Answer) → Judged t a → Judged u a
+judged-on : (t u : List ℕ) → verdictOf t ≡ verdictOf u → (a : Ruling) → Judged t a → Judged u a
 judged-on t u same a j = verdict-right u a (right-verdict t a j ∙ same)
 
 zeroed-on : (t u : List ℕ) → zerosIn (readTape t) ≡ zerosIn (readTape u) → (n : ℕ) → Zeroed t n → Zeroed u n
 zeroed-on t u same n z = zeroed-right u n (zeroed-once t n (zerosIn (readTape t)) z (zeroed-found t) ∙ same)
 
-pub judged-alike : (t u : List ℕ) → TapesAlike t u → (a : Answer) → Judged t a ↔ Judged u a
+pub judged-alike : (t u : List ℕ) → TapesAlike t u → (a : Ruling) → Judged t a ↔ Judged u a
 judged-alike t u tapes a = (judged-on t u (same-verdict t u tapes) a, judged-on u t (sym (same-verdict t u tapes)) a)
 
 pub zeroed-alike : (t u : List ℕ) → TapesAlike t u → (n : ℕ) → Zeroed t n ↔ Zeroed u n

@@ -5,7 +5,7 @@ use mathlib.Core.Path.{_≡_}
 use mathlib.Core.List.{List}
 use mathlib.Core.Logic.{_↔_}
 use Prim.Native.Nat.{ℕ}
-use Rattle.verdict.specs.declared.Answer.{Answer}
+use Rattle.verdict.specs.declared.Ruling.{Ruling}
 use Rattle.verdict_judged.specs.Judged.{Judged}
 use Rattle.verdict_judged.specs.Zeroed.{Zeroed}
 use Rattle.kernel.specs.declared.Session.{Session}
@@ -21,5 +21,5 @@ pub record Influence : Type 0 where
   pub calls : (s : Session) (cs ds : List Call) → CallsAlike s cs ds → allGiven s cs ≡ allGiven s ds
   -- 4. Tapes in which such answers stand, where answers are due: the same verdict, place and code, and the same fourth number, whatever
   -- the verdict is
-  pub verdict : (t u : List ℕ) → TapesAlike t u → (a : Answer) → Judged t a ↔ Judged u a
+  pub verdict : (t u : List ℕ) → TapesAlike t u → (a : Ruling) → Judged t a ↔ Judged u a
   pub zeros : (t u : List ℕ) → TapesAlike t u → (n : ℕ) → Zeroed t n ↔ Zeroed u n

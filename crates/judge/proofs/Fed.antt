@@ -154,7 +154,7 @@ module _ (t : List ℕ) (bytes : areBytes t ≡ true) where
   read-as = sym (fed-reading t) ∙ ap (λ (r : Reader). readingOf (damageOf r) es) (sym (reader-after (piecesOf t) begun))
 
   abbrev Right : Finding → Type 0
-  Right f = Judged t (f .answer) × Zeroed t (f .zeros)
+  Right f = Judged t (f .ruling) × Zeroed t (f .zeros)
 
   right-whole : eqb (d .code) 0 ≡ true → Right (finds (saidAt (u .dialogue .stage) (u .reader .blocks)) (u .dialogue .zeros))
   unfolding readingOf finally verdictOf zerosIn
@@ -180,19 +180,19 @@ module _ (t : List ℕ) (bytes : areBytes t ≡ true) where
   fed-finds = picked Right (eqb (d .code) 0) _ _ right-whole right-damaged
 
 -- fed piece by piece, a tape gets a verdict and a number that are right of it
-pub fed-right : (t : List ℕ) → areBytes t ≡ true → Judged t (closed (fedAll begun (piecesOf t)) .answer) × Zeroed t (closed
+pub fed-right : (t : List ℕ) → areBytes t ≡ true → Judged t (closed (fedAll begun (piecesOf t)) .ruling) × Zeroed t (closed
     (fedAll begun (piecesOf t)) .zeros)
 fed-right t bytes = fed-finds t bytes
 
 -- and so the very ones that it gets whole (`judge`): verdict, place, code and number
-pub fed-whole : (t : List ℕ) → areBytes t ≡ true → (f : Finding) → Judged t (f .answer) → Zeroed t (f .zeros)
+pub fed-whole : (t : List ℕ) → areBytes t ≡ true → (f : Finding) → Judged t (f .ruling) → Zeroed t (f .zeros)
     → closed (fedAll begun (piecesOf t)) ≡ f
 fed-whole t bytes f a z =
     let g = closed (fedAll begun (piecesOf t)) in
     let right = fed-right t bytes in
-    let same-answer : g .answer ≡ f .answer = right-verdict t (g .answer) (right .0) ∙ sym (right-verdict t (f .answer) a) in
+    let same-ruling : g .ruling ≡ f .ruling = right-verdict t (g .ruling) (right .0) ∙ sym (right-verdict t (f .ruling) a) in
     let same-zeros : g .zeros ≡ f .zeros = zeroed-once t (g .zeros) (f .zeros) (right .1) z in
-    λ i. record { answer = same-answer i; zeros = same-zeros i }
+    λ i. record { ruling = same-ruling i; zeros = same-zeros i }
 
 -- ---- the loop over a whole tape
 

@@ -12,7 +12,7 @@ use Rattle.tape_feed.specs.declared.Damage.{Damage}
 use Rattle.tape_feed.specs.Feeding.{next, damageOf}
 use Rattle.verdict.specs.Saying.{says, finds}
 use Rattle.verdict.specs.declared.Verdict.the-variants.{Unreadable}
-use Rattle.verdict.specs.declared.Answer.{Answer}
+use Rattle.verdict.specs.declared.Ruling.{Ruling}
 use Rattle.judge_stages.specs.Stages.{saidAt}
 use Rattle.judge_follow.specs.declared.Judgement.{Judgement}
 use Rattle.judge_follow.specs.Following.{led}
@@ -33,8 +33,8 @@ module _ (u : UnderWay) (d : Damage) (e : d ≡ damageOf (u .reader)) where
   unfolding closed closedBy
   closed-damaged n = sym (pick-no _ _ _ (ne-eqb (d .code) 0 n)) ∙ ap (closedBy u) e
 
-  pub closed-whole : d .code ≡ 0 → (a : Answer) → a ≡ saidAt (u .dialogue .stage) (u .reader .blocks)
+  pub closed-whole : d .code ≡ 0 → (a : Ruling) → a ≡ saidAt (u .dialogue .stage) (u .reader .blocks)
       → finds a (u .dialogue .zeros) ≡ closed u
   unfolding closed closedBy
   closed-whole y a ea =
-      ap (λ (x : Answer). finds x (u .dialogue .zeros)) ea ∙ (sym (pick-yes _ _ _ (eq-eqb (d .code) 0 y)) ∙ ap (closedBy u) e)
+      ap (λ (x : Ruling). finds x (u .dialogue .zeros)) ea ∙ (sym (pick-yes _ _ _ (eq-eqb (d .code) 0 y)) ∙ ap (closedBy u) e)

@@ -18,7 +18,7 @@ pub struct UnderWay {
 
 // The verdict of any bytes, and the number of list entries filled with zeros.
 pub fn judge(tape: &[u8]) -> Finding
-    ensures verdict { λ r. ⌜ Judged (now (tape .entry)) (r .answer) ⌝ }
+    ensures verdict { λ r. ⌜ Judged (now (tape .entry)) (r .ruling) ⌝ }
     ensures zeros { λ r. ⌜ Zeroed (now (tape .entry)) (r .zeros) ⌝ }
 {
     let mut u = pieces::begin();

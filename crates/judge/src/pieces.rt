@@ -40,7 +40,7 @@ fn damaged(place: usize, code: usize) -> Finding
     ensures { λ r. ⌜ r ≡ finds (says Said.Unreadable place code) 0 ⌝ }
 {
     Finding {
-        answer: unreadable(place, code),
+        ruling: unreadable(place, code),
         zeros: 0,
     }
 }
@@ -57,7 +57,7 @@ pub fn close(u: UnderWay) -> Finding
     let dialogue = u.dialogue;
     let stage = dialogue.stage;
     Finding {
-        answer: conclude(stage, reader.blocks),
+        ruling: conclude(stage, reader.blocks),
         zeros: dialogue.zeros,
     }
 }

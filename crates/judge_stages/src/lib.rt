@@ -1,5 +1,5 @@
 // What the next entry of a tape must be, and what is said of a tape that ends there.
-use verdict::Answer;
+use verdict::Ruling;
 use verdict::Verdict;
 ghost use mathlib.Core.Path.{_≡_};
 ghost use Rattle.verdict.specs.Saying.{says};
@@ -18,33 +18,33 @@ pub enum Stage {
     Broken(usize),
 }
 
-fn answer(verdict: Verdict, place: usize, code: usize) -> Answer
+fn ruling(verdict: Verdict, place: usize, code: usize) -> Ruling
     ensures { λ r. ⌜ r ≡ says verdict place code ⌝ }
 {
-    Answer {
+    Ruling {
         verdict,
         place,
         code,
     }
 }
 
-pub fn unreadable(place: usize, code: usize) -> Answer
+pub fn unreadable(place: usize, code: usize) -> Ruling
     ensures { λ r. ⌜ r ≡ says Said.Unreadable place code ⌝ }
 {
-    answer(Verdict::Unreadable, place, code)
+    ruling(Verdict::Unreadable, place, code)
 }
 
 // After so many entries.
-pub fn conclude(stage: Stage, entries: usize) -> Answer
+pub fn conclude(stage: Stage, entries: usize) -> Ruling
     ensures { λ r. ⌜ r ≡ saidAt stage entries ⌝ }
 {
     match stage {
-        Stage::Done => answer(Verdict::Pass, entries, 0),
-        Stage::Broken(place) => answer(Verdict::Fail, place, 0),
-        Stage::Word => answer(Verdict::Inconclusive, entries, 0),
-        Stage::Command(_) => answer(Verdict::Inconclusive, entries, 0),
-        Stage::Answer => answer(Verdict::Inconclusive, entries, 0),
-        Stage::Decision => answer(Verdict::Inconclusive, entries, 0),
-        Stage::Closed => answer(Verdict::Inconclusive, entries, 0),
+        Stage::Done => ruling(Verdict::Pass, entries, 0),
+        Stage::Broken(place) => ruling(Verdict::Fail, place, 0),
+        Stage::Word => ruling(Verdict::Inconclusive, entries, 0),
+        Stage::Command(_) => ruling(Verdict::Inconclusive, entries, 0),
+        Stage::Answer => ruling(Verdict::Inconclusive, entries, 0),
+        Stage::Decision => ruling(Verdict::Inconclusive, entries, 0),
+        Stage::Closed => ruling(Verdict::Inconclusive, entries, 0),
     }
 }

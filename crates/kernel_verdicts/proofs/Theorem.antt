@@ -24,7 +24,7 @@ use Rattle.rulebook.proofs.Kept.{kept}
 use Rattle.verdict.specs.Saying.{says}
 use Rattle.verdict_judged.specs.Judged.{Judges, passes, undecided, Judged, readable}
 use Rattle.verdict_judged.specs.Zeroed.{Zeroed, readable as counted}
-use Rattle.verdict.specs.declared.Answer.{Answer}
+use Rattle.verdict.specs.declared.Ruling.{Ruling}
 use Rattle.verdict.specs.declared.Verdict.the-variants.{Pass, Fail, Inconclusive}
 use Rattle.verdict_judged.proofs.Stored.{session-fits, written-judged}
 use Rattle.verdict_storable.proofs.Theorem.{lawful-storable}
@@ -82,7 +82,7 @@ module _ (cs : List Call) (bytes : allBytes cs ≡ true) where
   lawful = either (isDecided (plays cs .session .state .waiting)) (λ d. inl (said .finished d)) (λ n. inr (said .unfinished n))
 
   module _ (number : ℕ) (known : number < 2 ^ 32) where
-    stored : (a : Answer) → Judges (plays cs .log) a → Judged (written 0 number (plays cs .log)) a
+    stored : (a : Ruling) → Judges (plays cs .log) a → Judged (written 0 number (plays cs .log)) a
     stored a j = written-judged number known (plays cs .log) (lawful-storable _ lawful) (lawful-fits _ lawful) a j
 
     -- decided: PASS, with all entries
@@ -135,7 +135,7 @@ log-zeroed cs bytes number known =
     let l = lawful cs bytes in
     counted log (tape-back number log (lawful-storable log l) (lawful-fits log l) known) (plays-zeros cs bytes)
 
-same-verdict : {t u : List ℕ} {a : Answer} → t ≡ u → Judged u a → Judged t a
+same-verdict : {t u : List ℕ} {a : Ruling} → t ≡ u → Judged u a → Judged t a
 same-verdict {a = a} same j = subst (λ (v : List ℕ). Judged v a) (sym same) j
 
 pub end-to-end : (cs : List Call) → allBytes cs ≡ true → (number : ℕ) → number < 2 ^ 32 → (t : List ℕ) → tapeMost ≤ length t

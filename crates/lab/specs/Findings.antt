@@ -10,11 +10,11 @@ use Rattle.verdict_judged.specs.Zeroed.{Zeroed}
 use Rattle.book_answer.specs.Answers.{verdictNumber}
 
 unfoldable pub laidFinding : Finding → List ℕ
-laidFinding f = verdictNumber (f .answer .verdict) ∷ f .answer .place ∷ f .answer .code ∷ f .zeros ∷ []
+laidFinding f = verdictNumber (f .ruling .verdict) ∷ f .ruling .place ∷ f .ruling .code ∷ f .zeros ∷ []
 
 -- the numbers of what the judge finds of a tape
 pub record FoundOf (t : List ℕ) (numbers : List ℕ) : Type 0 where
   pub finding : Finding
-  pub verdict : Judged t (finding .answer)
+  pub verdict : Judged t (finding .ruling)
   pub zeros : Zeroed t (finding .zeros)
   pub laid : numbers ≡ laidFinding finding

@@ -23,12 +23,12 @@ pub extern "C" fn lab_judge(tape: &[u8], finding: &mut [u64; 4])
     ensures { λ _. ⌜ FoundOf (now (tape .entry)) (now (finding .exit)) ⌝ }
 {
     let f = judge(tape);
-    let answer = f.answer;
-    let verdict = answer.verdict;
+    let ruling = f.ruling;
+    let verdict = ruling.verdict;
     *finding = [
         verdict_number(verdict) as u64,
-        answer.place as u64,
-        answer.code as u64,
+        ruling.place as u64,
+        ruling.code as u64,
         f.zeros as u64,
     ];
 }

@@ -87,9 +87,9 @@ fn judge_named(name: &[u8], follow: bool) -> bool {
 }
 
 fn tell_found(found: Finding, name: &[u8], follow: bool) -> bool {
-    let answer = found.answer;
-    if follow && answer.code == 0 {
-        follow_named(found, answer.place, name)
+    let ruling = found.ruling;
+    if follow && ruling.code == 0 {
+        follow_named(found, ruling.place, name)
     } else {
         tell(found, name)
     }

@@ -13,7 +13,7 @@ use Rattle.tape_read.specs.Blocks.{checkBad, codeOf}
 use Rattle.tape_read.specs.Tapes.{entries, blockAt, sessionOf, readTape}
 use Rattle.tape_read.proofs.Codes.{code-check}
 use Rattle.verdict.specs.declared.Verdict.the-variants.{Pass, Unreadable}
-use Rattle.verdict.specs.declared.Answer.{Answer}
+use Rattle.verdict.specs.declared.Ruling.{Ruling}
 use Rattle.verdict_judged.specs.Judged.{Judged, readable, damaged}
 use Rattle.recover_laws.specs.Damage.{torn, stored}
 use Rattle.recover_laws.specs.Recovers.{NeverPasses}
@@ -23,10 +23,10 @@ use Rattle.recover_laws.proofs.Naming.{codes-pass}
 use Rattle.recover_laws.proofs.Appending.{torn-last}
 
 -- what passes reads as entries
-passes-read : (u : List ℕ) (a : Answer) → Judged u a → a .verdict ≡ Pass → (es : List Entry) × (readTape u ≡ entries es)
+passes-read : (u : List ℕ) (a : Ruling) → Judged u a → a .verdict ≡ Pass → (es : List Entry) × (readTape u ≡ entries es)
 passes-read u a (readable es r j) p = (es, r)
 passes-read u a (damaged place code r e) p =
-    let other : Unreadable ≡ Pass = sym (ap (λ (x : Answer). x .verdict) e) ∙ p in
+    let other : Unreadable ≡ Pass = sym (ap (λ (x : Ruling). x .verdict) e) ∙ p in
     let z : _≡_ {A = ℕ} 0 1 = cc in absurd (omega arith)
 
 -- a short tail, behind whatever stands before it

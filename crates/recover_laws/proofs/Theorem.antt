@@ -14,7 +14,7 @@ use Rattle.tape_write.specs.Appending.{appendAll, fresh}
 use Rattle.tape_write.proofs.Growing.{appends-read}
 use Rattle.verdict.specs.Saying.{says}
 use Rattle.verdict.specs.declared.Verdict.the-variants.{Pass, Unreadable}
-use Rattle.verdict.specs.declared.Answer.{Answer}
+use Rattle.verdict.specs.declared.Ruling.{Ruling}
 use Rattle.verdict_judged.specs.Judged.{Judged, damaged}
 use Rattle.verdict_judged.proofs.Exactly.{unreadable-exactly}
 use Rattle.recover_laws.specs.Damage.{Overwritten, FirstHit, untouched, listed}
@@ -30,10 +30,10 @@ module _ (hit : ℕ → Bool) (t u : List ℕ) (es : List Entry) (r : readTape t
   unreadable-there : (k : ℕ) → FirstHit hit k → k < length es → readTape u ≡ unreadable k 3
   unreadable-there k f there = first-named hit t u es readable w k f (omega (arith, read-count 0 (sessionOf t) es t (readable .reads)))
 
-  named-there : (k : ℕ) → FirstHit hit k → k < length es → (a : Answer) → Judged u a → a ≡ says Unreadable k 3
+  named-there : (k : ℕ) → FirstHit hit k → k < length es → (a : Ruling) → Judged u a → a ≡ says Unreadable k 3
   named-there k f there a j = unreadable-exactly u k 3 a (unreadable-there k f there) j
 
-  never-passes : (k : ℕ) → hit k ≡ true → k < length es → (a : Answer) → Judged u a → a .verdict ≡ Pass → ⊥
+  never-passes : (k : ℕ) → hit k ≡ true → k < length es → (a : Ruling) → Judged u a → a .verdict ≡ Pass → ⊥
   never-passes k h there a j p =
       let m = least hit k h in
       let said = named-there (m .0) (m .1 .1) (omega (arith, m .1 .0)) a j in

@@ -8,14 +8,14 @@ use lib.ListN.{length}
 use Rattle.tape_read.specs.Entries.{Entry}
 use Rattle.verdict.specs.Saying.{says}
 use Rattle.verdict.specs.declared.Verdict.the-variants.{Pass, Unreadable}
-use Rattle.verdict.specs.declared.Answer.{Answer}
+use Rattle.verdict.specs.declared.Ruling.{Ruling}
 use Rattle.verdict_judged.specs.Judged.{Judged}
 use Rattle.recover.specs.Salvage.{salvaged, tailOf}
 use Rattle.recover_laws.specs.Damage.{FirstHit, untouched, listed}
 
 -- whatever the judge says of some bytes, it is not PASS
 abbrev pub NeverPasses : List ℕ → Type 0
-NeverPasses u = (a : Answer) → Judged u a → a .verdict ≡ Pass → ⊥
+NeverPasses u = (a : Ruling) → Judged u a → a .verdict ≡ Pass → ⊥
 
 -- u is a tape of these entries and this session number, overwritten where it is marked
 pub record Recovers (hit : ℕ → Bool) (session : ℕ) (es : List Entry) (u : List ℕ) : Type 0 where
@@ -24,6 +24,6 @@ pub record Recovers (hit : ℕ → Bool) (session : ℕ) (es : List Entry) (u : 
   pub tail : tailOf u ≡ 0
   -- the judge names the first overwritten block, with code 3
   pub verdict : (k : ℕ) → FirstHit hit k → k < length es → Judged u (says Unreadable k 3)
-  pub only : (k : ℕ) → FirstHit hit k → k < length es → (a : Answer) → Judged u a → a ≡ says Unreadable k 3
+  pub only : (k : ℕ) → FirstHit hit k → k < length es → (a : Ruling) → Judged u a → a ≡ says Unreadable k 3
   -- so wherever a block was overwritten, it says no PASS
   pub no-pass : (k : ℕ) → hit k ≡ true → k < length es → NeverPasses u

@@ -2,11 +2,11 @@
 -- Assumes nothing.
 use Prim.Native.Nat.{ℕ}
 use Rattle.verdict.specs.declared.Verdict.{Verdict}
-use Rattle.verdict.specs.declared.Answer.{Answer}
+use Rattle.verdict.specs.declared.Ruling.{Ruling}
 use Rattle.verdict.specs.declared.Finding.{Finding}
 
-abbrev pub says : Verdict → ℕ → ℕ → Answer
+abbrev pub says : Verdict → ℕ → ℕ → Ruling
 says verdict place code = record { verdict = verdict; place = place; code = code }
 
-abbrev pub finds : Answer → ℕ → Finding
-finds answer zeros = record { answer = answer; zeros = zeros }
+abbrev pub finds : Ruling → ℕ → Finding
+finds ruling zeros = record { ruling = ruling; zeros = zeros }

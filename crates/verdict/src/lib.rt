@@ -7,13 +7,13 @@ pub enum Verdict {
     Unreadable,
 }
 
-pub struct Answer {
+pub struct Ruling {
     pub verdict: Verdict,
     pub place: usize,
     pub code: usize,
 }
 
 pub struct Finding {
-    pub answer: Answer,
+    pub ruling: Ruling,
     pub zeros: usize,
 }

@@ -14,7 +14,7 @@ use Rattle.rulebook.specs.Session.{Lawful}
 use Rattle.rulebook_zeros.specs.Zeros.{unsuppliedIn}
 use Rattle.verdict.specs.Saying.{says}
 use Rattle.verdict.specs.declared.Verdict.the-variants.{Fail}
-use Rattle.verdict.specs.declared.Answer.{Answer}
+use Rattle.verdict.specs.declared.Ruling.{Ruling}
 use Rattle.verdict_judged.specs.Judged.{fails, JudgedUnder, readable, Judged}
 use Rattle.verdict_judged.specs.Zeroed.{ZeroedUnder, Zeroed}
 use Rattle.verdict_editions.specs.Editions.{Same, First, FirstOf, itself}
@@ -43,7 +43,7 @@ start-of-74 t b es e h = short-tape t (entry start b ∷ es) e (omega arith)
 -- ---- what is said of them
 
 -- the answer for such a tape is the one that it had
-pub as-before : (t : List ℕ) (a : Answer) → FirstOf Short t → Same (Judged t a) (JudgedUnder rulesBefore t a)
+pub as-before : (t : List ℕ) (a : Ruling) → FirstOf Short t → Same (Judged t a) (JudgedUnder rulesBefore t a)
 as-before = judged-same (itself OldPhase) (agree-goes OldPhase agree) opens-alike some-short
 
 -- and so is its fourth number

@@ -6,7 +6,7 @@ use mathlib.Core.List.{List}
 use Prim.Native.Nat.{ℕ}
 use Rattle.slices.proofs.Choice.{pick-no}
 use Rattle.sessions.specs.Rules.{asks, hears, decides}
-use Rattle.verdict.specs.declared.Answer.{Answer}
+use Rattle.verdict.specs.declared.Ruling.{Ruling}
 use Rattle.rulebook.specs.Situation.{Situation}
 use Rattle.rulebook.specs.Phase.{Asked, Heard, terminal, says, Phase}
 use Rattle.rulebook.specs.Turn.{after, opened}
@@ -130,7 +130,7 @@ module _ {A H : Type 0} (added : Added A H) where
     some-later = (some .0, (some .1 .0, session-same (forerunner A H) goes opens (some .0) (some .1 .0) .1 (some .1 .1)))
 
     -- where some session of today's has such a START, a tape that begins so is judged as today
-    pub judged-as-it-was : (t : List ℕ) (a : Answer) → FirstOf (Earlier added) t → Same (JudgedUnder (later added) t a) (Judged t a)
+    pub judged-as-it-was : (t : List ℕ) (a : Ruling) → FirstOf (Earlier added) t → Same (JudgedUnder (later added) t a) (Judged t a)
     judged-as-it-was = judged-same (forerunner A H) goes opens some-later
 
     -- and where what was is counted as it was, its fourth number is today's

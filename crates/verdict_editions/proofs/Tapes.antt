@@ -9,7 +9,7 @@ use Rattle.tape_read.specs.Entries.{Entry}
 use Rattle.sessions.specs.Rules.{Phase, Rules}
 use Rattle.sessions.specs.Session.{Session}
 use Rattle.rulebook_zeros.specs.Counted.{sum, Summed, SummedClosed, SumOf, Counts, lawful, broken}
-use Rattle.verdict.specs.declared.Answer.{Answer}
+use Rattle.verdict.specs.declared.Ruling.{Ruling}
 use Rattle.verdict_judged.specs.Judged.{JudgesUnder, passes, undecided, fails, JudgedUnder, readable, damaged}
 use Rattle.verdict_judged.specs.Zeroed.{ZeroedUnder, readable as counted, damaged as uncounted}
 use Rattle.verdict_editions.specs.Editions.{Same, First, FirstOf, Pairing, GoAlike, OpenAlike, CountAlike, Some}
@@ -22,7 +22,7 @@ use Rattle.verdict_editions.proofs.Sessions.{awaits-same, open-same, br
 -- what is the same of entries that begin so
 module _ {A H S B I T : Type 0} (pairing : Pairing A H S B I T) {new : Rules A H S} {old : Rules B I T} (goes : GoAlike pairing new old)
     {Q : List ℕ → Type 0} (opens : OpenAlike pairing new old Q) (some : Some new Q) where
-  judges-over : (es : List Entry) (a : Answer) → First Q es → Same (JudgesUnder new es a) (JudgesUnder old es a)
+  judges-over : (es : List Entry) (a : Ruling) → First Q es → Same (JudgesUnder new es a) (JudgesUnder old es a)
   judges-over es a first = (over, back)
     where
       over : JudgesUnder new es a → JudgesUnder old es a
@@ -36,7 +36,7 @@ module _ {A H S B I T : Type 0} (pairing : Pairing A H S B I T) {new : Rules A H
       back (fails k b e) = fails k (breaks-same pairing goes opens some es k first .1 b) e
 
   -- a tape whose first entry is such is judged alike by both
-  pub judged-same : (t : List ℕ) (a : Answer) → FirstOf Q t → Same (JudgedUnder new t a) (JudgedUnder old t a)
+  pub judged-same : (t : List ℕ) (a : Ruling) → FirstOf Q t → Same (JudgedUnder new t a) (JudgedUnder old t a)
   unfolding FirstOf
   judged-same t a first = (over, back)
     where

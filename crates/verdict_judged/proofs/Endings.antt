@@ -18,7 +18,7 @@ use Rattle.rulebook.proofs.Kept.{kept}
 use Rattle.verdict.specs.Saying.{says}
 use Rattle.verdict_judged.specs.Judged.{Judges, passes, undecided, fails, Judged, readable, damaged}
 use Rattle.verdict.specs.declared.Verdict.the-variants.{Pass, Fail}
-use Rattle.verdict.specs.declared.Answer.{Answer}
+use Rattle.verdict.specs.declared.Ruling.{Ruling}
 
 -- ---- one entry too many
 
@@ -41,7 +41,7 @@ module _ (es : List Entry) (e : Entry) (more : List Entry) where
 
 module _ (t : List ℕ) (es : List Entry) (e : Entry) (r : readTape t ≡ entries (es ++ (e ∷ []))) where
   -- a session ends with its DECISION, so a tape that ends with any other entry is no pass
-  pub no-pass : (a : Answer) → (e .kind ≡ decision → ⊥) → Judged t a → a .verdict ≡ Pass → ⊥
+  pub no-pass : (a : Ruling) → (e .kind ≡ decision → ⊥) → Judged t a → a .verdict ≡ Pass → ⊥
   no-pass a other (readable fs q (passes s v)) p =
       let same : fs ≡ es ++ (e ∷ []) = cc in
       other (last-is-decision rules es e (subst Session same s))
@@ -50,9 +50,9 @@ module _ (t : List ℕ) (es : List Entry) (e : Entry) (r : readTape t ≡ entrie
   no-pass a other (damaged place code q v) p = let z : _≡_ {A = ℕ} 0 1 = cc in omega arith
 
   -- not one that ends after a COMMAND,
-  pub command-last : (a : Answer) → e .kind ≡ command → Judged t a → a .verdict ≡ Pass → ⊥
+  pub command-last : (a : Ruling) → e .kind ≡ command → Judged t a → a .verdict ≡ Pass → ⊥
   command-last a k = no-pass a (λ d. omega arith)
 
   -- nor one that ends with a silence
-  pub silence-last : (a : Answer) → e .kind ≡ silence → Judged t a → a .verdict ≡ Pass → ⊥
+  pub silence-last : (a : Ruling) → e .kind ≡ silence → Judged t a → a .verdict ≡ Pass → ⊥
   silence-last a k = no-pass a (λ d. omega arith)

@@ -12,10 +12,10 @@ use Rattle.verdict.specs.Saying.{says}
 use Rattle.verdict_judged.specs.Exactly.{Exactly}
 use Rattle.verdict_judged.specs.Judged.{Judges, passes, undecided, fails, Judged, readable, damaged}
 use Rattle.verdict.specs.declared.Verdict.the-variants.{Pass, Fail, Inconclusive, Unreadable}
-use Rattle.verdict.specs.declared.Answer.{Answer}
+use Rattle.verdict.specs.declared.Ruling.{Ruling}
 use Rattle.verdict_judged.proofs.Once.{judges-once, judged-once}
 
-module _ (es : List Entry) (a : Answer) where
+module _ (es : List Entry) (a : Ruling) where
   is-session : Judges es a → a .verdict ≡ Pass → Session es
   is-session (passes s e) v = s
   is-session (undecided o e) v = absurd (let z : _≡_ {A = ℕ} 0 1 = cc in omega arith)
@@ -29,7 +29,7 @@ module _ (es : List Entry) (a : Answer) where
   breaks-there : Judges es a → a .verdict ≡ Fail → BreaksAt es (a .place)
   breaks-there (passes s e) v = absurd (let z : _≡_ {A = ℕ} 0 1 = cc in omega arith)
   breaks-there (undecided o e) v = absurd (let z : _≡_ {A = ℕ} 0 1 = cc in omega arith)
-  breaks-there (fails k b e) v = subst (BreaksAt es) (sym (ap (λ (x : Answer). x .place) e)) b
+  breaks-there (fails k b e) v = subst (BreaksAt es) (sym (ap (λ (x : Ruling). x .place) e)) b
 
   is-read : Judges es a → a .verdict ≡ Unreadable → ⊥
   is-read (passes s e) v = let z : _≡_ {A = ℕ} 0 1 = cc in omega arith
@@ -37,14 +37,14 @@ module _ (es : List Entry) (a : Answer) where
   is-read (fails k b e) v = let z : _≡_ {A = ℕ} 0 1 = cc in omega arith
 
   no-code : Judges es a → a .code ≡ 0
-  no-code (passes s e) = ap (λ (x : Answer). x .code) e
-  no-code (undecided o e) = ap (λ (x : Answer). x .code) e
-  no-code (fails k b e) = ap (λ (x : Answer). x .code) e
+  no-code (passes s e) = ap (λ (x : Ruling). x .code) e
+  no-code (undecided o e) = ap (λ (x : Ruling). x .code) e
+  no-code (fails k b e) = ap (λ (x : Ruling). x .code) e
 
   otherwise : Judges es a → (Session es → ⊥) → (Open es → ⊥) → a .verdict ≡ Fail
   otherwise (passes s e) not-session not-open = absurd (not-session s)
   otherwise (undecided o e) not-session not-open = absurd (not-open o)
-  otherwise (fails k b e) not-session not-open = ap (λ (x : Answer). x .verdict) e
+  otherwise (fails k b e) not-session not-open = ap (λ (x : Ruling). x .verdict) e
 
   judges-exactly : Judges es a → Exactly es a
   judges-exactly j =
@@ -60,13 +60,13 @@ module _ (es : List Entry) (a : Answer) where
       }
 
 -- demand 3, for every readable tape
-pub readable-exactly : (t : List ℕ) (es : List Entry) (a : Answer) → readTape t ≡ entries es → Judged t a → Exactly es a
+pub readable-exactly : (t : List ℕ) (es : List Entry) (a : Ruling) → readTape t ≡ entries es → Judged t a → Exactly es a
 readable-exactly t es a r (readable fs q j) =
     let same : fs ≡ es = cc in
     subst (λ (l : List Entry). Exactly l a) same (judges-exactly fs a j)
 readable-exactly t es a r (damaged place code q e) = absurd (let z : _≡_ {A = ℕ} 0 1 = cc in omega arith)
 
 -- and for every other: its place and code
-pub unreadable-exactly : (t : List ℕ) (place code : ℕ) (a : Answer) → readTape t ≡ unreadable place code → Judged t a
+pub unreadable-exactly : (t : List ℕ) (place code : ℕ) (a : Ruling) → readTape t ≡ unreadable place code → Judged t a
     → a ≡ says Unreadable place code
 unreadable-exactly t place code a r j = judged-once j (damaged place code r refl)

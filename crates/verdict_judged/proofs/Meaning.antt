@@ -27,7 +27,7 @@ use Rattle.rulebook.proofs.Kept.{kept}
 use Rattle.verdict.specs.Saying.{says}
 use Rattle.verdict_judged.specs.Judged.{Judges, passes, undecided, fails, Judged, readable, damaged}
 use Rattle.verdict.specs.declared.Verdict.the-variants.{Pass, Inconclusive}
-use Rattle.verdict.specs.declared.Answer.{Answer}
+use Rattle.verdict.specs.declared.Ruling.{Ruling}
 use Rattle.verdict_judged.proofs.Once.{judged-once}
 use Rattle.verdict_judged.specs.Progress.{Progress, reached, closed, broken, begun, empty, closes, onward}
 use Rattle.verdict_judged.specs.Progress.{reads, readsAll, progressOf, concluded, finally, verdictOf}
@@ -147,8 +147,8 @@ unfolding verdictOf
 verdict-judged t = of-reading t (readTape t) refl
 
 -- so an answer is right exactly where it is the one that the machine finds
-pub verdict-right : (t : List ℕ) (a : Answer) → a ≡ verdictOf t → Judged t a
+pub verdict-right : (t : List ℕ) (a : Ruling) → a ≡ verdictOf t → Judged t a
 verdict-right t a e = subst (Judged t) (sym e) (verdict-judged t)
 
-pub right-verdict : (t : List ℕ) (a : Answer) → Judged t a → a ≡ verdictOf t
+pub right-verdict : (t : List ℕ) (a : Ruling) → Judged t a → a ≡ verdictOf t
 right-verdict t a j = judged-once j (verdict-judged t)

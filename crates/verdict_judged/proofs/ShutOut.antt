@@ -21,7 +21,7 @@ use Rattle.verdict.specs.Saying.{says}
 use Rattle.verdict_judged.specs.Judged.{undecided, fails, Judged, readable, damaged}
 use Rattle.verdict.specs.declared.Verdict.{Verdict}
 use Rattle.verdict.specs.declared.Verdict.the-variants.{Pass, Fail, Inconclusive, Unreadable}
-use Rattle.verdict.specs.declared.Answer.{Answer}
+use Rattle.verdict.specs.declared.Ruling.{Ruling}
 use Rattle.verdict_judged.proofs.Once.{judged-once}
 use Rattle.verdict_judged.specs.Progress.{verdictOf}
 use Rattle.verdict_judged.proofs.Meaning.{verdict-judged}
@@ -65,7 +65,7 @@ restarted-judged = written-judged 7 (omega arith) restarted refl (omega arith) _
 -- ---- judges
 
 abbrev pub Judge : Type 0
-Judge = List ℕ → Answer
+Judge = List ℕ → Ruling
 
 abbrev pub Right : Judge → Type 0
 Right j = (t : List ℕ) → Judged t (j t)
@@ -75,11 +75,11 @@ right-judge = verdict-judged
 
 module _ (j : Judge) (right : Right j) where
   -- a right judge has no choice
-  pub no-choice : (t : List ℕ) (a : Answer) → Judged t a → j t ≡ a
+  pub no-choice : (t : List ℕ) (a : Ruling) → Judged t a → j t ≡ a
   no-choice t a h = judged-once (right t) h
 
   says-so : (t : List ℕ) (v : Verdict) (place code : ℕ) → Judged t (says v place code) → j t .verdict ≡ v
-  says-so t v place code h = ap (λ (a : Answer). a .verdict) (no-choice t (says v place code) h)
+  says-so t v place code h = ap (λ (a : Ruling). a .verdict) (no-choice t (says v place code) h)
 
   -- each verdict is right for some tape
   pub each-verdict : (v : Verdict) → (t : List ℕ) × (j t .verdict ≡ v)
@@ -105,8 +105,8 @@ module _ (j : Judge) (right : Right j) where
   not-one-place m wrong =
       let a = wrong (written 0 7 unstarted) (says-so _ Fail 0 0 unstarted-judged) in
       let b = wrong (written 0 7 restarted) (says-so _ Fail 1 0 restarted-judged) in
-      let c = ap (λ (x : Answer). x .place) (no-choice _ _ unstarted-judged) in
-      let d = ap (λ (x : Answer). x .place) (no-choice _ _ restarted-judged) in
+      let c = ap (λ (x : Ruling). x .place) (no-choice _ _ unstarted-judged) in
+      let d = ap (λ (x : Ruling). x .place) (no-choice _ _ restarted-judged) in
       omega arith
 
   -- and for each there is one only: where the rules are first broken

@@ -24,7 +24,7 @@ use Rattle.rulebook.proofs.Kept.{kept}
 use Rattle.verdict.specs.Saying.{says}
 use Rattle.verdict_judged.specs.Judged.{Judges, passes, undecided, Judged, readable}
 use Rattle.verdict.specs.declared.Verdict.the-variants.{Pass, Inconclusive}
-use Rattle.verdict.specs.declared.Answer.{Answer}
+use Rattle.verdict.specs.declared.Ruling.{Ruling}
 use Rattle.verdict_judged.proofs.Silence.{closing-silence}
 
 -- a session fits a tape
@@ -50,7 +50,7 @@ waiting-fits es a =
     (arith, length-append es (entry silence [] ∷ []), length-append es (entry answer (a .0) ∷ a .1 .0), session-fits _ (a .1 .1))
 
 module _ (s : ℕ) (number : s < 2 ^ 32) (es : List Entry) (fit : allStorable es ≡ true) where
-  module _ (few : length es ≤ blocksMost) (a : Answer) (j : Judges es a) where
+  module _ (few : length es ≤ blocksMost) (a : Ruling) (j : Judges es a) where
     -- blocks stored in order have the verdict of their entries,
     pub written-judged : Judged (written 0 s es) a
     written-judged = readable es (tape-back s es fit few number) j

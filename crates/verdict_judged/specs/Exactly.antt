@@ -7,9 +7,9 @@ use Rattle.tape_read.specs.Entries.{Entry}
 use Rattle.rulebook.specs.Session.{Session, Open, BreaksAt}
 use Rattle.verdict.specs.Saying.{says}
 use Rattle.verdict.specs.declared.Verdict.the-variants.{Pass, Fail, Inconclusive, Unreadable}
-use Rattle.verdict.specs.declared.Answer.{Answer}
+use Rattle.verdict.specs.declared.Ruling.{Ruling}
 
-pub record Exactly (es : List Entry) (a : Answer) : Type 0 where
+pub record Exactly (es : List Entry) (a : Ruling) : Type 0 where
   -- PASS exactly when the entries are a finished session, with their number
   pub pass : a .verdict ≡ Pass → Session es
   pub passed : Session es → a ≡ says Pass (length es) 0

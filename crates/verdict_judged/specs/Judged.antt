@@ -12,11 +12,11 @@ use Rattle.sessions.specs.Session.{Session, Open, BreaksAt}
 use Rattle.rulebook.specs.Session.{rules as ours}
 use Rattle.verdict.specs.Saying.{says}
 use Rattle.verdict.specs.declared.Verdict.the-variants.{Pass, Fail, Inconclusive, Unreadable}
-use Rattle.verdict.specs.declared.Answer.{Answer}
+use Rattle.verdict.specs.declared.Ruling.{Ruling}
 
 module _ {Asked Heard Situation : Type 0} (rules : Rules Asked Heard Situation) where
   -- the answer for a tape that reads as these entries
-  pub data JudgesUnder (es : List Entry) (a : Answer) : Type 0 where
+  pub data JudgesUnder (es : List Entry) (a : Ruling) : Type 0 where
     -- a finished session: so many entries
     passes : Session rules es → a ≡ says Pass (length es) 0 → JudgesUnder es a
     -- an unfinished beginning, or one closing silence after one that waits for the card: so many entries
@@ -25,13 +25,13 @@ module _ {Asked Heard Situation : Type 0} (rules : Rules Asked Heard Situation) 
     fails : (k : ℕ) → BreaksAt rules es k → a ≡ says Fail k 0 → JudgesUnder es a
 
   -- and for any bytes: what makes a tape unreadable goes before all that its entries say
-  pub data JudgedUnder (t : List ℕ) (a : Answer) : Type 0 where
+  pub data JudgedUnder (t : List ℕ) (a : Ruling) : Type 0 where
     readable : (es : List Entry) → readTape t ≡ entries es → JudgesUnder es a → JudgedUnder t a
     damaged : (place code : ℕ) → readTape t ≡ unreadable place code → a ≡ says Unreadable place code → JudgedUnder t a
 
 -- by the rules of 01
-abbrev pub Judges : List Entry → Answer → Type 0
+abbrev pub Judges : List Entry → Ruling → Type 0
 Judges = JudgesUnder ours
 
-abbrev pub Judged : List ℕ → Answer → Type 0
+abbrev pub Judged : List ℕ → Ruling → Type 0
 Judged = JudgedUnder ours

@@ -17,7 +17,7 @@ use Rattle.rulebook_zeros.specs.Summing.{newIn}
 use Rattle.rulebook.specs.Session.{rules}
 use Rattle.verdict.specs.Saying.{says}
 use Rattle.verdict.specs.declared.Verdict.the-variants.{Pass, Fail, Inconclusive, Unreadable}
-use Rattle.verdict.specs.declared.Answer.{Answer}
+use Rattle.verdict.specs.declared.Ruling.{Ruling}
 
 pub data Progress : Type 0 where
   -- no rule is broken: where the machine stands, and how many entries were read
@@ -66,7 +66,7 @@ newBy (closed n) = 0
 newBy (broken k) = 0
 
 -- what is said where the entries end
-unfoldable pub concluded : Progress → Answer
+unfoldable pub concluded : Progress → Ruling
 concluded (reached (at p) n) = says Inconclusive n 0
 concluded (reached (owes w) n) = says Inconclusive n 0
 concluded (reached done n) = says Pass n 0
@@ -74,10 +74,10 @@ concluded (closed n) = says Inconclusive n 0
 concluded (broken k) = says Fail k 0
 
 -- what is said in the end, where the rest of a tape reads as this
-unfoldable pub finally : Progress → Reading → Answer
+unfoldable pub finally : Progress → Reading → Ruling
 finally m (entries es) = concluded (readsAll m es)
 finally m (unreadable place code) = says Unreadable place code
 
 -- the verdict of a tape
-unfoldable pub verdictOf : List ℕ → Answer
+unfoldable pub verdictOf : List ℕ → Ruling
 verdictOf t = finally begun (readTape t)

@@ -74,20 +74,20 @@ then-put x y d out p e h o =
 
 pub line-length : (a : Finding)
     → length (lineOf a)
-    ≡ length (wordOf (a .answer .verdict)) +
-    (length (fieldOf (a .answer .place)) + (length (fieldOf (a .answer .code)) + (length (fieldOf (a .zeros)) + 1)))
+    ≡ length (wordOf (a .ruling .verdict)) +
+    (length (fieldOf (a .ruling .place)) + (length (fieldOf (a .ruling .code)) + (length (fieldOf (a .zeros)) + 1)))
 unfolding lineOf
 line-length a = simp length-append
 
 module _ (a : Finding) (blank : List ℕ) where
   abbrev word : List ℕ
-  word = wordOf (a .answer .verdict)
+  word = wordOf (a .ruling .verdict)
 
   abbrev first : List ℕ
-  first = fieldOf (a .answer .place)
+  first = fieldOf (a .ruling .place)
 
   abbrev second : List ℕ
-  second = fieldOf (a .answer .code)
+  second = fieldOf (a .ruling .code)
 
   abbrev third : List ℕ
   third = fieldOf (a .zeros)

@@ -32,7 +32,7 @@ fieldOf n = 0x20 ∷ decimal n
 
 unfoldable pub lineOf : Finding → List ℕ
 lineOf f =
-    wordOf (f .answer .verdict) ++ (fieldOf (f .answer .place) ++ (fieldOf (f .answer .code) ++ (fieldOf (f .zeros) ++ (0x0A ∷ []))))
+    wordOf (f .ruling .verdict) ++ (fieldOf (f .ruling .place) ++ (fieldOf (f .ruling .code) ++ (fieldOf (f .zeros) ++ (0x0A ∷ []))))
 
 -- how many bytes of a buffer the line takes: none where it has no room, and then it is not written
 unfoldable pub lineSize : ℕ → Finding → ℕ

@@ -16,11 +16,11 @@ pub fn line(found: Finding, buf: &mut [u8]) -> usize
     ensures size { λ r. ⌜ r ≡ lineSize (length (now (buf .entry))) found ⌝ }
     ensures text { λ _. ⌜ now (buf .exit) ≡ laid (lineOf found) 0 (now (buf .entry)) ⌝ }
 {
-    let answer = found.answer;
+    let ruling = found.ruling;
     let zeros = found.zeros;
-    let verdict = answer.verdict;
-    let place = answer.place;
-    let code = answer.code;
+    let verdict = ruling.verdict;
+    let place = ruling.place;
+    let code = ruling.code;
     let mut text = [0u8; LONGEST];
     let word = lay_word(&mut text, verdict);
     let first = lay_field(&mut text, word, place);

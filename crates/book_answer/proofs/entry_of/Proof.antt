@@ -11,7 +11,7 @@ returns : tie.Need-returns
 unfolding entryOf
 returns c =
     let a = c .before .before .before .args in
-    ap (λ (v : ℕ). made (a .tape) v (a .answer .place % 2 ^ 32) (a .answer .code % 2 ^ 32)) (c .before .before .verdict-number .ensures)
+    ap (λ (v : ℕ). made (a .tape) v (a .ruling .place % 2 ^ 32) (a .ruling .code % 2 ^ 32)) (c .before .before .verdict-number .ensures)
 
 pub entry-of-spec : {M : Type 1} → statement M
 entry-of-spec = tie.close (tie.spec (λ c κs. search needs) (λ c. search needs) (λ c. search needs) returns)

@@ -48,7 +48,7 @@ returns c =
     let whole : c .close .result ≡ closed (fedAll begun (piecesOf t)) =
     c .close .ensures ∙ ap closed (sym (rest-over (l .u) (l .k) t past) ∙ l .inv .1)
     in
-    subst (λ (f : Finding). Judged t (f .answer) × Zeroed t (f .zeros)) (sym whole) (fed-right t bytes)
+    subst (λ (f : Finding). Judged t (f .ruling) × Zeroed t (f .zeros)) (sym whole) (fed-right t bytes)
 
 pub judge-spec : {M : Type 1} → statement M
 judge-spec =

@@ -5,7 +5,7 @@ use Rattle.judge_stages.proofs.unreadable.Statement.{statement}
 use Rattle.judge_stages.proofs.unreadable.Tie as tie
 
 returns : tie.Need-returns
-returns c = c .answer .ensures
+returns c = c .ruling .ensures
 
 pub unreadable-spec : {M : Type 1} → statement M
 unreadable-spec = tie.close (tie.spec (λ c κs. search needs) returns)

@@ -22,7 +22,7 @@ lay-field-requires : tie.Need-lay-field-requires
 lay-field-requires c κs =
     let a = c .before .before .before .before .before .before .args .found in
     let w = c .before .before .lay-word in
-    let f = field-most (a .answer .place) (omega arith) in
+    let f = field-most (a .ruling .place) (omega arith) in
     omega (arith, w .kept, w .ensures)
 
 lay-field-requires-2 : tie.Need-lay-field-requires-2
@@ -30,8 +30,8 @@ lay-field-requires-2 c κs =
     let a = c .before .before .before .before .before .before .before .before .before .args .found in
     let w = c .before .before .before .before .before .lay-word in
     let f = c .before .before .lay-field in
-    let first = field-most (a .answer .place) (omega arith) in
-    let second = field-most (a .answer .code) (omega arith) in
+    let first = field-most (a .ruling .place) (omega arith) in
+    let second = field-most (a .ruling .code) (omega arith) in
     omega (arith, w .kept, w .ensures, f .kept, f .ensures)
 
 lay-field-requires-3 : tie.Need-lay-field-requires-3
@@ -40,8 +40,8 @@ lay-field-requires-3 c κs =
     let w = c .before .before .before .before .before .before .before .before .lay-word in
     let f = c .before .before .before .before .before .lay-field in
     let g = c .before .before .lay-field2 in
-    let first = field-most (a .answer .place) (omega arith) in
-    let second = field-most (a .answer .code) (omega arith) in
+    let first = field-most (a .ruling .place) (omega arith) in
+    let second = field-most (a .ruling .code) (omega arith) in
     let third = field-most (a .zeros) (omega arith) in
     omega (arith, w .kept, w .ensures, f .kept, f .ensures, g .kept, g .ensures)
 
@@ -56,8 +56,8 @@ end-of c =
     let f = c .before .before .before .before .before .before .before .lay-field in
     let g = c .before .before .before .before .lay-field2 in
     let h = c .before .lay-field3 in
-    let first = field-most (a .answer .place) (omega arith) in
-    let second = field-most (a .answer .code) (omega arith) in
+    let first = field-most (a .ruling .place) (omega arith) in
+    let second = field-most (a .ruling .code) (omega arith) in
     let third = field-most (a .zeros) (omega arith) in
     let whole = line-length a in
     (omega (arith, w .ensures, f .ensures, g .ensures, h .ensures), omega (arith, w .ensures, f .ensures, g .ensures, h .ensures))

@@ -17,7 +17,7 @@ returns c =
       finding = f;
       verdict = judged .ensures .0;
       zeros = judged .ensures .1;
-      laid = ap (λ (v : ℕ). v ∷ f .answer .place ∷ f .answer .code ∷ f .zeros ∷ []) (c .before .verdict-number .ensures);
+      laid = ap (λ (v : ℕ). v ∷ f .ruling .place ∷ f .ruling .code ∷ f .zeros ∷ []) (c .before .verdict-number .ensures);
     }
 
 pub lab-judge-spec : {M : Type 1} → statement M
