@@ -15,7 +15,7 @@ use Rattle.atr_sets.specs.Sets.{lowest, placeOf}
 use Rattle.atr_sets.proofs.Firsts.{none-set, some-set}
 use Rattle.atr_sets.proofs.Rules.{first-found, place-found}
 use Rattle.atr.specs.Reading.{isInverse, tsBroken, toldOf, readingOf, rulesOf, readReset}
-use Rattle.atr.specs.declared.Answer.{Answer}
+use Rattle.atr.specs.declared.Reset.{Reset}
 use Rattle.atr.specs.declared.Told.{Told}
 use Rattle.atr.specs.declared.Reading.{Reading}
 use Rattle.atr.specs.declared.Reading.the-variants.{Accepted, Refused}
@@ -45,17 +45,17 @@ module _ (capture : List ℕ) (warm inverse ts : Bool) (l : Located)
   same-rules = ap₂ (λ (v : Bool) (m : Located). linesOf v m warm) t located
 
   answer : (reading : Reading) → reading ≡ readingOf (linesOf ts l warm) l
-      → _≡_ {A = Answer} (record { inverse = inverse; reading = reading }) (readReset capture warm)
+      → _≡_ {A = Reset} (record { inverse = inverse; reading = reading }) (readReset capture warm)
   unfolding readReset
   answer reading e = let r = e ∙ ap₂ readingOf same-rules located in rw (r, i)
 
   module _ (rules : ℕ) (r : rules ≡ setOf (linesOf ts l warm)) where
     pub accepted-answer : (told : Told) → told ≡ toldOf l → rules ≡ 0
-        → _≡_ {A = Answer} (record { inverse = inverse; reading = Accepted told }) (readReset capture warm)
+        → _≡_ {A = Reset} (record { inverse = inverse; reading = Accepted told }) (readReset capture warm)
     accepted-answer told e none = answer (Accepted told) (ap Accepted e ∙ accepted ts l warm (sym r ∙ none))
 
     pub refused-answer : (first place : ℕ) → (rules ≡ 0 → ⊥) → first ≡ lowest numbers 1 rules → place ≡ placeOf l first
-        → _≡_ {A = Answer}
+        → _≡_ {A = Reset}
         (record { inverse = inverse; reading = Refused (record { rules = rules; first = first; place = place }) })
         (readReset capture warm)
     refused-answer first place some f p = answer _ (refused ts l warm rules first place r some f p)

@@ -12,7 +12,7 @@ use Rattle.atr_characters.specs.Levels.{absent}
 use Rattle.atr_characters.specs.Located.{locatedOf}
 use Rattle.atr_characters.specs.declared.Located.{Located}
 use Rattle.atr_rules.specs.Lines.{Line, linesOf, setOf, firstBroken}
-use Rattle.atr.specs.declared.Answer.{Answer}
+use Rattle.atr.specs.declared.Reset.{Reset}
 use Rattle.atr.specs.declared.Told.{Told}
 use Rattle.atr.specs.declared.Protocol.{Protocol}
 use Rattle.atr.specs.declared.Protocol.the-variants.{T0, T1}
@@ -68,7 +68,7 @@ unfoldable pub rulesOf : List ℕ → Bool → List Line
 rulesOf capture warm = linesOf (tsBroken capture) (locatedOf (dataOf (isInverse capture) capture)) warm
 
 -- the reading of a capture; the convention stands beside it
-unfoldable pub readReset : List ℕ → Bool → Answer
+unfoldable pub readReset : List ℕ → Bool → Reset
 readReset capture warm =
     record {
       inverse = isInverse capture;

@@ -42,20 +42,20 @@ pub enum Reading {
     Refused(Broken),
 }
 
-// The convention by TS, and the reading.
-pub struct Answer {
+// An answer to reset as it was captured: the convention by TS, and the reading.
+pub struct Reset {
     pub inverse: bool,
     pub reading: Reading,
 }
 
-pub fn read_reset(capture: &[u8], warm: bool) -> Answer
+pub fn read_reset(capture: &[u8], warm: bool) -> Reset
     ensures { λ r. ⌜ r ≡ readReset (now (capture .entry)) warm ⌝ }
 {
     let inverse = is_inverse(capture);
     let l = locate(capture, inverse);
     let rules = broken_rules(is_ts_broken(capture), l, warm);
     if rules == 0 {
-        return Answer {
+        return Reset {
             inverse: inverse,
             reading: Reading::Accepted(told_by(l)),
         };
@@ -66,7 +66,7 @@ pub fn read_reset(capture: &[u8], warm: bool) -> Answer
         first: first,
         place: place_of(l, first),
     };
-    Answer {
+    Reset {
         inverse: inverse,
         reading: Reading::Refused(broken),
     }

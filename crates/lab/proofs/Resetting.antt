@@ -5,7 +5,7 @@ use mathlib.Core.Bool.{true, false}
 use mathlib.Core.List.{List, _∷_, _++_}
 use Prim.Native.Nat.{ℕ}
 use lib.ListN.{getD}
-use Rattle.atr.specs.declared.Answer.{Answer}
+use Rattle.atr.specs.declared.Reset.{Reset}
 use Rattle.atr.specs.declared.Broken.{Broken}
 use Rattle.atr.specs.declared.Protocol.{Protocol}
 use Rattle.atr.specs.declared.Protocol.the-variants.{T0, T1}
@@ -13,7 +13,7 @@ use Rattle.atr.specs.declared.Reading.the-variants.{Accepted, Refused}
 use Rattle.atr.specs.declared.Told.{Told}
 use Rattle.lab.specs.Resets.{bit, laidProtocol, laidTold, laidBroken, laidReading, accepts, isAccepted, laidReset}
 
-module _ (a r : Answer) (same : a ≡ r) (n : ℕ) (b : n ≡ bit (a .inverse)) (xs : List ℕ) where
+module _ (a r : Reset) (same : a ≡ r) (n : ℕ) (b : n ≡ bit (a .inverse)) (xs : List ℕ) where
   pub accepted : (t : Told) → a .reading ≡ Accepted t → xs ≡ laidTold n t → (true ≡ isAccepted r) × (xs ≡ laidReset r)
   unfolding accepts laidReading
   accepted t told laid = (

@@ -3,7 +3,7 @@
 use mathlib.Core.Bool.{Bool, true, false}
 use mathlib.Core.List.{List, [], _∷_, _++_}
 use Prim.Native.Nat.{ℕ}
-use Rattle.atr.specs.declared.Answer.{Answer}
+use Rattle.atr.specs.declared.Reset.{Reset}
 use Rattle.atr.specs.declared.Broken.{Broken}
 use Rattle.atr.specs.declared.Protocol.{Protocol}
 use Rattle.atr.specs.declared.Protocol.the-variants.{T0, T1}
@@ -36,8 +36,8 @@ unfoldable pub accepts : Reading → Bool
 accepts (Accepted t) = true
 accepts (Refused b) = false
 
-abbrev pub isAccepted : Answer → Bool
+abbrev pub isAccepted : Reset → Bool
 isAccepted a = accepts (a .reading)
 
-abbrev pub laidReset : Answer → List ℕ
+abbrev pub laidReset : Reset → List ℕ
 laidReset a = laidReading (bit (a .inverse)) (a .reading)

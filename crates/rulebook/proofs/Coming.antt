@@ -31,7 +31,7 @@ use Rattle.rulebook.specs.Phase.{Asked, selecting, optioning, reading, f
 use Rattle.rulebook.specs.Phase.{says, Phase, asks, hears, decides, decided as settled, ended}
 use Rattle.rulebook.specs.Turn.{goesOn, opened, selected, managed, requested, verifying, allRead, readOn, withProfile}
 use Rattle.rulebook.specs.Turn.{optioned, withRecord, recorded, answered, replied, online, byFirst, firstAnswered}
-use Rattle.rulebook.specs.Turn.{secondAnswered, replyMade, turn, heard as issuerHeard, verifiedBy, after}
+use Rattle.rulebook.specs.Turn.{secondAnswered, replyMade, turn, issuerReplied, verifiedBy, after}
 use Rattle.rulebook.specs.Session.{longest}
 
 -- the most that can still come: from the first request on; after the last record
@@ -124,7 +124,7 @@ turn-fewer (second s request code) a = goes-fewer s _ _ _ (omega arith) (λ e. o
 
 -- and what is heard its one
 pub after-fewer : (h : Heard) (p : List ℕ) → 1 + toCome (after h p) ≤ toCome (hears h)
-unfolding after issuerHeard toCome afterAsking fromWord opened
+unfolding after issuerReplied toCome afterAsking fromWord opened
 after-fewer terminal p = omega arith
 after-fewer (says Host s) p = omega (arith, replied-few s (replyMade (replyOf p)) (codeIn p))
 after-fewer (says Results s) p = omega (arith, requested-few (verifiedBy s p) (afterRecords (s .facts)))

@@ -20,7 +20,7 @@ use Rattle.sessions.specs.Machine.{next}
 use Rattle.sessions.proofs.Running.{takes-heard}
 use Rattle.rulebook.specs.Situation.{Situation}
 use Rattle.rulebook.specs.Phase.{terminal, says, Phase, opens, hears, dueKind}
-use Rattle.rulebook.specs.Turn.{opened, allowed, replyMade, heard, after}
+use Rattle.rulebook.specs.Turn.{opened, allowed, replyMade, issuerReplied, after}
 use Rattle.rulebook.specs.Machine.{at}
 use Rattle.rulebook.specs.Session.{rules}
 
@@ -34,10 +34,10 @@ module _ (s : Situation) (p : List ℕ) (r : HostReply) (said : replyOf p ≡ Sa
   unfolding allowed wordAllowed isReply
   reply-allowed = ap isReply said
 
-  pub after-reply : after (says Host s) p ≡ heard s r p
+  pub after-reply : after (says Host s) p ≡ issuerReplied s r p
   unfolding after replyMade
-  after-reply = ap (λ (x : HostHeard). heard s (replyMade x) p) said
+  after-reply = ap (λ (x : HostHeard). issuerReplied s (replyMade x) p) said
 
-  pub takes-reply : isPayload p ≡ true → next rules (at (hears (says Host s))) (entry host p) ≡ some (at (heard s r p))
+  pub takes-reply : isPayload p ≡ true → next rules (at (hears (says Host s))) (entry host p) ≡ some (at (issuerReplied s r p))
   unfolding dueKind wordKind
   takes-reply ok = takes-heard rules (says Host s) p reply-allowed ok ∙ ap (λ (q : Phase). some (at q)) after-reply

@@ -112,7 +112,7 @@ use Rattle.rulebook.specs.Turn.{goesOn as o338, opened as o339, selected
 use Rattle.rulebook.specs.Turn.{verifying as o343, allRead as o344, readOn as o345, withProfile as o346, optioned as o347}
 use Rattle.rulebook.specs.Turn.{withRecord as o348, recorded as o349, answered as o350, replied as o351, online as o352}
 use Rattle.rulebook.specs.Turn.{byFirst as o353, firstAnswered as o354, bySecond as o355, secondAnswered as o356}
-use Rattle.rulebook.specs.Turn.{turn as o357, wantedIn as o358, allowed as o359, replyMade as o360, heard as o361}
+use Rattle.rulebook.specs.Turn.{turn as o357, wantedIn as o358, allowed as o359, replyMade as o360, issuerReplied as o361}
 use Rattle.rulebook.specs.Turn.{verifiedBy as o362, after as o363}
 
 -- the state that a session's entries lead to

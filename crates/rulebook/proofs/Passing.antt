@@ -33,7 +33,7 @@ use Rattle.rulebook.specs.Phase.{Asked, selecting, optioning, reading, f
 use Rattle.rulebook.specs.Phase.{Phase, asks, hears, decides, situationOf, decided, ended, tvrOf, tsiOf}
 use Rattle.rulebook.specs.Turn.{goesOn, selected, managed, requested, verifying, allRead, readOn, withProfile, optioned}
 use Rattle.rulebook.specs.Turn.{withRecord, recorded, answered, replied, online, byFirst, firstAnswered, secondAnswered, turn}
-use Rattle.rulebook.specs.Turn.{replyMade, heard, verifiedBy, after}
+use Rattle.rulebook.specs.Turn.{replyMade, issuerReplied, verifiedBy, after}
 
 -- ---- what is known where a word is due, a line each
 
@@ -117,7 +117,7 @@ module _ {Q C : Situation → Type 0} {P : Phase → Type 0} (leads : Leads Q C 
 
   -- whatever is said: from what holds of the situation that it leaves
   pub after-leads : (word : Word) (s : Situation) (p : List ℕ) → Q (leaving word s p) → Past C word s → P (after (says word s) p)
-  unfolding after heard leaving
+  unfolding after issuerReplied leaving
   after-leads Host s p q past = replied-leads s q (replyMade (replyOf p)) (codeIn p)
   after-leads Results s p q past = requested-leads (verifiedBy s p) q (afterRecords (s .facts))
 

@@ -19,7 +19,7 @@ use Rattle.tape_read.specs.Entries.{payloadMost}
 use Rattle.decide_verification.proofs.Laws.{wanted-few}
 use Rattle.words.specs.declared.Word.{Word}
 use Rattle.words.specs.declared.Word.the-variants.{Host, Results}
-use Rattle.words.proofs.Laws.{other-kind, can-say as can-say-word}
+use Rattle.words.proofs.Laws.{other-kind, kind-readable, can-say as can-say-word}
 use Rattle.sessions.specs.Session.{isPayload}
 use Rattle.sessions.specs.Kept.{OtherKind}
 use Rattle.sessions.proofs.Payloads.{payload}
@@ -28,9 +28,14 @@ use Rattle.rulebook.specs.Phase.{Heard, terminal, says, dueKind}
 use Rattle.rulebook.specs.Turn.{wantedIn, allowed}
 
 pub other-kinds : (h : Heard) → OtherKind (dueKind h)
-unfolding dueKind isKind
-other-kinds terminal = record { no-command = refl; no-answer = refl; no-silence = refl; no-decision = refl; readable = refl }
+unfolding dueKind
+other-kinds terminal = record { no-command = refl; no-answer = refl; no-silence = refl; no-decision = refl }
 other-kinds (says word s) = other-kind word
+
+pub kinds-readable : (h : Heard) → isKind (dueKind h) ≡ true
+unfolding dueKind isKind
+kinds-readable terminal = refl
+kinds-readable (says word s) = kind-readable word
 
 -- no more are ever wanted than a payload has room for
 pub wanted-most : (word : Word) (s : Situation) → wantedIn word s ≤ payloadMost

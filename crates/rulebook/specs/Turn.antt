@@ -164,8 +164,8 @@ replyMade (Said reply) = reply
 replyMade Nothing = Unable
 
 -- after the issuer's reply
-unfoldable pub heard : Situation → HostReply → List ℕ → Phase
-heard s reply payload = replied s reply (codeIn payload)
+unfoldable pub issuerReplied : Situation → HostReply → List ℕ → Phase
+issuerReplied s reply payload = replied s reply (codeIn payload)
 
 -- the bits that the results of cardholder verification set
 unfoldable pub verifiedBy : Situation → List ℕ → Situation
@@ -181,5 +181,5 @@ verifiedBy s results =
 -- after what somebody else says
 unfoldable pub after : Heard → List ℕ → Phase
 after terminal p = opened (readingOf p)
-after (says Host s) p = heard s (replyMade (replyOf p)) p
+after (says Host s) p = issuerReplied s (replyMade (replyOf p)) p
 after (says Results s) p = requested (afterRecords (s .facts)) (verifiedBy s p)

@@ -30,7 +30,7 @@ use Rattle.words.specs.declared.Word.the-variants.{Host, Results}
 use Rattle.rulebook.specs.Phase.{terminal, says, Phase, opens, asks, hears, decides}
 use Rattle.rulebook.specs.Turn.{goesOn, opened, selected, managed, requested, verifying, allRead, readOn}
 use Rattle.rulebook.specs.Turn.{withProfile, optioned, withRecord, recorded, answered, replied, online, byFirst}
-use Rattle.rulebook.specs.Turn.{firstAnswered, secondAnswered, turn, replyMade, heard, verifiedBy, after}
+use Rattle.rulebook.specs.Turn.{firstAnswered, secondAnswered, turn, replyMade, issuerReplied, verifiedBy, after}
 use Rattle.rulebook.specs.Machine.{Machine, at, owes, done}
 use Rattle.dol_wanted.specs.Wanted.{fillable}
 use Rattle.answer_gpo.specs.Options.{profileOf, locatorOf}
@@ -206,7 +206,7 @@ turn-within (first s request) a short = goes-within _ _ s _ (by-first-within (an
 turn-within (second s request code) a short = goes-within _ _ s _ (decided-within 0 _ s)
 
 after-within : (h : Heard) (p : List ℕ) → ShortIn (hears h) → Within (leftIn (hears h)) (after h p)
-unfolding after opened heard leftIn leftAsking leftBefore unsuppliedIn unsuppliedAsking situationOf begun listIn
+unfolding after opened issuerReplied leftIn leftAsking leftBefore unsuppliedIn unsuppliedAsking situationOf begun listIn
 after-within terminal p short = ((λ tag. omega arith), omega arith)
 after-within (says Host s) p short = replied-within s short (replyMade (replyOf p)) (codeIn p)
 after-within (says Results s) p short = requested-within (verifiedBy s p) (verified-short s short p) (afterRecords (s .facts))

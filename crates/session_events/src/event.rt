@@ -5,22 +5,22 @@ use decide_requests::reply::HostReply;
 use decide_requests::reply::code_in;
 use decide_requests::reply::reply_of;
 use numbers::refusals;
+use session_first::on_results;
 use session_moves::Step;
-use session_online::request_second;
 use session_phase::Question;
 use session_phase::Reply;
 use session_phase::Speaker;
 use session_phase::Waiting;
+use session_second::request_second;
 use session_state::State;
 use session_state::change::begun;
-use session_verification::on_results;
 use words::Word;
 ghost use mathlib.Core.Path.{_≡_};
 ghost use Rattle.numbers.specs.Refusals.{refusedEvent};
 ghost use Rattle.start_fields.specs.Reading.{readingOf};
 ghost use Rattle.decide_requests.specs.Replies.{replyOf};
 ghost use Rattle.rulebook.specs.Phase.{says};
-ghost use Rattle.rulebook.specs.Turn.{opened, heard, replyMade, after};
+ghost use Rattle.rulebook.specs.Turn.{opened, issuerReplied, replyMade, after};
 ghost use Rattle.session_phase.specs.declared.Reply.the-variants.{Refused};
 ghost use Rattle.session_state.specs.Reading.{late};
 ghost use Rattle.session_state.specs.Keeping.{begun as begunState};
@@ -52,7 +52,7 @@ fn reply_made(h: &[u8]) -> HostReply
 
 fn on_reply(s: State, h: &[u8], buf: &mut [u8]) -> Step
     ensures { λ r. ⌜ played r (now (buf .exit))
-        ≡ moved (heard (late s) (replyMade (replyOf (now (h .entry)))) (now (h .entry))) s (now (buf .entry)) ⌝ }
+        ≡ moved (issuerReplied (late s) (replyMade (replyOf (now (h .entry)))) (now (h .entry))) s (now (buf .entry)) ⌝ }
 {
     request_second(s, reply_made(h), code_in(h), buf)
 }

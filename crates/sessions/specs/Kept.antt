@@ -6,7 +6,7 @@ use mathlib.Core.Bool.{true, false}
 use mathlib.Core.List.{List}
 use Prim.Native.Nat.{ℕ, _+_, _≤_}
 use lib.Dec.{eqb}
-use Rattle.numbers.specs.Kinds.{command, answer, silence, decision, isKind}
+use Rattle.numbers.specs.Kinds.{command, answer, silence, decision}
 use Rattle.sessions.specs.Rules.{Phase, asks, hears, decides, Rules}
 use Rattle.sessions.specs.Session.{isPayload}
 
@@ -16,7 +16,6 @@ pub record OtherKind (k : ℕ) : Type 0 where
   pub no-answer : eqb answer k ≡ false
   pub no-silence : eqb silence k ≡ false
   pub no-decision : eqb k decision ≡ false
-  pub readable : isKind k ≡ true
 
 pub record Kept {Asked Heard Situation : Type 0} (rules : Rules Asked Heard Situation) : Type 0 where
   pub other-kinds : (h : Heard) → OtherKind (rules .dueKind h)

@@ -19,7 +19,7 @@ use Rattle.sessions.proofs.Running.{takes-command, takes-answer, takes-heard, t
 use Rattle.sessions.proofs.Reading.{other-kind}
 use Rattle.rulebook.specs.Situation.{Situation}
 use Rattle.rulebook.specs.Phase.{Asked, Heard, asks, hears, decides, commandOf, dueKind, decisionOf}
-use Rattle.rulebook.specs.Turn.{turn, allowed, heard, after}
+use Rattle.rulebook.specs.Turn.{turn, allowed, after}
 use Rattle.slices.specs.Tests.{alike}
 use Rattle.slices.proofs.Comparing.{alike-same}
 use Rattle.rulebook.specs.Machine.{Machine, at, owes, done}

@@ -48,7 +48,7 @@ use Rattle.numbers.specs.Outcomes.{terminated}
 use Rattle.rulebook.specs.Phase.{says, Phase, asks, hears, decides, decided, ended}
 use Rattle.rulebook.specs.Turn.{goesOn, opened, selected, managed, requested, verifying, allRead, readOn, withProfile}
 use Rattle.rulebook.specs.Turn.{optioned, withRecord, recorded, answered, replied, online, byFirst, bySecond}
-use Rattle.rulebook.specs.Turn.{firstAnswered, secondAnswered, turn, heard as issuerHeard, verifiedBy, after}
+use Rattle.rulebook.specs.Turn.{firstAnswered, secondAnswered, turn, issuerReplied, verifiedBy, after}
 use Rattle.verdict_storable.proofs.Values.{profile-bytes, locator-bytes, named-bytes}
 use Rattle.verdict_storable.proofs.Filling.{Told, else-bytes}
 use Rattle.verdict_storable.proofs.Numbers.{numbersOf, read-numbers}
@@ -228,7 +228,7 @@ read-stays s (r ∷ rest) k h = (k, (bytes-head (r .0) (numbersOf rest) h, bytes
 -- ---- whatever somebody else says
 
 pub after-stays : (h : Heard) (p : List ℕ) → Stays (hears h) → areBytes p ≡ true → Stays (after h p)
-unfolding after issuerHeard
+unfolding after issuerReplied
 after-stays terminal p k bytes = opened-stays p bytes
 after-stays (says Host s) p k bytes = heard-stays s k _ p bytes
 after-stays (says Results s) p k bytes = requested-stays (s .facts) (verifiedBy s p) (verified-knows s k p)

@@ -17,7 +17,7 @@ use Rattle.rulebook.specs.Session.{Plays, exchanged, heard, decided, Session, B
 use Rattle.verdict_judged.proofs.Stored.{storable-append}
 use Rattle.verdict_storable.proofs.Staying.{Stays, after-stays, turn-stays}
 use Rattle.verdict_storable.proofs.Payloads.{asked-payload, decision-payload}
-use Rattle.rulebook.proofs.Said.{other-kinds}
+use Rattle.rulebook.proofs.Said.{kinds-readable}
 
 -- an entry of a kind, with a payload, before others
 stored : (kind : ℕ) (p : List ℕ) (es : List Entry) → isKind kind ≡ true → isPayload p ≡ true → allStorable es ≡ true
@@ -31,7 +31,7 @@ plays-storable (exchanged {w} {c} {a} {es} f ok play) k =
     stored command c (entry answer a ∷ es) refl (ap isPayload f ∙ asked-payload w k)
     (stored answer a es refl ok (plays-storable play (turn-stays w a k (payload-bytes a ok))))
 plays-storable (heard {h} {k = n} {p} {es} f fits ok play) k =
-    stored n p es (ap isKind f ∙ other-kinds h .readable) ok (plays-storable play (after-stays h p k (payload-bytes p ok)))
+    stored n p es (ap isKind f ∙ kinds-readable h) ok (plays-storable play (after-stays h p k (payload-bytes p ok)))
 plays-storable (decided {outcome} {reason} {s} {d} f) k =
     stored decision d [] refl (ap isPayload f ∙ decision-payload outcome reason s k) refl
 

@@ -28,9 +28,15 @@ use Rattle.words.specs.declared.Word.the-variants.{Host, Results}
 use Rattle.words.specs.Words.{wordKind, wordAllowed, wordRefusal}
 
 pub other-kind : (w : Word) → OtherKind (wordKind w)
+unfolding wordKind
+other-kind Host = record { no-command = refl; no-answer = refl; no-silence = refl; no-decision = refl }
+other-kind Results = record { no-command = refl; no-answer = refl; no-silence = refl; no-decision = refl }
+
+-- a tape can hold it
+pub kind-readable : (w : Word) → isKind (wordKind w) ≡ true
 unfolding wordKind isKind
-other-kind Host = record { no-command = refl; no-answer = refl; no-silence = refl; no-decision = refl; readable = refl }
-other-kind Results = record { no-command = refl; no-answer = refl; no-silence = refl; no-decision = refl; readable = refl }
+kind-readable Host = refl
+kind-readable Results = refl
 
 -- nor START's
 pub no-start : (w : Word) → eqb (wordKind w) start ≡ false

@@ -5,14 +5,14 @@ use mathlib.Core.List.{List}
 use Prim.Native.Nat.{ℕ}
 use borrow.Author.Needs.{needs}
 use Rattle.decide_requests.specs.declared.reply.HostReply.{HostReply}
-use Rattle.rulebook.specs.Turn.{replied, heard}
+use Rattle.rulebook.specs.Turn.{replied, issuerReplied}
 use Rattle.session_state.specs.Reading.{late}
 use Rattle.session_moves.specs.Moves.{moved}
 use Rattle.session_events.proofs.event.on_reply.Statement.{statement}
 use Rattle.session_events.proofs.event.on_reply.Tie as tie
 
 returns : tie.Need-returns
-unfolding heard
+unfolding issuerReplied
 returns c =
     let args = c .before .before .before .before .before .before .before .before .args in
     let s = args .s in

@@ -1,4 +1,4 @@
--- `session_online::second` meets its contract: the codes are those that the records told.
+-- `session_second::second` meets its contract: the codes are those that the records told.
 -- Assumes nothing.
 use mathlib.Core.Path.{ap₂, _∙_}
 use mathlib.Core.List.{List}
@@ -8,8 +8,8 @@ use Rattle.decide_requests.specs.Requests.{secondRequest}
 use Rattle.start_fields.specs.Reading.{readingOf}
 use Rattle.session_records.specs.Slots.{toldIn, told}
 use Rattle.session_state.specs.Reading.{situationWith, late}
-use Rattle.session_online.proofs.second.Statement.{statement}
-use Rattle.session_online.proofs.second.Tie as tie
+use Rattle.session_second.proofs.second.Statement.{statement}
+use Rattle.session_second.proofs.second.Tie as tie
 
 returns : tie.Need-returns
 unfolding late situationWith told

@@ -1,4 +1,4 @@
--- `session_verification::on_results` meets its contract: the first request, from the state with the bits that the results set.
+-- `session_first::on_results` meets its contract: the first request, from the state with the bits that the results set.
 -- Assumes nothing.
 use mathlib.Core.Path.{ap, _∙_}
 use Prim.Native.Nat.{ℕ}
@@ -15,10 +15,10 @@ use Rattle.session_state.specs.declared.State.{State}
 use Rattle.session_state.specs.Reading.{startIn, situationWith, late}
 use Rattle.session_moves.specs.Moves.{moved}
 use Rattle.session_moves.proofs.Bits.{bits-moved}
-use Rattle.session_verification.specs.Storing.{verifiedState}
-use Rattle.session_verification.proofs.Verifying.{late-verified}
-use Rattle.session_verification.proofs.on_results.Statement.{statement}
-use Rattle.session_verification.proofs.on_results.Tie as tie
+use Rattle.session_first.specs.Storing.{verifiedState}
+use Rattle.session_first.proofs.Verifying.{late-verified}
+use Rattle.session_first.proofs.on_results.Statement.{statement}
+use Rattle.session_first.proofs.on_results.Tie as tie
 
 request-first-requires : tie.Need-request-first-requires
 request-first-requires c κs = omega (

@@ -1,4 +1,4 @@
--- `session_online::go_online` meets its contract: a terminal of type 0 goes on as unable, whatever code stands beside that.
+-- `session_second::go_online` meets its contract: a terminal of type 0 goes on as unable, whatever code stands beside that.
 -- Assumes nothing.
 use mathlib.Core.Path.{_≡_, refl, sym, ap, _∙_}
 use mathlib.Core.List.{List, [], _∷_}
@@ -19,8 +19,8 @@ use Rattle.session_state.specs.Reading.{startIn, situationWith, late}
 use Rattle.session_moves.specs.Moves.{speakerOf, moved}
 use Rattle.session_moves.proofs.Moving.{hearing}
 use Rattle.decide_requests.proofs.Replying.{unable-code}
-use Rattle.session_online.proofs.go_online.Statement.{statement}
-use Rattle.session_online.proofs.go_online.Tie as tie
+use Rattle.session_second.proofs.go_online.Statement.{statement}
+use Rattle.session_second.proofs.go_online.Tie as tie
 
 kind-of : {x y : List ℕ} → x ≡ y → readingOf x .kind ≡ readingOf y .kind
 kind-of e = ap (λ (l : List ℕ). readingOf l .kind) e

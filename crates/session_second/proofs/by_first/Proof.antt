@@ -1,4 +1,4 @@
--- `session_online::by_first` meets its contract: each arm is the definition's at what was given.
+-- `session_second::by_first` meets its contract: each arm is the definition's at what was given.
 -- Assumes nothing.
 use mathlib.Core.Path.{_≡_, sym, ap, _∙_}
 use mathlib.Core.List.{List}
@@ -12,8 +12,8 @@ use Rattle.session_state.specs.declared.State.{State}
 use Rattle.session_state.specs.Reading.{late}
 use Rattle.session_moves.specs.Moves.{moved}
 use Rattle.session_moves.proofs.Moving.{late-decided}
-use Rattle.session_online.proofs.by_first.Statement.{statement}
-use Rattle.session_online.proofs.by_first.Tie as tie
+use Rattle.session_second.proofs.by_first.Statement.{statement}
+use Rattle.session_second.proofs.by_first.Tie as tie
 
 -- the definition at what was told
 at : (s : State) (buf : List ℕ) {given x : Given} → given ≡ x → moved (byFirst x (late s)) s buf ≡ moved (byFirst given (late s)) s buf

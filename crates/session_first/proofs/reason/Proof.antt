@@ -1,4 +1,4 @@
--- `session_verification::reason` meets its contract: the reason over what the store tells.
+-- `session_first::reason` meets its contract: the reason over what the store tells.
 -- Assumes nothing.
 use mathlib.Core.Path.{ap, _∙_}
 use mathlib.Core.List.{List}
@@ -6,8 +6,8 @@ use Prim.Native.Nat.{ℕ}
 use borrow.Author.Needs.{needs}
 use Rattle.answer_record.specs.Records.{afterRecords}
 use Rattle.session_records.specs.Slots.{toldIn, told}
-use Rattle.session_verification.proofs.reason.Statement.{statement}
-use Rattle.session_verification.proofs.reason.Tie as tie
+use Rattle.session_first.proofs.reason.Statement.{statement}
+use Rattle.session_first.proofs.reason.Tie as tie
 
 returns : tie.Need-returns
 unfolding told

@@ -7,7 +7,7 @@ use Rattle.rulebook.specs.Turn.{verifiedBy}
 use Rattle.session_state.specs.Reading.{situationWith, late}
 use Rattle.session_state.specs.Keeping.{changed}
 use Rattle.session_state.specs.declared.State.{State}
-use Rattle.session_verification.specs.Storing.{verifiedState}
+use Rattle.session_first.specs.Storing.{verifiedState}
 
 pub late-verified : (results : List ℕ) (s : State) → late (verifiedState results s) ≡ verifiedBy (late s) results
 unfolding late situationWith verifiedState changed verifiedBy

@@ -1,4 +1,4 @@
--- `session_verification::verify` meets its contract: the results are waited for where they are due, and else the first request follows.
+-- `session_first::verify` meets its contract: the results are waited for where they are due, and else the first request follows.
 -- Assumes nothing.
 use mathlib.Core.Path.{refl, sym, ap, ap₂, _∙_}
 use mathlib.Core.List.{List}
@@ -20,8 +20,8 @@ use Rattle.session_phase.specs.declared.Reply.the-variants.{Due}
 use Rattle.session_state.specs.Reading.{situationWith, late}
 use Rattle.session_moves.specs.Moves.{speakerOf, moved, waitingFor}
 use Rattle.session_moves.proofs.Moving.{hearing}
-use Rattle.session_verification.proofs.verify.Statement.{statement}
-use Rattle.session_verification.proofs.verify.Tie as tie
+use Rattle.session_first.proofs.verify.Statement.{statement}
+use Rattle.session_first.proofs.verify.Tie as tie
 
 returns : tie.Need-returns
 unfolding verifying late situationWith told speakerOf wantedIn dueKind tvrOf tsiOf

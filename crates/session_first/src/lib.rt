@@ -28,7 +28,7 @@ ghost use Rattle.rulebook.specs.Turn.{requested, verifying, after};
 ghost use Rattle.session_state.specs.Reading.{late};
 ghost use Rattle.session_records.specs.Slots.{told as toldBy};
 ghost use Rattle.session_moves.specs.Moves.{played, moved};
-ghost use Rattle.session_verification.specs.Storing.{verifiedState};
+ghost use Rattle.session_first.specs.Storing.{verifiedState};
 
 // Reasons 8 and 9 over all that the records told.
 pub fn reason(s: State) -> usize

@@ -1,4 +1,4 @@
--- `session_verification::verified` meets its contract: the bits are joined to those that are set.
+-- `session_first::verified` meets its contract: the bits are joined to those that are set.
 -- Assumes nothing.
 use mathlib.Core.Path.{ap₂, _∙_}
 use mathlib.Core.List.{List}
@@ -8,9 +8,9 @@ use Rattle.start_fields.specs.Reading.{readingOf}
 use Rattle.decide_verification.specs.Verification.{tvrAfterResults}
 use Rattle.session_records.specs.Slots.{toldIn, told}
 use Rattle.session_state.specs.Keeping.{changed}
-use Rattle.session_verification.specs.Storing.{verifiedState}
-use Rattle.session_verification.proofs.verified.Statement.{statement}
-use Rattle.session_verification.proofs.verified.Tie as tie
+use Rattle.session_first.specs.Storing.{verifiedState}
+use Rattle.session_first.proofs.verified.Statement.{statement}
+use Rattle.session_first.proofs.verified.Tie as tie
 
 returns : tie.Need-returns
 unfolding verifiedState told

@@ -1,4 +1,4 @@
--- `session_online::request_second` meets its contract: the second GENERATE AC is filled from 8D, where that can be filled.
+-- `session_second::request_second` meets its contract: the second GENERATE AC is filled from 8D, where that can be filled.
 -- Assumes nothing.
 use mathlib.Core.Path.{refl, sym, ap, ap₂, _∙_}
 use mathlib.Core.List.{List, []}
@@ -22,8 +22,8 @@ use Rattle.session_records.specs.Slots.{toldIn, told}
 use Rattle.session_state.specs.Reading.{startIn, situationWith, late}
 use Rattle.session_moves.specs.Moves.{questionOf, cursorAsking, moved}
 use Rattle.session_moves.proofs.Moving.{late-decided, asking-on}
-use Rattle.session_online.proofs.request_second.Statement.{statement}
-use Rattle.session_online.proofs.request_second.Tie as tie
+use Rattle.session_second.proofs.request_second.Statement.{statement}
+use Rattle.session_second.proofs.request_second.Tie as tie
 
 abbrev listAt : List ℕ → List ℕ
 listAt d = Option·getD (toldIn d 0x8D) []

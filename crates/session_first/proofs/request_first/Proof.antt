@@ -1,4 +1,4 @@
--- `session_verification::request_first` meets its contract: a reason ends the session, and otherwise the first GENERATE AC is filled from
+-- `session_first::request_first` meets its contract: a reason ends the session, and otherwise the first GENERATE AC is filled from
 -- 8C.
 -- Assumes nothing.
 use mathlib.Core.Path.{refl, sym, ap, ap₂, _∙_}
@@ -21,8 +21,8 @@ use Rattle.session_records.specs.Slots.{toldIn, told}
 use Rattle.session_state.specs.Reading.{startIn, situationWith, late}
 use Rattle.session_moves.specs.Moves.{questionOf, cursorAsking, moved}
 use Rattle.session_moves.proofs.Moving.{late-refused, asking-on, reason-next}
-use Rattle.session_verification.proofs.request_first.Statement.{statement}
-use Rattle.session_verification.proofs.request_first.Tie as tie
+use Rattle.session_first.proofs.request_first.Statement.{statement}
+use Rattle.session_first.proofs.request_first.Tie as tie
 
 returns : tie.Need-returns
 unfolding requested late situationWith
