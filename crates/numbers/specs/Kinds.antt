@@ -1,4 +1,4 @@
--- The kinds of entries on a tape. 01, "The tape"; 02, R-7.
+-- The kinds of entries on a tape. 01, "The tape"; 02, R-7 and R-12.
 -- Assumes nothing.
 use mathlib.Core.Bool.{Bool, _&&_}
 use Prim.Native.Nat.{ℕ}
@@ -32,10 +32,14 @@ decision = 6
 abbrev pub results : ℕ
 results = 7
 
--- the last of them
+-- which application the shopper chose. No tape can hold it yet
+abbrev pub choice : ℕ
+choice = 8
+
+-- the last that a tape can hold
 abbrev pub lastKind : ℕ
 lastKind = results
 
--- one of these
+-- one that it can
 unfoldable pub isKind : ℕ → Bool
 isKind k = leb start k && leb k lastKind

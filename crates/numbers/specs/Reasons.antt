@@ -1,5 +1,5 @@
 -- Why a session is terminated: the second byte of DECISION. Of those that apply to an answer it is the lowest; 0 is none of them.
--- 01, "What the card must answer".
+-- 01, "What the card must answer"; 02, R-12.
 -- Assumes nothing.
 use Prim.Native.Nat.{ℕ}
 
@@ -42,3 +42,11 @@ forList = 9
 -- a cryptogram that the request does not allow
 abbrev pub forCryptogram : ℕ
 forCryptogram = 10
+
+-- a hundred exchanges of a selection were made, and another would be due
+abbrev pub forExchanges : ℕ
+forExchanges = 11
+
+-- no application is left, the shopper takes none, or the card ends the selection
+abbrev pub forNobody : ℕ
+forNobody = 12

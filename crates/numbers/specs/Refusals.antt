@@ -1,5 +1,5 @@
 -- When a call is turned away: the number of the first line that applies; 0 where the call is taken.
--- 01, "When a call is turned away"; 02, R-7.
+-- 01, "When a call is turned away"; 02, R-7 and R-12.
 -- Assumes nothing.
 use Prim.Native.Nat.{ℕ}
 
@@ -50,3 +50,7 @@ refusedSpace = 11
 -- the results of cardholder verification: not one for each rule, or not 0 to 4
 abbrev pub refusedResults : ℕ
 refusedResults = 12
+
+-- the shopper's choice: not one byte, or none of those shown and not 'FF'
+abbrev pub refusedChoice : ℕ
+refusedChoice = 13

@@ -18,3 +18,8 @@ pub const MISSING: usize = 8;
 pub const LIST: usize = 9;
 
 pub const CRYPTOGRAM: usize = 10;
+
+// Of a selection.
+pub const EXCHANGES: usize = 11;
+
+pub const NOBODY: usize = 12;
