@@ -1,10 +1,8 @@
 -- Along any session no bit of the TVR or of the TSI is cleared: whatever is answered, each is kept as it is or joined with more.
 -- Assumes nothing.
-use mathlib.Core.Path.{_≡_, refl, sym, subst}
-use mathlib.Core.List.{List, _∷_}
-use Prim.Native.Nat.{ℕ, zero, suc}
-use native.Mathlib.Numerals.{add-one}
-use lib.ListN.{length, take}
+use mathlib.Core.Path.{_≡_}
+use mathlib.Core.List.{List}
+use Prim.Native.Nat.{ℕ}
 use Rattle.slices.specs.Writing.{zeros}
 use Rattle.start_fields.specs.Reading.{Terminal}
 use Rattle.tape_read.specs.Entries.{Entry}
@@ -12,14 +10,14 @@ use Rattle.decide_tvr.specs.Bits.{joined}
 use Rattle.decide_verification.proofs.Laws.{results-kept, performed-kept}
 use Rattle.decide_tvr.proofs.Rows.{joined-self, kept-on}
 use Rattle.decide_tvr.proofs.Laws.{tvr-kept, tsi-kept, tsi-kept-on}
-use Rattle.sessions.specs.Session.{phasesOf}
+use Rattle.sessions.proofs.Rows.{reading-in-row}
 use Rattle.sessions.specs.Session as Under
 use Rattle.rulebook.specs.Situation.{Situation, begun}
 use Rattle.words.specs.declared.Word.{Word}
 use Rattle.rulebook.specs.Phase.{Asked, Heard, terminal, says, Phase, asks, hears, situationOf, tvrOf, tsiOf}
 use Rattle.rulebook.specs.Turn.{opened, managed, withProfile, withRecord, answered, turn, verifiedBy, after}
-use Rattle.rulebook.specs.Stated.{Grows, Growing, alone, onward}
-use Rattle.rulebook.specs.Session.{rules, Plays, exchanged, heard, decided as settled, Reads}
+use Rattle.rulebook.specs.Stated.{Grows, Growing}
+use Rattle.rulebook.specs.Session.{rules, Reads}
 use Rattle.rulebook.proofs.Passing.{left, Holds, Lasting, holds-seen, turn-holds, after-holds}
 
 -- every bit that is set in a situation is set in a phase
@@ -82,32 +80,6 @@ after-grows (says word s) p = word-grows word s p
 stays : (p : Phase) → Grows p p
 stays p = record { tvr = joined-self (tvrOf p); tsi = joined-self (tsiOf p) }
 
--- a play passes first the phase that it starts from
-starts : {p : Phase} {es : List Entry} (play : Plays p es) → (qs : List Phase) × (phasesOf rules play ≡ p ∷ qs)
-unfolding phasesOf
-starts (exchanged f ok play) = (_, refl)
-starts (heard f fits ok play) = (_, refl)
-starts (settled f) = (_, refl)
-
-more : (p q : Phase) (ps : List Phase) → Grows p q → (qs : List Phase) × (ps ≡ q ∷ qs) → Growing ps → Growing (p ∷ ps)
-more p q ps g s h =
-    subst (λ (l : List Phase). Growing (p ∷ l)) (sym (s .1)) (onward g (subst Growing (s .1) h))
-
-phases-grow : {p : Phase} {es : List Entry} (play : Plays p es) → Growing (phasesOf rules play)
-unfolding phasesOf
-phases-grow (exchanged {w} {a} f ok play) =
-    onward (stays (asks w)) (more (asks w) (turn w a) _ (turn-grows w a) (starts play) (phases-grow play))
-phases-grow (heard {h} {p} f fits ok play) = more (hears h) (after h p) _ (after-grows h p) (starts play) (phases-grow play)
-phases-grow (settled f) = alone
-
--- what grows does so from its start on
-part-grows : {ps : List Phase} (n : ℕ) → Growing ps → Growing (take (suc n) ps)
-part-grows zero alone = alone
-part-grows (suc n) alone = alone
-part-grows zero (onward g rest) = alone
-part-grows (suc n) (onward g rest) = onward g (part-grows n rest)
-
 -- along any session and any beginning no bit of the TVR or the TSI is cleared
 pub reading-grows : (es : List Entry) (ps : List Phase) → Reads es ps → Growing ps
-unfolding Under.Reads
-reading-grows es ps r = subst Growing (sym (r .1 .1)) (rw add-one (part-grows (length es) (phases-grow (r .1 .0))))
+reading-grows = reading-in-row rules Grows stays turn-grows after-grows

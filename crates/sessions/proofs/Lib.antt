@@ -12,3 +12,4 @@ pub mod Breaks
 pub mod States
 pub mod LastEntry
 pub mod Leading
+pub mod Rows
