@@ -12,7 +12,7 @@ use Rattle.start_valid.proofs.Laws.{valid-length}
 use Rattle.numbers.specs.Kinds.{answer, silence, isKind}
 use Rattle.tape_read.specs.Entries.{entry, payloadMost}
 use Rattle.words.specs.Words.{wordKind}
-use Rattle.words.proofs.Laws.{other-kind, said-short}
+use Rattle.words.proofs.Laws.{other-kind, kind-readable, said-short}
 use Rattle.rulebook.specs.Phase.{Heard, terminal, says, dueKind}
 use Rattle.rulebook.specs.Turn.{wantedIn, allowed}
 use Rattle.rulebook.specs.Roles.{given}
@@ -36,7 +36,7 @@ no-silence (Says word count) e = eqb-false silence (wordKind word) (other-kind w
 pub some-kind : (speaker : Speaker) → kindOf speaker ≡ 0 → ⊥
 unfolding kindOf isKind
 some-kind Terminal e = omega arith
-some-kind (Says word count) e = false≢true (sym (ap isKind e) ∙ other-kind word .readable)
+some-kind (Says word count) e = false≢true (sym (ap isKind e) ∙ kind-readable word)
 
 pub not-given : (speaker : Speaker) (p : List ℕ) → given (entry (kindOf speaker) p) ≡ false
 unfolding kindOf given
