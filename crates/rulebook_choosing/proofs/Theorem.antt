@@ -1,0 +1,78 @@
+-- What holds of the rules with choosing, in one place. 02, R-12: all that holds of today's rules, and that a tape whose START has an earlier
+-- length is judged by its own.
+-- Assumes nothing.
+use mathlib.Core.Path.{_≡_, refl}
+use mathlib.Core.List.{List, [], _∷_, _++_}
+use Prim.Native.Nat.{ℕ, _≤_}
+use lib.ListN.{length}
+use Rattle.numbers.specs.Kinds.{start}
+use Rattle.tape_read.specs.Entries.{Entry, entry}
+use Rattle.verdict.specs.declared.Ruling.{Ruling}
+use Rattle.verdict_judged.specs.Judged.{JudgedUnder, Judged}
+use Rattle.sessions.specs.Session as Under
+use Rattle.sessions.specs.Stated.{Finished, Sort}
+use Rattle.sessions.proofs.Bound as Any
+use Rattle.sessions.proofs.Single.{prefix-free, reads-once, session-reads, beginning-reads, reads-lawful}
+use Rattle.sessions.proofs.Ends.{finishes}
+use Rattle.sessions.proofs.Trichotomy.{sorted, one-sort}
+use Rattle.sessions.proofs.Breaks.{one-break, break-unlawful, break-found}
+use Rattle.verdict_editions.specs.Editions.{Same, First, FirstOf}
+use Rattle.verdict_editions.specs.Later.{Earlier}
+use Rattle.verdict_editions.proofs.Later.{judged-as-it-was}
+use Rattle.rulebook.proofs.Said.{sample}
+use Rattle.rulebook.proofs.Kept.{sample-session}
+use Rattle.rulebook_choosing.specs.Start.{isListing}
+use Rattle.rulebook_choosing.specs.Choosing.{Choosing, ChoosingPhase, searched, chose, choosing}
+use Rattle.rulebook_choosing.specs.Session.{rules, longest, Plays, Session, Beginning, Open, Lawful, BreaksAt, Reads}
+use Rattle.rulebook_choosing.specs.Stated.{GoesOn, Takes, actsOf, Hundred, Growing}
+use Rattle.rulebook_choosing.proofs.Selecting.{searched-on, chose-on}
+use Rattle.rulebook_choosing.proofs.Kept.{toCome, kept}
+use Rattle.rulebook_choosing.proofs.Growing.{reading-grows}
+use Rattle.rulebook_choosing.proofs.Hundred.{hundred}
+
+pub record Rulebook : Type 0 where
+  pub inhabited : (es : List Entry) × Session es
+  pub no-longer : (es rest : List Entry) → Session es → Session (es ++ rest) → rest ≡ []
+  pub one-reading : (es : List Entry) (ps qs : List ChoosingPhase) → Reads es ps → Reads es qs → ps ≡ qs
+  pub session-read : (es : List Entry) → Session es → (ps : List ChoosingPhase) × Reads es ps
+  pub beginning-read : (es : List Entry) → Beginning es → (ps : List ChoosingPhase) × Reads es ps
+  pub read-lawful : (es : List Entry) (ps : List ChoosingPhase) → Reads es ps → Lawful es
+  pub finished : (p : ChoosingPhase) → Finished rules p
+  pub sort : (es : List Entry) → Sort rules es
+  pub apart : (es : List Entry) → Session es → Open es → ⊥
+  pub place : (es : List Entry) → (Lawful es → ⊥) → (k : ℕ) × BreaksAt es k
+  pub one-place : (es : List Entry) (k m : ℕ) → BreaksAt es k → BreaksAt es m → k ≡ m
+  pub no-place : (es : List Entry) (k : ℕ) → BreaksAt es k → Lawful es → ⊥
+  pub growing : (es : List Entry) (ps : List ChoosingPhase) → Reads es ps → Growing ps
+  pub bounded : (es : List Entry) → Session es → length es ≤ longest
+  -- how a selection goes on and ends, after any answer and any choice
+  pub answered : (x : Choosing) (a : List ℕ) → GoesOn x (searched x a)
+  pub chosen : (x : Choosing) (p : List ℕ) → Takes x (chose x p)
+  -- before GPO is due a session has at most a hundred exchanges, and before each at most one choice, none before the first
+  pub at-most : {es : List Entry} (play : Plays (rules .opens) es) → Hundred (actsOf play)
+  -- a tape whose START has another length is judged as today
+  pub earlier : (t : List ℕ) (a : Ruling) → FirstOf (Earlier choosing) t → Same (JudgedUnder rules t a) (Judged t a)
+
+pub rulebook : Rulebook
+unfolding Under.Session isListing kept toCome First
+rulebook =
+    record {
+      inhabited = finishes kept (rules .opens);
+      no-longer = prefix-free rules;
+      one-reading = reads-once rules;
+      session-read = session-reads rules;
+      beginning-read = beginning-reads rules;
+      read-lawful = reads-lawful rules;
+      finished = finishes kept;
+      sort = sorted kept;
+      apart = one-sort kept;
+      place = break-found kept;
+      one-place = one-break kept;
+      no-place = break-unlawful kept;
+      growing = reading-grows;
+      bounded = Any.session-bound kept;
+      answered = searched-on;
+      chosen = chose-on;
+      at-most = hundred;
+      earlier = judged-as-it-was choosing (entry start sample ∷ sample-session .0, (refl, sample-session .1));
+    }

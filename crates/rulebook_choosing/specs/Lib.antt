@@ -1,0 +1,5 @@
+-- The rules with choosing the application: document 02, R-12.
+pub mod Start
+pub mod Choosing
+pub mod Session
+pub mod Stated
