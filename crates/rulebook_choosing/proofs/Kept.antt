@@ -1,5 +1,6 @@
--- The rules with choosing keep what rules must keep (Kept of sessions): a choice has a kind of its own, there is always something to choose, and
--- each exchange and each choice takes its entries off what can still come: three for each exchange that is left, and today's from GPO on.
+-- The rules with choosing keep what rules must keep (Kept of sessions): a choice has a kind of its own, there is always something to
+-- choose, and each exchange and each choice takes its entries off what can still come: three for each exchange that is left, and today's
+-- from GPO on.
 -- Assumes nothing.
 use mathlib.Core.Path.{_≡_, refl, _∙_}
 use mathlib.Core.Bool.{Bool, true, false, _||_}

@@ -2,5 +2,8 @@ pub mod Selecting
 pub mod Kept
 pub mod Growing
 pub mod Hundred
+pub mod Along
+pub mod Sent
+pub mod Nobody
 pub mod Worked
 pub mod Theorem

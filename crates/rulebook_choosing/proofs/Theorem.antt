@@ -1,16 +1,21 @@
--- What holds of the rules with choosing, in one place. 02, R-12: all that holds of today's rules, and that a tape whose START has an earlier
--- length is judged by its own.
+-- What holds of the rules with choosing, in one place. 02, R-12: all that holds of today's rules, and that a tape whose START has an
+-- earlier length is judged by its own.
 -- Assumes nothing.
 use mathlib.Core.Path.{_≡_, refl}
+use mathlib.Core.Bool.{Bool, true}
 use mathlib.Core.List.{List, [], _∷_, _++_}
 use Prim.Native.Nat.{ℕ, _≤_}
 use lib.ListN.{length}
 use Rattle.numbers.specs.Kinds.{start}
 use Rattle.tape_read.specs.Entries.{Entry, entry}
+use Rattle.select_names.specs.Names.{supported}
+use Rattle.select_list.specs.Kept.{candidateAt}
+use Rattle.select_search.specs.declared.Step.the-variants.{Final}
+use Rattle.select_laws.specs.Repeated.{missing}
 use Rattle.verdict.specs.declared.Ruling.{Ruling}
 use Rattle.verdict_judged.specs.Judged.{JudgedUnder, Judged}
 use Rattle.sessions.specs.Session as Under
-use Rattle.sessions.specs.Stated.{Finished, Sort}
+use Rattle.sessions.specs.Stated.{Finished, Sort, InRow}
 use Rattle.sessions.proofs.Bound as Any
 use Rattle.sessions.proofs.Single.{prefix-free, reads-once, session-reads, beginning-reads, reads-lawful}
 use Rattle.sessions.proofs.Ends.{finishes}
@@ -25,10 +30,14 @@ use Rattle.rulebook_choosing.specs.Start.{isListing}
 use Rattle.rulebook_choosing.specs.Choosing.{Choosing, ChoosingPhase, searched, chose, choosing}
 use Rattle.rulebook_choosing.specs.Session.{rules, longest, Plays, Session, Beginning, Open, Lawful, BreaksAt, Reads}
 use Rattle.rulebook_choosing.specs.Stated.{GoesOn, Takes, actsOf, Hundred, Growing}
+use Rattle.rulebook_choosing.specs.Sent.{Each, Sound, SoundAt, Worded}
+use Rattle.rulebook_choosing.specs.Nobody.{AnswersAll, NobodyFound}
 use Rattle.rulebook_choosing.proofs.Selecting.{searched-on, chose-on}
 use Rattle.rulebook_choosing.proofs.Kept.{toCome, kept}
 use Rattle.rulebook_choosing.proofs.Growing.{reading-grows}
 use Rattle.rulebook_choosing.proofs.Hundred.{hundred}
+use Rattle.rulebook_choosing.proofs.Sent.{reading-sound, sent-supported, reading-worded}
+use Rattle.rulebook_choosing.proofs.Nobody.{nobody}
 
 pub record Rulebook : Type 0 where
   pub inhabited : (es : List Entry) × Session es
@@ -50,6 +59,15 @@ pub record Rulebook : Type 0 where
   pub chosen : (x : Choosing) (p : List ℕ) → Takes x (chose x p)
   -- before GPO is due a session has at most a hundred exchanges, and before each at most one choice, none before the first
   pub at-most : {es : List Entry} (play : Plays (rules .opens) es) → Hundred (actsOf play)
+  -- at every exchange everybody in the list matches an AID of START, and an application that is sent for good stands in it: so does its name
+  pub sound : (es : List Entry) (ps : List ChoosingPhase) → Reads es ps → Each SoundAt ps
+  pub sent : (x : Choosing) (place : ℕ) (taken : Bool) → x .search .stand .step ≡ Final place taken → Sound x
+      → supported (x .applications) (candidateAt (x .search .list) place .name) ≡ true
+  -- nobody without the shopper's word
+  pub worded : (es : List Entry) (ps : List ChoosingPhase) → Reads es ps → InRow Worded ps
+  -- a card that answers '6A82' to everything
+  pub nobody-found : (p : List ℕ) (es : List Entry) → isListing p ≡ true → Session (entry start p ∷ es) → AnswersAll missing es
+      → NobodyFound p es
   -- a tape whose START has another length is judged as today
   pub earlier : (t : List ℕ) (a : Ruling) → FirstOf (Earlier choosing) t → Same (JudgedUnder rules t a) (Judged t a)
 
@@ -74,5 +92,9 @@ rulebook =
       answered = searched-on;
       chosen = chose-on;
       at-most = hundred;
+      sound = reading-sound;
+      sent = sent-supported;
+      worded = reading-worded;
+      nobody-found = nobody;
       earlier = judged-as-it-was choosing (entry start sample ∷ sample-session .0, (refl, sample-session .1));
     }

@@ -22,8 +22,8 @@ use Rattle.rulebook.specs.Phase.{optioning}
 use Rattle.verdict_editions.specs.Later.{AskedLater, HeardLater, PhaseLater, Added}
 use Rattle.rulebook_choosing.specs.Start.{isListing, validListing, withFirstAlone}
 
--- a selection under way: what is known, which stays as it is until GPO; the applications of START; where the search stands. A command of the
--- search is due, or the shopper's choice
+-- a selection under way: what is known, which stays as it is until GPO; the applications of START; where the search stands. A command of
+-- the search is due, or the shopper's choice
 pub record Choosing : Type 0 where
   pub situation : Situation
   pub applications : Applications
@@ -36,8 +36,8 @@ ChoosingPhase = PhaseLater Choosing Choosing
 unfoldable pub further : Search → Choosing → Choosing
 further s x = record { situation = x .situation; applications = x .applications; search = s }
 
--- what follows an answer or a choice: another exchange; a choice; GET PROCESSING OPTIONS with the list 9F38 of the application that runs, as
--- today's rules have it; or the end
+-- what follows an answer or a choice: another exchange; a choice; GET PROCESSING OPTIONS with the list 9F38 of the application that runs,
+-- as today's rules have it; or the end
 unfoldable pub following : Choosing → Found → ChoosingPhase
 following x (search.asks s) = asks (AskedLater.new (further s x))
 following x (search.shows s) = hears (HeardLater.new (further s x))

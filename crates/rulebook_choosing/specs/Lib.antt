@@ -3,3 +3,5 @@ pub mod Start
 pub mod Choosing
 pub mod Session
 pub mod Stated
+pub mod Sent
+pub mod Nobody

@@ -23,8 +23,8 @@ isListing s = eqb (length s) listingLength
 abbrev pub capabilitiesAt : ℕ
 capabilitiesAt = 202
 
--- what it holds beside its list, as a START of 77 bytes that knows the list's first AID alone: bytes 0-56 are the same, then an AID with its
--- length, then Terminal Capabilities
+-- what it holds beside its list, as a START of 77 bytes that knows the list's first AID alone: bytes 0-56 are the same, then an AID with
+-- its length, then Terminal Capabilities
 unfoldable pub withFirstAlone : List ℕ → List ℕ
 withFirstAlone s =
     take aidLengthAt s ++ (take (aidRoom + 1) (drop fieldsAt s) ++ take (sizeOf Capabilities) (drop capabilitiesAt s))

@@ -1,5 +1,5 @@
--- What laws of choosing are stated with: what can follow an answer or a choice of a selection, its exchanges and choices in their order, and
--- that no bit of TVR and TSI is cleared. 02, R-12.
+-- What laws of choosing are stated with: what can follow an answer or a choice of a selection, its exchanges and choices in their order,
+-- and that no bit of TVR and TSI is cleared. 02, R-12.
 -- Assumes nothing.
 use mathlib.Core.Path.{_≡_}
 use mathlib.Core.Bool.{true}

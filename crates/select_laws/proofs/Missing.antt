@@ -22,10 +22,10 @@ use Rattle.select_search.specs.declared.Step.the-variants.{Listed}
 use Rattle.select_laws.specs.Repeated.{missing, answered, repeated}
 
 -- at START's k-th AID, with nobody in the list
-abbrev at-aid : ℕ → Search
+abbrev pub at-aid : ℕ → Search
 at-aid k = record { stand = record { exchanges = k + 2; step = Listed k false; fallen = false }; list = [] }
 
-after-environment : (t : Applications) → heard t begun missing ≡ asks (at-aid 0)
+pub after-environment : (t : Applications) → heard t begun missing ≡ asks (at-aid 0)
 unfolding heard heardAt afterEnvironment begun sizeBad hasStatus fromFirst goes mayGoOn pick
 after-environment t = refl
 
@@ -48,11 +48,11 @@ to-aid t k =
     pick-no _ _ _ refl ∙ (pick-no _ _ _ (and-false (eqb k 0)) ∙ pick-no _ _ _ refl)
 
 module _ (t : Applications) (few : length (t .list) + 2 ≤ mostExchanges) where
-  further : (k : ℕ) → k + 1 < length (t .list) → heard t (at-aid k) missing ≡ asks (at-aid (k + 1))
+  pub further : (k : ℕ) → k + 1 < length (t .list) → heard t (at-aid k) missing ≡ asks (at-aid (k + 1))
   unfolding nextAid
   further k h = to-aid t k ∙ (pick-yes _ _ _ (lt-ltb (k + 1) (length (t .list)) h) ∙ next k (omega arith))
 
-  ends : (k : ℕ) → length (t .list) ≡ k + 1 → heard t (at-aid k) missing ≡ over 12
+  pub ends : (k : ℕ) → length (t .list) ≡ k + 1 → heard t (at-aid k) missing ≡ over 12
   unfolding nextAid
   ends k e = to-aid t k ∙ (pick-no _ _ _ (le-ltb (k + 1) (length (t .list)) (omega arith)) ∙ last t k)
 

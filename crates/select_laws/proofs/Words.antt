@@ -5,8 +5,10 @@ use mathlib.Core.Path.{_≡_, refl, sym, _∙_}
 use mathlib.Core.Bool.{Bool, true, false, not, _&&_, _||_, false≢true}
 use mathlib.Core.List.{List, []}
 use Prim.Native.Nat.{ℕ, _+_}
+use native.Mathlib.Omega.{arith}
 use lib.Dec.{eqb, ltb}
 use lib.ListN.{length}
+use borrow.Author.Tests.{eqb-false}
 use Rattle.slices.specs.Choice.{pick}
 use Rattle.slices.specs.Tests.{alike}
 use Rattle.slices.proofs.Choice.{picked}
@@ -44,10 +46,12 @@ module _ (t : Applications) where
   directory-on s file number = picked (Unasked t) (mayGoOn s) _ (over 11) (λ y. tt) (λ n. tt)
 
   -- the terminal takes the first
-  first-taken : (s : Search) → candidateAt (s .list) 0 .confirm ≡ false → (t .choice ≡ true → s .stand .fallen ≡ false)
-      → Unasked t (goes s (Final 0 false))
+  first-taken : (s : Search) → eqb (length (s .list)) 0 ≡ false → candidateAt (s .list) 0 .confirm ≡ false
+      → (t .choice ≡ true → s .stand .fallen ≡ false) → Unasked t (goes s (Final 0 false))
   unfolding goes
-  first-taken s free none′ = picked (Unasked t) (mayGoOn s) _ (over 11) (λ y. (refl, free, none′)) (λ n. tt)
+  first-taken s some free none′ =
+      let there = eqb-false (length (s .list)) 0 some in
+      picked (Unasked t) (mayGoOn s) _ (over 11) (λ y. (omega arith, refl, free, none′)) (λ n. tt)
 
   offered : (s : Search) → t .choice ≡ true → Unasked t (offers s)
   unfolding offers
@@ -66,11 +70,11 @@ module _ (t : Applications) where
       (λ y. offered s can)
       (λ z.
       let free = none-of (ltb 1 (length (s .list))) (candidateAt (s .list) 0 .confirm) (s .stand .fallen) z in
-      first-taken s (free .0) (λ c. free .1)))
+      first-taken s n (free .0) (λ c. free .1)))
       (λ cannot.
       picked (Unasked t) (candidateAt (s .list) 0 .confirm) (over 12) (goes s (Final 0 false))
       (λ y. tt)
-      (λ free. first-taken s free (λ can. absurd (false≢true (sym cannot ∙ can))))))
+      (λ free. first-taken s n free (λ can. absurd (false≢true (sym cannot ∙ can))))))
 
   next-unasked : (s : Search) (k : ℕ) → Unasked t (nextAid t s k)
   unfolding nextAid

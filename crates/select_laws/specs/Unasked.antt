@@ -1,9 +1,11 @@
 -- Nobody without the shopper's word: 001, 12.4; 02, R-12. What an answer leads to, the terminal does by itself: an application that it
--- takes wants no confirmation, and none that the shopper took has fallen out before; and a choice is due only where the shopper can
+-- takes stands in the list, wants no confirmation, and none that the shopper took has fallen out before; a choice is due only where the shopper can
 -- choose. An application that wants one is so sent right behind a choice, or not at all.
 -- Assumes nothing.
 use mathlib.Core.Path.{_≡_}
 use mathlib.Core.Bool.{true, false}
+use Prim.Native.Nat.{_<_}
+use lib.ListN.{length}
 use Rattle.start_list.specs.Listing.{Applications}
 use Rattle.select_list.specs.Kept.{candidateAt}
 use Rattle.select_search.specs.Search.{Search, Found, asks, shows, runs, over}
@@ -15,7 +17,8 @@ TakenAt t s Environment = Unit {0}
 TakenAt t s (Directory file number) = Unit {0}
 TakenAt t s (Listed aid again) = Unit {0}
 TakenAt t s (Final place taken) =
-    (taken ≡ false) × (candidateAt (s .list) place .confirm ≡ false) × (t .choice ≡ true → s .stand .fallen ≡ false)
+    (place < length (s .list)) × (taken ≡ false) × (candidateAt (s .list) place .confirm ≡ false)
+    × (t .choice ≡ true → s .stand .fallen ≡ false)
 
 abbrev pub Unasked : Applications → Found → Type 0
 Unasked t (asks s) = TakenAt t s (s .stand .step)
