@@ -6,16 +6,14 @@ use mathlib.Core.List.{List, [], _∷_}
 use Prim.Native.Nat.{ℕ, zero, suc, _+_, _*_, _<_, _≤_}
 use native.Mathlib.Omega.{arith}
 use lib.Dec.{leb}
-use lib.ListN.{length, getD, length-map}
+use lib.ListN.{length, getD}
 use borrow.Author.Tests.{leb-true}
 use Rattle.slices.proofs.Choice.{picked, pick-yes}
 use Rattle.numbers.specs.Kinds.{start, command, answer, decision}
 use Rattle.numbers.specs.Outcomes.{terminated}
 use Rattle.numbers.specs.Reasons.{forNobody}
 use Rattle.tape_read.specs.Entries.{Entry, entry}
-use Rattle.start_list.specs.Rows.{rowsIn}
-use Rattle.start_list.specs.Listing.{applicationsIn, countIn, fieldsIn, countAt}
-use Rattle.start_list.proofs.InRows.{rows-length}
+use Rattle.start_list.specs.Listing.{applicationsIn, countIn, countAt}
 use Rattle.select_search.specs.Search as search
 use Rattle.select_search.specs.Search.{Found, over, mostExchanges}
 use Rattle.select_search.specs.Heard.{heard as heardOf}
@@ -32,7 +30,7 @@ use Rattle.rulebook_choosing.specs.Start.{isListing}
 use Rattle.rulebook_choosing.specs.Choosing.{Choosing, ChoosingPhase, further, following, searched, listed}
 use Rattle.rulebook_choosing.specs.Session.{Plays, Session}
 use Rattle.rulebook_choosing.specs.Nobody.{AnswersAll, EndsWith, NobodyFound}
-use Rattle.rulebook_choosing.proofs.Sent.{list-some}
+use Rattle.rulebook_choosing.proofs.Sent.{list-count, list-some}
 
 before : (e f : Entry) (es : List Entry) → EndsWith e es → EndsWith e (f ∷ es)
 before e f [] h = absurd h
@@ -61,7 +59,8 @@ module _ (x : Choosing) (few : length (x .applications .list) + 2 ≤ mostExchan
   unfolding turnLater following further
   from-aid zero k e es (exchanged {c} {a} {es = rest} f ok play) h =
       let here = gone-on (at-aid k) a (over 12) (h .1 .0 refl) (ends (x .applications) few k (omega arith)) in
-      two-before (x .situation) 1 (entry command c) (entry answer a) rest (one-left (x .situation) rest (subst (λ (q : ChoosingPhase). Plays q rest) here play))
+      let last = one-left (x .situation) rest (subst (λ (q : ChoosingPhase). Plays q rest) here play) in
+      two-before (x .situation) 1 (entry command c) (entry answer a) rest last
   from-aid (suc j) k e es (exchanged {c} {a} {es = rest} f ok play) h =
       let here = gone-on (at-aid k) a _ (h .1 .0 refl) (to-the-next (x .applications) few k (omega arith)) in
       let more = from-aid j (k + 1) (omega arith) rest (subst (λ (q : ChoosingPhase). Plays q rest) here play) (h .1 .1) in
@@ -81,10 +80,9 @@ module _ (x : Choosing) (few : length (x .applications .list) + 2 ≤ mostExchan
 
 -- a list of START has at most eight
 list-few : (p : List ℕ) → length (applicationsIn p .list) + 2 ≤ mostExchanges
-unfolding applicationsIn countIn
+unfolding countIn
 list-few p =
-    let many : length (applicationsIn p .list) ≡ countIn p =
-    length-map (rowsIn (countIn p) (fieldsIn p)) _ ∙ rows-length (countIn p) (fieldsIn p) in
+    let many = list-count p in
     let few : countIn p ≤ 8 =
     picked (λ (n : ℕ). n ≤ 8) (leb (getD p countAt 0) 8) (getD p countAt 0) 8 (λ y. leb-true (getD p countAt 0) 8 y) (λ n. omega arith) in
     omega arith

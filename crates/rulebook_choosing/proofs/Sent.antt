@@ -37,9 +37,11 @@ use Rattle.rulebook.specs.Phase.{Phase, terminal, says}
 use Rattle.rulebook.specs.Turn.{turn, after}
 use Rattle.verdict_editions.specs.Later.{AskedLater, HeardLater, asWas, turnLater, allowedLater, afterLater}
 use Rattle.rulebook_choosing.specs.Start.{isListing, validListing}
-use Rattle.rulebook_choosing.specs.Choosing.{Choosing, ChoosingPhase, further, following, searched, isChoice, mayChoose, chose, listed}
+use Rattle.rulebook_choosing.specs.Choosing.{Choosing, ChoosingPhase, further, following, searched}
+use Rattle.rulebook_choosing.specs.Choosing.{isChoice, mayChoose, chose, listed}
 use Rattle.rulebook_choosing.specs.Session.{rules, Reads}
-use Rattle.rulebook_choosing.specs.Sent.{Each, SentWell, Sound, Offered, SoundAt, ByItself, Worded, same, chosen as behind-choice, unasked}
+use Rattle.rulebook_choosing.specs.Sent.{Each, SentWell, Sound, Offered, SoundAt}
+use Rattle.rulebook_choosing.specs.Sent.{ByItself, Worded, same, chosen as behind-choice, unasked}
 use Rattle.rulebook_choosing.proofs.Along.{reading-along}
 
 -- whom the terminal takes by itself is sent well
@@ -98,17 +100,22 @@ module _ (x : Choosing) (offered : Offered x) (p : List ℕ) (fits : mayChoose x
 
 -- ---- START
 
+-- as many are listed as START says, and no more than there are fields
+pub list-count : (p : List ℕ) → length (applicationsIn p .list) ≡ countIn p
+unfolding applicationsIn
+list-count p = length-map (rowsIn (countIn p) (fieldsIn p)) _ ∙ rows-length (countIn p) (fieldsIn p)
+
 count-one : (p : List ℕ) → 1 ≤ getD p countAt 0 → 1 ≤ countIn p
 unfolding countIn
 count-one p h = picked (λ (n : ℕ). 1 ≤ n) (leb (getD p countAt 0) 8) (getD p countAt 0) 8 (λ y. h) (λ n. omega arith)
 
 -- a valid list has an AID
 pub list-some : (p : List ℕ) → validListing p ≡ true → 0 < length (applicationsIn p .list)
-unfolding validListing validList applicationsIn
+unfolding validListing validList
 list-some p e =
     let valid = first-held _ _ (first-held _ _ (first-held _ _ e .1) .1) .0 in
     let count = bounds _ _ _ (first-held _ _ valid .0) in
-    let many : length (applicationsIn p .list) ≡ countIn p = length-map (rowsIn (countIn p) (fieldsIn p)) _ ∙ rows-length (countIn p) (fieldsIn p) in
+    let many = list-count p in
     let counted = count-one p (count .0) in
     omega arith
 

@@ -59,7 +59,7 @@ pub record Rulebook : Type 0 where
   pub chosen : (x : Choosing) (p : List ℕ) → Takes x (chose x p)
   -- before GPO is due a session has at most a hundred exchanges, and before each at most one choice, none before the first
   pub at-most : {es : List Entry} (play : Plays (rules .opens) es) → Hundred (actsOf play)
-  -- at every exchange everybody in the list matches an AID of START, and an application that is sent for good stands in it: so does its name
+  -- at every exchange everybody in the list matches an AID of START, and who is sent for good stands in it: so his name does too
   pub sound : (es : List Entry) (ps : List ChoosingPhase) → Reads es ps → Each SoundAt ps
   pub sent : (x : Choosing) (place : ℕ) (taken : Bool) → x .search .stand .step ≡ Final place taken → Sound x
       → supported (x .applications) (candidateAt (x .search .list) place .name) ≡ true

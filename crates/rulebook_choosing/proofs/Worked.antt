@@ -38,16 +38,16 @@ listing edition partial =
 
 pub listing-valid : (validListing (listing 1 0) ≡ true) × (validListing (listing 1 1) ≡ true)
 unfolding validListing isListing withFirstAlone zeros validStart every pick between isLength validKind validDigits digitsOnly decimalByte
-    validStartDate monthAndDay validRandom validPercentages validThreshold validAid zerosOnly readingOf decimal decimalFrom validList countIn
-    fieldsIn rowsIn validField roomIn markIn
+    validStartDate monthAndDay validRandom validPercentages validThreshold validAid zerosOnly readingOf decimal decimalFrom validList
+    countIn fieldsIn rowsIn validField roomIn markIn
 listing-valid = (refl, refl)
 
 -- edition 0, a last byte of 2, a byte too few, and a START of an earlier length
 pub listing-invalid : (validListing (listing 0 0) ≡ false) × (validListing (listing 1 2) ≡ false)
     × (validListing (take 206 (listing 1 0)) ≡ false) × (validListing sample ≡ false)
 unfolding validListing isListing withFirstAlone zeros validStart every pick between isLength validKind validDigits digitsOnly decimalByte
-    validStartDate monthAndDay validRandom validPercentages validThreshold validAid zerosOnly readingOf decimal decimalFrom validList countIn
-    fieldsIn rowsIn validField roomIn markIn
+    validStartDate monthAndDay validRandom validPercentages validThreshold validAid zerosOnly readingOf decimal decimalFrom validList
+    countIn fieldsIn rowsIn validField roomIn markIn
 listing-invalid = (refl, refl, refl, refl)
 
 -- what it holds beside its list is the sample's, with the capabilities behind it
