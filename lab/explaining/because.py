@@ -1,4 +1,4 @@
-"""The lines `because`: display, from the tape's own values. They stand only where they lead to exactly what was due."""
+"""The lines "because": display, from the tape's own values. They stand only where they lead to exactly what was due."""
 from lab.explaining import lists, names, objects
 from lab.explaining.learnt import MANDATORY
 from lab.explaining.parts import count

@@ -1,4 +1,4 @@
-"""From facts to TVR, TSI and requests (01, "From facts to a decision"; 02, R-2), with the why of each: display, for the lines `because`.
+"""From facts to TVR, TSI and requests (01, "From facts to a decision"; 02, R-2), with the why of each: display, for the lines "because".
 
 What is worked out here is shown only where it leads to exactly the bytes that the judge says were due.
 """

@@ -1,4 +1,4 @@
-"""Cardholder verification (02, R-7; 003, 7.5 and Annex A3): the rules of 8E gone through with the results, for the lines `because`."""
+"""Cardholder verification (02, R-7; 003, 7.5 and Annex A3): the rules of 8E gone through with the results, for the lines "because"."""
 from lab.explaining import names
 
 UNSUCCESSFUL, UNRECOGNISED, USED_UP, NO_PAD, NOT_ENTERED, ENTERED = 0x80, 0x40, 0x20, 0x10, 0x08, 0x04
