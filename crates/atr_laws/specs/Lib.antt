@@ -1,4 +1,4 @@
--- What the laws of reading an answer to reset are stated with.
+-- Laws of reading an answer to reset, and what they are stated with.
 pub mod Readings
 pub mod Basic
 pub mod Broken

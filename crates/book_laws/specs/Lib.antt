@@ -1,2 +1,2 @@
--- Histories of a campaign book (02, R-11).
+-- Laws over any history of a campaign book, and which bytes reopen (02, R-11).
 pub mod History

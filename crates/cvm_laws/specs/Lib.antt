@@ -1,2 +1,2 @@
--- What the laws of cardholder verification are stated with.
+-- Laws of cardholder verification, its tables worked out, and what they are stated with.
 pub mod Tries

@@ -1,2 +1,2 @@
--- A kernel session together with its tape.
+-- What any calls of a kernel session, recorded on its tape, are judged as.
 pub mod Taping
