@@ -1,14 +1,14 @@
 """A report as one HTML file: no script, nothing fetched. All text from outside goes through `safe`."""
 import html
 
-from lab import report_strips, report_tapes, report_words
+from lab import report_explained, report_strips, report_tapes, report_words
 from lab.report_style import HEAD, STYLE
 from lab.verdicts import VERDICTS
 from lab.words import text
 
 LONGEST_NAME = 120
-# So many tapes of each kind of list are shown with their lines, so many terminals have a row of their own.
-LISTED, LISTED_ERRORS, ROWS = {"FAIL": 900, "INCONCLUSIVE": 350, "UNREADABLE": 350}, 200, 200
+# So many tapes that could not be judged, or not explained, are named, and so many terminals have a row of their own.
+LISTED_ERRORS, NAMED, ROWS = 200, 20, 200
 TITLES = {"FAIL": "Failures, by what was due and what stood there", "INCONCLUSIVE": "Unfinished, by what was waited for",
           "UNREADABLE": "Damaged, by code"}
 
@@ -98,6 +98,29 @@ def notes_box(night):
     return f'<div class="box plain"><ul>{"".join(parts)}</ul></div>' if parts else ""
 
 
+# What is said of tapes that should have been explained and are not.
+NOT_EXPLAINED = {report_explained.CHANGED: "changed since judged. What the list says of the judged bytes stands, and is not explained",
+                 report_explained.OTHERWISE: "judged otherwise here, with the very same bytes. What the list says is not explained",
+                 report_explained.UNABLE: "not explained, and the file is there"}
+
+
+def explained_box(explained):
+    """Where something is wrong with tapes that are listed, and where they are gone."""
+    if explained is None:
+        return ""
+    parts = []
+    for kind, words in NOT_EXPLAINED.items():
+        found = explained.of(kind)
+        rows = "".join(f"<li>{name(one)}: {safe(why[:300])}</li>" for one, why in found[:NAMED]) + ("<li>…</li>" if found[NAMED:] else "")
+        if found:
+            parts.append(f"<p><b>{tapes_word(len(found))} of those listed below:</b> {words}.</p><ul>{rows}</ul>")
+    wrong, gone = f'<div class="box strong">{"".join(parts)}</div>' if parts else "", explained.count(report_explained.GONE)
+    if not gone:
+        return wrong
+    return wrong + (f'<div class="box plain">{tapes_word(gone)} of those listed below: no file where the list names one, so nothing is '
+                    "explained of these. Their lines are the list's.</div>")
+
+
 def row(label, tapes, errors, most, with_errors):
     counts = report_tapes.counts(tapes)
     numbers = "".join(f'<td class="n {verdict if counts[verdict] else "none"}">{counts[verdict]:,}</td>' for verdict in VERDICTS)
@@ -127,15 +150,20 @@ def terminals_table(terminals, with_errors):
             f"<tbody>{''.join(rows)}</tbody></table>")
 
 
-def tape_lines(tape, with_cause):
-    """One tape where its group is opened."""
+def tape_lines(tape, with_cause, explained):
+    """One tape where its group is opened: explained, or what the list says of it, and why no more."""
     session = "" if tape.session is None else f", session {tape.session}"
     cause = f": {safe(report_words.cause(tape))}" if with_cause else ""
-    made = [f"<li><b>{name(tape.name)}</b> <small>{report_words.where(tape)}{session}, sha256 {tape.sha256[:16]}…{cause}</small>"]
-    for label, pieces in report_words.explained(tape):
+    head = f"<li><b>{name(tape.name)}</b> <small>{report_words.where(tape)}{session}, sha256 {tape.sha256[:16]}…{cause}</small>"
+    told = explained and explained.told.get(report_explained.key(tape))
+    if told and told.lines:
+        lines = "\n".join(f"<b>{safe(line)}</b>" if marked else safe(line) for line, marked in told.lines)
+        return f'{head}<code class="whole">{lines}</code></li>'
+    made = []
+    for label, pieces in [*report_words.explained(tape), *([("unexplained", [(told.why[:150], False)])] if told else [])]:
         shown = " ".join(f"<mark>{safe(piece)}</mark>" if marked else safe(piece) for piece, marked in pieces)
         made.append(f"<div><i>{label}</i> <code>{shown}</code></div>")
-    return "".join(made) + "</li>"
+    return f"{head}{''.join(made)}</li>"
 
 
 def top_terminals(tapes, named):
@@ -146,16 +174,23 @@ def top_terminals(tapes, named):
     return ", ".join(f"{name(one)} ({count:,})" for one, count in first[:3]) + (f", {len(first) - 3:,} more" if len(first) > 3 else "")
 
 
-def group_lists(night, verdict, named):
-    groups = report_tapes.groups(night, verdict)
+def without_room(tapes, explained):
+    """How many of the tapes of a list were not explained since a report has room for so many."""
+    left = sum(report_explained.key(tape) not in explained.told for tape in tapes) if explained else 0
+    said = f"{left:,} of those listed here are told from the list alone, for want of room; bin/explain says more of each"
+    return f'<p class="more">{said}</p>' if left else ""
+
+
+def group_lists(verdict, groups, named, explained):
+    """The groups of a verdict, each to be opened."""
     if not groups:
         return ""
-    listed, made = report_tapes.share([len(group.tapes) for group in groups], LISTED[verdict]), []
-    for group in groups:
-        tapes = "".join(tape_lines(tape, group.mixed) for tape in group.tapes[:listed])
-        count = len(group.tapes)
+    made = []
+    for group, listed in groups:
+        tapes, count = "".join(tape_lines(tape, group.mixed, explained) for tape in listed), len(group.tapes)
         made.append(f'<details class="group {verdict}"><summary><b>{count:,}</b> {safe(group.words)}'
-                    f"<small>{top_terminals(group.tapes, named)}</small></summary><ul>{tapes}</ul>{more(count, listed)}</details>")
+                    f"<small>{top_terminals(group.tapes, named)}</small></summary><ul>{tapes}</ul>{without_room(listed, explained)}"
+                    f"{more(count, len(listed))}</details>")
     return f"<h2>{TITLES[verdict]}</h2>{''.join(made)}"
 
 
@@ -165,13 +200,15 @@ def foot(told):
     return f'<h2>Where this comes from</h2><table class="foot"><tbody>{rows}</tbody></table>'
 
 
-def page(title, night, by, told, expected=None):
-    """The whole file, as bytes. `expected` is how many tapes there must be, where that is known."""
+def page(title, night, by, told, opened, explained=None, expected=None):
+    """The whole file, as bytes. `opened` are the groups with the tapes that are listed, `explained` what came of these where they were
+    looked at, `expected` how many tapes there must be where that is known."""
     terminals, named = report_tapes.terminals(night, by)
     counts = report_tapes.counts(night.tapes)
     of = f"{tapes_word(len(night.tapes))} of {len(terminals):,} terminal{'' if len(terminals) == 1 else 's'}"
     body = [f'<h1>{safe(title)}</h1><p class="sub">{of}</p>', report_strips.PATTERNS, cards(counts), missing_box(len(named), expected),
-            evidence_box(counts), error_box(night), notes_box(night), terminals_table(terminals, bool(night.errors))]
-    body += [group_lists(night, verdict, named) for verdict in report_strips.LANES]
+            evidence_box(counts), error_box(night), explained_box(explained), notes_box(night),
+            terminals_table(terminals, bool(night.errors))]
+    body += [group_lists(verdict, groups, named, explained) for verdict, groups in opened.items()]
     head = f"{HEAD}<title>{safe(title)}</title>\n<style>{STYLE}</style>\n</head>\n"
     return "\n".join([head + "<body>", *filter(None, body), foot(told), "</body>\n</html>\n"]).encode()

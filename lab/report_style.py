@@ -63,6 +63,8 @@ details.group .more{padding:0 12px 10px}
 li div{display:flex;gap:8px;font-size:12.5px}
 li i{flex:0 0 82px;color:var(--soft);font-style:normal}
 code{font:12.5px/1.5 "DejaVu Sans Mono",Consolas,monospace;white-space:pre-wrap;overflow-wrap:anywhere}
+code.whole{display:block;margin-top:4px;font-size:12px;line-height:1.4}
+code.whole b{color:var(--fail)}
 mark{background:#ffe39a;font-weight:700;text-decoration:underline;color:inherit}
 .foot th{font-weight:400;color:var(--soft);text-align:left;vertical-align:top;padding:3px 16px 3px 0;white-space:nowrap}
 .foot td{padding:3px 0;overflow-wrap:anywhere;font-size:13px}

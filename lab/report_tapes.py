@@ -9,13 +9,15 @@ import re
 from typing import NamedTuple
 
 from lab import report_words
+from lab.findings import Finding
 from lab.verdicts import VERDICTS
 
 # From the worst to the best: what counts where lines of one tape disagree.
 WORST = ("FAIL", "UNREADABLE", "INCONCLUSIVE", "PASS")
 IN_NAME = re.compile(rb"(.*?)[-_. ]*[0-9]*\.tape", re.DOTALL)
-# So many groups have a line of their own; the rarer ones stand together in one more.
+# So many groups have a line of their own; the rarer ones stand together in one more. So many tapes of each verdict are listed.
 MOST_GROUPS = 150
+LISTED = {"FAIL": 900, "INCONCLUSIVE": 350, "UNREADABLE": 350}
 
 
 class Night(NamedTuple):
@@ -49,7 +51,7 @@ class Group(NamedTuple):
 
 
 def finding(line):
-    return line.verdict, line.place, line.code, line.zeros
+    return Finding(line.verdict, line.place, line.code, line.zeros)
 
 
 def gathered(lines):
@@ -129,6 +131,16 @@ def groups(night, verdict):
     if not rare:
         return made
     return made[:MOST_GROUPS] + [Group(f"{len(rare)} rarer causes together", [tape for group in rare for tape in group.tapes], True)]
+
+
+def opened(night):
+    """The groups of each verdict, each with those of its tapes that are listed."""
+    made = {}
+    for verdict, most in LISTED.items():
+        found = groups(night, verdict)
+        listed = share([len(group.tapes) for group in found], most)
+        made[verdict] = [(group, group.tapes[:listed]) for group in found]
+    return made
 
 
 def share(sizes, most):

@@ -114,8 +114,8 @@ def pieces_of(told, other):
 
 
 def explained(line):
-    """What is said of one tape where its group is opened: pairs of a label and pieces of text, each with whether it is to be marked. The
-    lines of bin/explain can be put in here."""
+    """What is said of a tape that is not explained, where its group is opened: pairs of a label and pieces of text, each with whether it
+    is to be marked."""
     if line.verdict == "FAIL":
         beside = line.due if line.due.get("bytes") else line.stood
         return [("due", pieces_of(line.due, line.stood)), ("stood there", pieces_of(line.stood, beside))]

@@ -33,7 +33,7 @@ class Told(NamedTuple):
 
 class Explained(NamedTuple):
     """All that is said of a tape beside its finding. `notes` are lines with a label; `zeros` are those list entries that were zeros for
-    want of a value, each with its list, or None where they could not be accounted for."""
+    want of a value, each with its list, or None where they could not be accounted for; `meaning` is what such a verdict says."""
     before: int = 0
     entries: list = []
     zeros: Optional[list] = []
@@ -43,6 +43,7 @@ class Explained(NamedTuple):
     because: list = []
     underived: Optional[str] = None
     notes: list = []
+    meaning: str = ""
 
 
 def hidden(found, hider):
@@ -218,4 +219,4 @@ def explain(judge, judged, recover_words, last, show):
     else:
         found = damaged(judge.copy, judged, recover_words)
     meaning = NO_BEGINNING if verdict == "FAIL" and judged.finding.place == 0 else MEANING[verdict]
-    return found._replace(notes=[*found.notes, ("meaning", meaning)])
+    return found._replace(meaning=meaning)

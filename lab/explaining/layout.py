@@ -102,13 +102,13 @@ def zeros_note(finding, zeros):
 DISPLAY = "verdict, place, code, zeros and due are the proved programs' words; everything else is display"
 
 
-def text_lines(name, judged, found):
-    """All lines of a tape: text and style."""
-    finding = judged.finding
-    session = "" if judged.session is None else f", session {judged.session}"
-    lines = [(f"{name}: {headline(finding)}", finding.verdict)]
-    notes = [("tape", f"{count(judged.size, 'byte')}{session}, sha256 {judged.sha256}")]
-    lines += [(line, "quiet") for label, text in notes for line in wrapped(f"{NOTE}{label:<11}", text)]
+def note_lines(notes, style=""):
+    return [(line, style) for label, text in notes for line in wrapped(f"{NOTE}{label:<11}", text)]
+
+
+def body_lines(finding, found):
+    """What is said of this tape and of no other: the lines between its name and what such a verdict means. Text and style."""
+    lines = []
     if found.before:
         lines.append((f"      ..       {count(found.before, 'entry', 'entries')} before (--last 0 shows them)", "quiet"))
     for told in found.entries:
@@ -117,9 +117,17 @@ def text_lines(name, judged, found):
         lines += failure_lines(found)
     elif found.due:
         lines += side_lines("due", found.due, set(), set()) + why_lines(found)
-    notes = [*zeros_note(finding, found.zeros), *found.notes, *([("note", DISPLAY)] if found.stood or found.because else [])]
-    lines += [(line, "") for label, text in notes for line in wrapped(f"{NOTE}{label:<11}", text)]
-    return lines
+    return lines + note_lines([*zeros_note(finding, found.zeros), *found.notes])
+
+
+def text_lines(name, judged, found):
+    """All lines of a tape: text and style."""
+    finding = judged.finding
+    session = "" if judged.session is None else f", session {judged.session}"
+    lines = [(f"{name}: {headline(finding)}", finding.verdict)]
+    lines += note_lines([("tape", f"{count(judged.size, 'byte')}{session}, sha256 {judged.sha256}")], "quiet")
+    lines += body_lines(finding, found)
+    return lines + note_lines([("meaning", found.meaning), *([("note", DISPLAY)] if found.stood or found.because else [])])
 
 
 def painted(lines, colour):

@@ -22,6 +22,7 @@ def told_record(told):
 def record(judged, found, judge):
     """A tape as one object; its fields are those of FIELDS."""
     finding = judged.finding
+    notes = [*zeros_note(finding, found.zeros), *found.notes, ("meaning", found.meaning)]
     made = {"tape": text(judged.name), "bytes": judged.size, "session": judged.session, "sha256": judged.sha256, "judge": judge,
             "verdict": finding.verdict, "place": finding.place, "code": finding.code, "zeros": finding.zeros,
             "entries": [{"index": told.index, **told_record(told)} for told in found.entries],
@@ -30,7 +31,7 @@ def record(judged, found, judge):
                         for one in found.differs],
             "because": [{"about": about, "words": why} for about, why in found.because], "underived": found.underived,
             "zeros_of": found.zeros and [{"list": tag, "tag": one.tag, "length": len(one.value)} for tag, one in found.zeros],
-            "notes": [{"label": label, "words": words} for label, words in [*zeros_note(finding, found.zeros), *found.notes]]}
+            "notes": [{"label": label, "words": words} for label, words in notes]}
     try:
         judged.name.decode("utf-8")
     except UnicodeDecodeError:
