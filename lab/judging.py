@@ -15,7 +15,7 @@ TOGETHER, AHEAD = 16, 4
 
 
 class Judged(NamedTuple):
-    """What came of a tape: a finding, or why there is none."""
+    """What came of a tape: a finding, or why there is none. `masked`: what was due and what stood there show no account number."""
     name: bytes
     number: Optional[int] = None
     session: Optional[int] = None
@@ -26,13 +26,16 @@ class Judged(NamedTuple):
     known: bool = False
     due: Optional[dict] = None
     stood: Optional[dict] = None
+    masked: bool = False
 
 
 class Judge:
     """One `lab_tapes` with a place for the tape at hand."""
 
-    def __init__(self, words, with_due=False):
+    def __init__(self, words, with_due=False, then=None):
+        """`then` is handed the judge and each tape that has its verdict, while the judge holds it, and says what is made of it."""
         self.words, self.copy, self.talk, self.with_due, self.told = words, files.Copy(), None, with_due, []
+        self.then = then
 
     def judge(self, name, number, known):
         """`known` is asked, with name, number and sha256, whether the finding is there already."""
@@ -48,10 +51,11 @@ class Judge:
         if old:
             return have._replace(finding=old, known=True)
         try:
-            return self.answered(have, place)
+            judged = self.answered(have, place)
         except programs.Ended as why:
             self.talk = None
             return have._replace(error=f"no verdict: {PROGRAM} ended without an answer ({why})")
+        return self.then(self, judged) if self.then and not judged.error else judged
 
     def answered(self, have, place):
         if self.talk is None:
@@ -90,12 +94,12 @@ class Judge:
 class Judges:
     """Judges side by side."""
 
-    def __init__(self, jobs=None, known=None, with_due=False):
+    def __init__(self, jobs=None, known=None, with_due=False, then=None):
         [words] = programs.ready(PROGRAM)
         self.count = jobs or os.cpu_count() or 1
         self.known = known
         self.free = queue.SimpleQueue()
-        self.all = [Judge(words, with_due) for _ in range(self.count)]
+        self.all = [Judge(words, with_due, then) for _ in range(self.count)]
         for judge in self.all:
             self.free.put(judge)
         self.threads = concurrent.futures.ThreadPoolExecutor(self.count)

@@ -160,7 +160,7 @@ def tape_lines(tape, with_cause, explained):
         lines = "\n".join(f"<b>{safe(line)}</b>" if marked else safe(line) for line, marked in told.lines)
         return f'{head}<code class="whole">{lines}</code></li>'
     made = []
-    for label, pieces in [*report_words.explained(tape), *([("unexplained", [(told.why[:150], False)])] if told else [])]:
+    for label, pieces in [*report_words.in_line(tape), *([("unexplained", [(told.why[:150], False)])] if told else [])]:
         shown = " ".join(f"<mark>{safe(piece)}</mark>" if marked else safe(piece) for piece, marked in pieces)
         made.append(f"<div><i>{label}</i> <code>{shown}</code></div>")
     return f"{head}{''.join(made)}</li>"

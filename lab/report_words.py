@@ -1,4 +1,5 @@
-"""What a report says of a tape in words. What was due is the proved program's word, what stood there the tape's own bytes."""
+"""What a report says of a tape in words, from its line alone. What was due is the proved program's word, what stood there the tape's own
+bytes, both with stars for digits of account numbers; where a line has them whole, no bytes are shown."""
 from lab.explaining.names import CRYPTOGRAMS, OUTCOMES
 from lab.verdicts import COUNTED
 
@@ -16,23 +17,30 @@ MEANINGS = {"PASS": "a finished session, and every entry of it is the one that t
 WAITED = {"ANSWER": "the card's answer", "HOST": "the issuer's word (HOST)", "START": "the terminal's data (START): the tape is empty"}
 
 
-def bytes_of(entry):
-    return bytes.fromhex(entry.get("bytes", ""))
+def octets_of(told):
+    """An entry's bytes, two digits each; either may be a star."""
+    digits = told.get("bytes", "")
+    return [digits[k:k + 2] for k in range(0, len(digits), 2)]
+
+
+def number(digits):
+    """The number that two digits are; None where they are not two, or hidden."""
+    return int(digits, 16) if len(digits) == 2 and "*" not in digits else None
 
 
 def command(head):
     name = COMMANDS.get(head[:4], "that is none of the four")
     if name != "GENERATE AC":
         return "COMMAND " + name
-    request = int(head[4:6], 16) if len(head) == 6 else None
-    return f"COMMAND GENERATE AC ({CRYPTOGRAMS.get(request, 'no cryptogram')})"
+    return f"COMMAND GENERATE AC ({CRYPTOGRAMS.get(number(head[4:6]), 'no cryptogram')})"
 
 
 def decision(digits):
     if len(digits) != 18:
         return f"DECISION of {len(digits) // 2} bytes"
-    reason = int(digits[2:4], 16)
-    return f"DECISION {OUTCOMES.get(int(digits[:2], 16), 'with no outcome')}" + (f", reason {reason}" if reason or digits[:2] == "03" else "")
+    reason = number(digits[2:4])
+    said = f", reason {digits[2:4] if reason is None else reason}" if reason != 0 or digits[:2] == "03" else ""
+    return f"DECISION {OUTCOMES.get(number(digits[:2]), 'with no outcome')}{said}"
 
 
 def entry(told):
@@ -52,7 +60,7 @@ def entry(told):
 def otherwise(due, stood):
     """How two entries differ that are the same in words."""
     if due["kind"] == "DECISION":
-        a, b = bytes_of(due), bytes_of(stood)
+        a, b = octets_of(due), octets_of(stood)
         parts = [name for name, first, last in (("TVR", 2, 7), ("TSI", 7, 9)) if a[first:last] != b[first:last]]
         return "with another " + " and another ".join(parts) if parts and len(b) == 9 else "with other bytes"
     if due["kind"] == "COMMAND":
@@ -83,7 +91,7 @@ WINDOW = 36
 
 
 def window(data, other):
-    """So much of some bytes as can be read at a glance, the first that differs from the other's within it: its place, and the bytes."""
+    """So much of some octets as can be read at a glance, the first that differs from the other's within it: its place, and the octets."""
     if len(data) <= WINDOW:
         return 0, data
     differs = next((k for k, (a, b) in enumerate(zip(data, other)) if a != b), min(len(data), len(other)))
@@ -92,15 +100,15 @@ def window(data, other):
 
 
 def compared(data, other):
-    """Bytes in hexadecimal in pieces, each with whether it differs from what the other has there; dots stand for what is left out."""
+    """Octets in pieces, each with whether it differs from what the other has there; dots stand for what is left out."""
     first, part = window(data, other)
     pieces = []
-    for k, byte in enumerate(part, first):
-        differs = k >= len(other) or other[k] != byte
+    for k, octet in enumerate(part, first):
+        differs = k >= len(other) or other[k] != octet
         if pieces and pieces[-1][1] == differs:
-            pieces[-1] = (f"{pieces[-1][0]} {byte:02X}", differs)
+            pieces[-1] = (f"{pieces[-1][0]} {octet}", differs)
         else:
-            pieces.append((f"{byte:02X}", differs))
+            pieces.append((octet, differs))
     if first:
         pieces.insert(0, (f"from byte {first} ..", False))
     if first + len(part) < len(data):
@@ -108,17 +116,24 @@ def compared(data, other):
     return pieces
 
 
-def pieces_of(told, other):
-    """An entry's bytes beside another's; its words where it has none."""
-    return compared(bytes_of(told), bytes_of(other)) if told.get("bytes") else [(entry(told), False)]
+NOT_MASKED = "bytes, not shown: the list may have account numbers whole"
+HIDDEN_ALONE = "in digits that are hidden, and nowhere else"
 
 
-def explained(line):
+def pieces_of(told, other, masked):
+    """An entry's bytes beside another's; its words where it has none, or where they must not be shown."""
+    if not told.get("bytes"):
+        return [(entry(told), False)]
+    return compared(octets_of(told), octets_of(other)) if masked else [(f"{entry(told)}, {len(told['bytes']) // 2} {NOT_MASKED}", False)]
+
+
+def in_line(line):
     """What is said of a tape that is not explained, where its group is opened: pairs of a label and pieces of text, each with whether it
     is to be marked."""
     if line.verdict == "FAIL":
         beside = line.due if line.due.get("bytes") else line.stood
-        return [("due", pieces_of(line.due, line.stood)), ("stood there", pieces_of(line.stood, beside))]
+        alone = [("differs", [(HIDDEN_ALONE, False)])] if line.masked and line.due == line.stood else []
+        return [("due", pieces_of(line.due, line.stood, line.masked)), ("stood there", pieces_of(line.stood, beside, line.masked)), *alone]
     if line.verdict == "INCONCLUSIVE":
-        return [("waited for", pieces_of(line.due, line.due))]
+        return [("waited for", pieces_of(line.due, line.due, line.masked))]
     return [("damaged", [(f"block {line.place} of {line.size // 512}, {line.size:,} bytes in all: {CODES[line.code]}", False)])]

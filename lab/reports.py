@@ -18,13 +18,16 @@ def line(judged):
 
 
 def record(judged, judge):
-    """A tape as a member of JSON Lines. Where a name is no UTF-8, its bytes stand beside it in hexadecimal."""
+    """A tape as a member of JSON Lines. Where a name is no UTF-8, its bytes stand beside it in hexadecimal; where bytes of an entry are
+    told, it is said whether account numbers in them are masked."""
     found = judged.finding
     values = (text(judged.name), judged.number, judged.session, judged.size, judged.sha256, *(found or ("ERROR", None, None, None)), judge)
     made = dict(zip(MEMBERS, values))
     for member in ("due", "stood"):
         if getattr(judged, member) is not None:
             made[member] = getattr(judged, member)
+            if "bytes" in made[member]:
+                made["pan"] = "masked" if judged.masked else "whole"
     if judged.error:
         made["error"] = judged.error
     try:

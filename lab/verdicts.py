@@ -15,18 +15,19 @@ VERDICTS = ("PASS", "FAIL", "INCONCLUSIVE", "UNREADABLE")
 CODES = range(1, 10)
 LARGEST = 2 ** 64 - 1
 SHA256 = re.compile(r"[0-9a-f]{64}")
-DIGITS = re.compile(r"[0-9A-F]*")
+DIGITS = {"masked": re.compile(r"[0-9A-F*]*"), "whole": re.compile(r"[0-9A-F]*")}
 NO_KIND = re.compile(r"kind [0-9]{1,3}")
 KINDS = kinds.WORDS
 COUNTED = tuple(kind.name for kind in kinds.KINDS if kind.told == kinds.COUNT)
 TOLD = ("COMMAND", "DECISION")
 IN_ORDER = operator.itemgetter(*MEMBERS[1:])
 NEEDED = set(MEMBERS)
-KNOWN = NEEDED | {"due", "stood", "error", "tape_hex"}
+KNOWN = NEEDED | {"due", "stood", "pan", "error", "tape_hex"}
 
 
 class Line(NamedTuple):
-    """What one line says. The verdict is one of the four, or ERROR, where place, code and zeros are None."""
+    """What one line says. The verdict is one of the four, or ERROR, where place, code and zeros are None. `masked`: the bytes of `due` and
+    `stood` show no account number; a line that does not say so may have them whole."""
     name: bytes
     number: Optional[int]
     session: Optional[int]
@@ -39,6 +40,7 @@ class Line(NamedTuple):
     judge: str
     due: Optional[dict]
     stood: Optional[dict]
+    masked: bool
     error: Optional[str]
 
 
@@ -87,25 +89,36 @@ def name_of(told):
     return name
 
 
-def are_bytes(value):
-    return type(value) is str and len(value) % 2 == 0 and DIGITS.fullmatch(value)
+def are_bytes(value, pan):
+    return type(value) is str and len(value) % 2 == 0 and DIGITS[pan].fullmatch(value)
 
 
-def check_due(due):
+def check_due(due, pan):
     """What lab_tapes says is due: a kind, with its bytes or with how many are wanted where it tells them."""
     must(type(due) is dict and due.get("kind") in ("NOTHING", *KINDS), "due is no entry")
     if due["kind"] in TOLD:
-        must(set(due) == {"kind", "bytes"} and are_bytes(due["bytes"]), "due has no bytes")
+        must(set(due) == {"kind", "bytes"} and are_bytes(due["bytes"], pan), "due has no bytes")
     elif due["kind"] in COUNTED:
         must(set(due) == {"kind", "count"} and is_number(due["count"], MOST), "due has no count")
     else:
         must(set(due) == {"kind"}, "due has more than a kind")
 
 
-def check_stood(stood):
+def check_stood(stood, pan):
     must(type(stood) is dict and set(stood) == {"kind", "bytes"} and type(stood["kind"]) is str, "stood is no entry")
     must(stood["kind"] in KINDS or NO_KIND.fullmatch(stood["kind"]), "stood has no kind")
-    must(are_bytes(stood["bytes"]), "stood has no bytes")
+    must(are_bytes(stood["bytes"], pan), "stood has no bytes")
+
+
+def check_entries(told):
+    """What was due and what stood there, and whether account numbers are masked in their bytes: a line that does not say so has none."""
+    pan = told.get("pan", "whole")
+    must(type(pan) is str and pan in DIGITS, "pan is neither masked nor whole")
+    if "due" in told:
+        check_due(told["due"], pan)
+    if "stood" in told:
+        check_stood(told["stood"], pan)
+    must("pan" not in told or any("bytes" in told.get(one, ()) for one in ("due", "stood")), "pan, and no bytes to have one")
 
 
 def check_finding(told, verdict):
@@ -118,10 +131,7 @@ def check_finding(told, verdict):
         must(told["code"] == 0, "a code without UNREADABLE")
     must(("due" in told) == (verdict in ("FAIL", "INCONCLUSIVE")) and ("stood" in told) == (verdict == "FAIL"),
          "what was due or what stood there is missing, or stands where none is told; judge the tapes again into a new list")
-    if "due" in told:
-        check_due(told["due"])
-    if "stood" in told:
-        check_stood(told["stood"])
+    check_entries(told)
 
 
 def line_of(row):
@@ -142,11 +152,11 @@ def line_of(row):
         must(type(told["sha256"]) is str and SHA256.fullmatch(told["sha256"]), "sha256 is none")
     must(("error" in told) == (verdict == "ERROR"), "ERROR without a word, or a word without ERROR")
     if verdict == "ERROR":
-        must(type(told["error"]) is str and told["error"] and not {"due", "stood"} & set(told), "ERROR with what is no error's")
+        must(type(told["error"]) is str and told["error"] and not {"due", "stood", "pan"} & set(told), "ERROR with what is no error's")
         must((told["place"], told["code"], told["zeros"]) == (None, None, None), "ERROR with a place, a code or zeros")
     else:
         check_finding(told, verdict)
-    return Line(name_of(told), *IN_ORDER(told), told.get("due"), told.get("stood"), told.get("error"))
+    return Line(name_of(told), *IN_ORDER(told), told.get("due"), told.get("stood"), told.get("pan") == "masked", told.get("error"))
 
 
 def read(name):

@@ -4,11 +4,12 @@ import sys
 import time
 
 from lab import judging, numbers, programs, reports
+from lab.explaining.explained import masked
 from lab.words import NOT_ALL, UNDONE, Undone, command, shown, voice
 
 USAGE = """
-bin/judge [--jsonl FILE] [--junit FILE] [--jobs N] NAME ..    judges tapes
-bin/judge [..] --samples                                      judges the bundled samples; so does bin/judge alone
+bin/judge [--jsonl FILE [--show-pan]] [--junit FILE] [--jobs N] NAME ..    judges tapes
+bin/judge [..] --samples    judges the bundled samples; so does bin/judge alone
 
 NAME is a file, a folder (every *.tape below it), or - for names on standard input, a line each or with a zero byte behind each.
 A line a tape, in the order asked: name, verdict, place, code, and how many list entries were filled with zeros. The place is the number
@@ -17,7 +18,9 @@ backslash, the line begins with a backslash and they stand as \\n and \\\\.
 
 --jsonl FILE  a JSON object a line: tape, number, session, bytes, sha256, verdict, place, code, zeros, judge; of a FAIL what was due at its
               place (due) and what stood there (stood), of an INCONCLUSIVE what was waited for (due). Where FILE is there it is gone on
-              with: a tape that stands in it with the same sha256 by the same judge is not judged again
+              with: a tape that stands in it with the same sha256 by the same judge is not judged again. Digits of account numbers are
+              stars in the bytes of due and stood, as bin/explain shows them, and pan says so
+--show-pan    .. account numbers whole: for a list that stays where the tapes are
 --junit FILE  a report for build servers: FAIL is a failure, anything else that is not PASS an error
 --jobs N      so many judges side by side; as many as processors if not said
 
@@ -89,6 +92,8 @@ def main(asked):
     jobs, names = jobs_asked(asked), names_asked(asked)
     if not names:
         return voice.worse(UNDONE)
+    if asked.get("--show-pan") and not asked.get("--jsonl"):
+        raise Undone("--show-pan is for --jsonl: the lines here have no bytes of a tape")
     programs.ready(judging.PROGRAM)
     lines = junit = None
     if asked.get("--jsonl"):
@@ -96,7 +101,8 @@ def main(asked):
     if asked.get("--junit"):
         junit = reports.JUnit(asked.get("--junit"))
     run = Run(len(names), lines, junit)
-    with judging.Judges(jobs, lines and lines.finding, with_due=lines is not None) as judges:
+    then = masked if lines and not asked.get("--show-pan") else None
+    with judging.Judges(jobs, lines and lines.finding, with_due=lines is not None, then=then) as judges:
         for some in judges.in_order(judging.with_numbers(names)):
             for judged in some:
                 run.take(judged)
@@ -110,4 +116,4 @@ def main(asked):
 
 
 def start():
-    command(USAGE, [judging.PROGRAM], main, flags=("--samples",), valued=("--jsonl", "--junit", "--jobs"))
+    command(USAGE, [judging.PROGRAM], main, flags=("--samples", "--show-pan"), valued=("--jsonl", "--junit", "--jobs"))

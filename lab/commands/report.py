@@ -16,7 +16,7 @@ tapes by what was waited for, damaged ones by code, and where all of it comes fr
 Each cause opens to tapes with the lines of bin/explain. For these the files are opened that the list names, as seen from here: a tape is
 explained where its file is there, has the sha256 of the line and is judged as the line says. A file that is not there is said, and the
 tape told from the list alone; one that has changed, or is judged otherwise now, is said at the top too, and the status is 2. Up to {}
-tapes are explained, the first of each cause before the second of any; each list says how many are not.
+tapes are explained, the first of each cause before the second of any; each list says how many are not. No account number is shown whole.
 The same list and the same tapes give the same file, byte for byte.
 
 --by folder    a tape belongs to the terminal that its folder is named after, without what all folders have in common; so if not said

@@ -197,6 +197,21 @@ def damaged(copy, judged, words):
     return Explained(notes=notes)
 
 
+def masked(judge, judged):
+    """The same with stars for account numbers in what was due and what stood there, as they are shown everywhere; for `then` of a judge.
+    Where the display fails there are stars for all of it: what cannot be looked at is not handed on."""
+    if not any(told and "bytes" in told for told in (judged.due, judged.stood)):
+        return judged
+    try:
+        found = failed(judge.copy, judged, 1, False) if judged.stood else open_tape(judge.copy, judged, judge.told, 1, False)
+    except Exception:
+        found = Explained()
+
+    def starred(told, shown):
+        return {**told, "bytes": "".join(shown.octets) if shown else "*" * len(told["bytes"])} if told and "bytes" in told else told
+    return judged._replace(due=starred(judged.due, found.due), stood=starred(judged.stood, found.stood), masked=True)
+
+
 def left_in_words(left):
     """What `recover_tape` finds."""
     said = f"{left.found} of {count(left.steps, 'block')} good by {'itself' if left.steps == 1 else 'themselves'}"

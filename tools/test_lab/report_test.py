@@ -25,7 +25,7 @@ def finding(name, verdict="PASS", /, **more):
             "sha256": hashlib.sha256(data).hexdigest(), "verdict": verdict, "place": 12, "code": 0, "zeros": 0,
             "judge": "0123456789ab 89abcdef01234567"}
     if verdict == "FAIL":
-        made.update(place=1, due=DUE, stood=STOOD)
+        made.update(place=1, due=DUE, stood=STOOD, pan="masked")
     elif verdict == "INCONCLUSIVE":
         made.update(place=8, due={"kind": "ANSWER"})
     elif verdict == "UNREADABLE":
@@ -196,6 +196,10 @@ class Lines(ReportTrial):
                  ("FAIL", dict(due={"kind": "COMMAND", "bytes": "0"})), ("FAIL", dict(due={"kind": "COMMAND", "bytes": "zz"})),
                  ("FAIL", dict(due={"kind": "RESULTS", "bytes": "00"})), ("FAIL", dict(stood={"kind": "COMMAND"})),
                  ("FAIL", dict(stood={"kind": "kind x", "bytes": ""})), ("FAIL", dict(stood={"kind": "COMMAND", "bytes": None})),
+                 ("FAIL", dict(pan="hidden")), ("FAIL", dict(pan=None)), ("FAIL", dict(pan=["masked"])), ("PASS", dict(pan="masked")),
+                 ("FAIL", dict(pan="whole", due={"kind": "COMMAND", "bytes": "0*"})), ("INCONCLUSIVE", dict(pan="whole")),
+                 ("FAIL", dict(pan="LEFT OUT", stood={"kind": "COMMAND", "bytes": "**"})), ("ERROR", dict(pan="masked")),
+                 ("FAIL", dict(due={"kind": "COMMAND", "bytes": "***"})), ("FAIL", dict(due={"kind": "COMMAND", "bytes": "*x"})),
                  ("INCONCLUSIVE", dict(stood=STOOD)), ("INCONCLUSIVE", dict(due="LEFT OUT")), ("ERROR", dict(error="")),
                  ("ERROR", dict(error="LEFT OUT")), ("ERROR", dict(place=0)), ("ERROR", dict(due={"kind": "ANSWER"}))]
         wrong = [finding("a/2.tape", verdict, **changed) for verdict, changed in wrong]
@@ -204,6 +208,9 @@ class Lines(ReportTrial):
             with self.subTest(one=one), self.assertRaises(ValueError):
                 line_of(json.dumps(one).encode() + b"\n")
         self.refused(2, finding("a/1.tape"), wrong[0])
+        for masked, stars in (("masked", "00**"), ("whole", "0000"), ("LEFT OUT", "0000")):
+            told = finding("a", "FAIL", pan=masked, due={"kind": "COMMAND", "bytes": stars})
+            self.assertEqual(line_of(json.dumps(told).encode() + b"\n").masked, masked == "masked")
         for verdict in ("PASS", "FAIL", "INCONCLUSIVE", "UNREADABLE", "ERROR"):
             self.assertEqual(line_of(json.dumps(finding(b"a\xff", verdict)).encode() + b"\n")[:2], (b"a\xff", None))
 
