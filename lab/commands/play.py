@@ -10,6 +10,21 @@ bin/play [[--over] TAPE [SESSION]]    the kernel, a line each way: START, ANSWER
 TAPE is a file for the tape, SESSION its number (0 if not said). A file that is there is refused, unless --over says that it may be
 written over. A block is on the disk before the line that it belongs to is said.
 
+In, with bytes in hexadecimal; each is answered with one line before the next is read:
+    START bytes     the terminal's data, as bin/start makes it
+    ANSWER bytes    the card's answer, its status bytes included
+    SILENCE         the card gave none
+    HOST bytes      the issuer's word
+    RESULTS bytes   of cardholder verification, a byte for each rule of the card's list
+Out:
+    COMMAND bytes   for the card
+    HOST            the issuer's word is due
+    RESULTS n       so many results are due
+    DECISION bytes  outcome, reason, TVR and TSI
+    CLOSED          the session is over without one
+    REFUSED n       by number n of 01's table; nothing has changed
+    ERROR words     what is wrong with the line
+
 Example:  bin/play /tmp/session.tape 7 < samples/online-pin.script
 Status:   2 where it could not be started; else 0, which says nothing: where a line or a block cannot be written, the program says so on
           standard error and stops before the line
