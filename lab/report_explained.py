@@ -89,7 +89,8 @@ class Explainer:
             found = explain(self.judge, judged, self.recover, LAST, show=False)
             return [(line, style == "wrong") for line, style in layout.body_lines(judged.finding, found)]
         except Exception as error:
-            raise NotTold(UNABLE, f"could not be explained: {type(error).__name__}: {error}") from None
+            # Its own words may hold bytes of the tape.
+            raise NotTold(UNABLE, f"could not be explained: {type(error).__name__}") from None
 
     def take(self, tape):
         try:

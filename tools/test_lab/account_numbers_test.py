@@ -76,6 +76,16 @@ class AccountNumbers(Explaining):
             made = explained.masked(mock.Mock(), judged)
         self.assertEqual((made.due["bytes"], made.stood["bytes"], made.masked), ("*" * 16, "*" * 16, True))
 
+    def test_in_the_words_of_a_fault(self):
+        from lab import report_explained, report_tapes, verdicts
+        self.night(one=self.with_number((HOST, bytes.fromhex(NUMBER))))
+        os.chdir(self.folder)
+        self.addCleanup(os.chdir, "/")
+        night = report_tapes.gathered(verdicts.read(b"night.jsonl").lines)
+        with mock.patch.object(report_explained, "explain", side_effect=ValueError(NUMBER)):
+            made = report_explained.explained(report_tapes.opened(night))
+        self.assertEqual(made.of(report_explained.UNABLE), [(b"t/one.tape", "could not be explained: ValueError")])
+
     def test_entries_that_differ_in_hidden_digits_alone(self):
         command = bytes.fromhex("80AE400011" + "4761739002010010" + "8000000000" + "1A2B3C4D" + "00")
         text = self.night("--list-only", one=self.with_number((COMMAND, command)))
