@@ -16,7 +16,7 @@ use Rattle.rulebook.specs.Turn.{turn, after}
 use Rattle.rulebook.specs.Stated as today
 use Rattle.rulebook.proofs.Growing as grown
 use Rattle.verdict_editions.specs.Later.{AskedLater, HeardLater, asWas, turnLater, afterLater}
-use Rattle.rulebook_choosing.specs.Start.{isListing}
+use Rattle.start_choosing.specs.Start.{isListing}
 use Rattle.rulebook_choosing.specs.Choosing.{Choosing, ChoosingPhase, further, listed}
 use Rattle.rulebook_choosing.specs.Session.{rules, Reads}
 use Rattle.rulebook_choosing.specs.Stated.{GoesOn, asked, shown, ran, ended, Takes, sent, stopped, tvrIn, tsiIn, Grows, Growing}

@@ -12,7 +12,7 @@ use Rattle.sessions.specs.Session.{exchanged, heard, decided}
 use Rattle.rulebook.specs.Phase.{terminal}
 use Rattle.rulebook.specs.Turn.{after, opened}
 use Rattle.verdict_editions.specs.Later.{AskedLater, HeardLater, asWas, turnLater, afterLater}
-use Rattle.rulebook_choosing.specs.Start.{isListing}
+use Rattle.start_choosing.specs.Start.{isListing}
 use Rattle.rulebook_choosing.specs.Choosing.{Choosing, ChoosingPhase, further, listed}
 use Rattle.rulebook_choosing.specs.Session.{rules, Plays}
 use Rattle.rulebook_choosing.specs.Stated.{exchangesOf, GoesOn, asked, shown, ran, ended, Takes, sent, stopped}

@@ -25,7 +25,7 @@ use Rattle.rulebook.proofs.Said.{other-kinds, sample, sample-valid, sample-payl
 use Rattle.rulebook.proofs.Coming as today
 use Rattle.rulebook.proofs.Passing.{Holds, anything-lasts, turn-holds, after-holds}
 use Rattle.verdict_editions.specs.Later.{AskedLater, HeardLater, asWas, turnLater, kindLater, allowedLater, afterLater}
-use Rattle.rulebook_choosing.specs.Start.{isListing}
+use Rattle.start_choosing.specs.Start.{isListing}
 use Rattle.rulebook_choosing.specs.Choosing.{Choosing, ChoosingPhase, further, mayChoose, isChoice, listed}
 use Rattle.rulebook_choosing.specs.Session.{rules, longest}
 use Rattle.rulebook_choosing.specs.Stated.{exchangesOf, GoesOn, asked, shown, ran, ended, Takes, sent, stopped}

@@ -26,7 +26,7 @@ use Rattle.rulebook.specs.Situation.{Situation}
 use Rattle.rulebook.specs.Phase.{decisionOf}
 use Rattle.rulebook.specs.Turn.{after}
 use Rattle.verdict_editions.specs.Later.{AskedLater, turnLater, allowedLater, afterLater}
-use Rattle.rulebook_choosing.specs.Start.{isListing}
+use Rattle.start_choosing.specs.Start.{isListing}
 use Rattle.rulebook_choosing.specs.Choosing.{Choosing, ChoosingPhase, further, following, searched, listed}
 use Rattle.rulebook_choosing.specs.Session.{Plays, Session}
 use Rattle.rulebook_choosing.specs.Nobody.{AnswersAll, EndsWith, NobodyFound}

@@ -26,7 +26,7 @@ use Rattle.verdict_editions.specs.Later.{Earlier}
 use Rattle.verdict_editions.proofs.Later.{judged-as-it-was}
 use Rattle.rulebook.proofs.Said.{sample}
 use Rattle.rulebook.proofs.Kept.{sample-session}
-use Rattle.rulebook_choosing.specs.Start.{isListing}
+use Rattle.start_choosing.specs.Start.{isListing}
 use Rattle.rulebook_choosing.specs.Choosing.{Choosing, ChoosingPhase, searched, chose, choosing}
 use Rattle.rulebook_choosing.specs.Session.{rules, longest, Plays, Session, Beginning, Open, Lawful, BreaksAt, Reads}
 use Rattle.rulebook_choosing.specs.Stated.{GoesOn, Takes, actsOf, Hundred, Growing}

@@ -1,5 +1,4 @@
 -- The rules with choosing the application: document 02, R-12.
-pub mod Start
 pub mod Choosing
 pub mod Session
 pub mod Stated

@@ -5,8 +5,10 @@ use mathlib.Core.List.{List, [], _∷_, _++_}
 use Prim.Native.Nat.{ℕ, _+_}
 use lib.Dec.{eqb}
 use lib.ListN.{length, take, drop}
+use Rattle.slices.specs.Choice.{pick}
 use Rattle.slices.specs.Tests.{every}
-use Rattle.start_fields.specs.Layout.{aidLengthAt, aidRoom, sizeOf}
+use Rattle.slices.specs.Writing.{zeros}
+use Rattle.start_fields.specs.Layout.{aidLengthAt, aidRoom, fullLength, sizeOf}
 use Rattle.start_fields.specs.declared.fields.Field.the-variants.{Capabilities}
 use Rattle.start_valid.specs.Start.{validStart}
 use Rattle.start_list.specs.Listing.{fieldsAt}
@@ -28,6 +30,10 @@ capabilitiesAt = 202
 unfoldable pub withFirstAlone : List ℕ → List ℕ
 withFirstAlone s =
     take aidLengthAt s ++ (take (aidRoom + 1) (drop fieldsAt s) ++ take (sizeOf Capabilities) (drop capabilitiesAt s))
+
+-- the same of any bytes: zeros where they are no such START
+unfoldable pub aloneIn : List ℕ → List ℕ
+aloneIn s = pick (isListing s) (withFirstAlone s) (zeros fullLength)
 
 -- all that 01 asks of a START is asked of that one, and its list must be valid
 unfoldable pub validListing : List ℕ → Bool
