@@ -1,0 +1,2 @@
+-- What stands at a block of a tape, beside what is due there.
+pub mod Meeting
