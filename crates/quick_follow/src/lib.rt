@@ -6,13 +6,13 @@ mod options;
 mod records;
 mod requests;
 
+use numbers::kinds::START;
 use options::from_start;
 use quick_meet::meet::fail;
 use quick_meet::meet::payload_at;
 use quick_meet::meet::stop;
 use quick_meet::meet::word;
 use start_valid::valid_start;
-use tape_read::START;
 use verdict::Finding;
 ghost use mathlib.Core.Path.{_≡_};
 ghost use Rattle.rulebook.specs.Phase.{opens};

@@ -17,7 +17,7 @@ use Rattle.quick_said.proofs.Whole.{code-there, found-right}
 
 -- the promise of a judge
 abbrev pub Right : List ℕ → Finding → Type 0
-Right t f = Judged t (f .answer) × Zeroed t (f .zeros)
+Right t f = Judged t (f .ruling) × Zeroed t (f .zeros)
 
 module _ (t : List ℕ) where
   read-whole : (r : Reading) → readTape t ≡ r → damageSaid r .code ≡ 0 → Right t (foundFrom opens 0 0 t)

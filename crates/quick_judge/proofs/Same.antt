@@ -11,6 +11,6 @@ use Rattle.quick_judge.proofs.Finding.{Right}
 -- verdict, place, code and fourth number
 pub quick-plain : (t : List ℕ) (quick plain : Finding) → Right t quick → Right t plain → quick ≡ plain
 quick-plain t quick plain q p =
-    let answers = judged-once (q .0) (p .0) in
+    let rulings = judged-once (q .0) (p .0) in
     let numbers = zeroed-once t (quick .zeros) (plain .zeros) (q .1) (p .1) in
-    λ i. record { answer = answers i; zeros = numbers i }
+    λ i. record { ruling = rulings i; zeros = numbers i }

@@ -2,8 +2,8 @@
 // its dialogue, in the order of a session. Its promise is the plain judge's, to the letter.
 use quick_check::damage;
 use quick_follow::follow;
-use verdict::Answer;
 use verdict::Finding;
+use verdict::Ruling;
 use verdict::Verdict;
 ghost use mathlib.Core.Path.{_≡_};
 ghost use Rattle.verdict.specs.Saying.{says, finds};
@@ -16,7 +16,7 @@ fn damaged(place: usize, code: usize) -> Finding
     ensures { λ r. ⌜ r ≡ finds (says Said.Unreadable place code) 0 ⌝ }
 {
     Finding {
-        answer: Answer {
+        ruling: Ruling {
             verdict: Verdict::Unreadable,
             place,
             code,
@@ -27,7 +27,7 @@ fn damaged(place: usize, code: usize) -> Finding
 
 // The verdict of any bytes, and the number of list entries filled with zeros.
 pub fn judge(tape: &[u8]) -> Finding
-    ensures verdict { λ r. ⌜ Judged (now (tape .entry)) (r .answer) ⌝ }
+    ensures verdict { λ r. ⌜ Judged (now (tape .entry)) (r .ruling) ⌝ }
     ensures zeros { λ r. ⌜ Zeroed (now (tape .entry)) (r .zeros) ⌝ }
 {
     let why = damage(tape);

@@ -16,7 +16,8 @@ use Rattle.slices.proofs.Choice.{pick-yes, pick-no, either}
 use Rattle.slices.proofs.Comparing.{alike-same, same-alike}
 use Rattle.slices.proofs.Cutting.{none-left}
 use Rattle.tape_crc.proofs.Bytes.{bytes-take, bytes-drop}
-use Rattle.tape_read.specs.Entries.{Entry, entry, command, answer, silence, decision, blockSize}
+use Rattle.numbers.specs.Kinds.{command, answer, silence, decision}
+use Rattle.tape_read.specs.Entries.{Entry, entry, blockSize}
 use Rattle.tape_read.specs.Blocks.{entryIn}
 use Rattle.tape_read.specs.Tapes.{blockAt}
 use Rattle.dol_fill.specs.Filled.{summed}

@@ -10,7 +10,8 @@ use lib.ListN.{length}
 use borrow.Author.Tests.{leb-true, leb-false}
 use Rattle.slices.specs.Tests.{alike}
 use Rattle.slices.proofs.Choice.{pick-yes, pick-no, picked}
-use Rattle.tape_read.specs.Entries.{command, answer, silence, blockSize}
+use Rattle.numbers.specs.Kinds.{command, answer, silence}
+use Rattle.tape_read.specs.Entries.{blockSize}
 use Rattle.verdict.specs.Saying.{finds}
 use Rattle.verdict.specs.declared.Finding.{Finding}
 use Rattle.quick_meet.specs.declared.Met.{Met}

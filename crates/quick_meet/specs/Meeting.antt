@@ -8,7 +8,8 @@ use lib.Dec.{eqb, leb}
 use lib.ListN.{length}
 use Rattle.slices.specs.Choice.{pick}
 use Rattle.slices.specs.Tests.{alike}
-use Rattle.tape_read.specs.Entries.{command, answer, silence, decision, blockSize}
+use Rattle.numbers.specs.Kinds.{command, answer, silence, decision}
+use Rattle.tape_read.specs.Entries.{blockSize}
 use Rattle.tape_read.specs.Blocks.{kindIn, payloadIn}
 use Rattle.tape_read.specs.Tapes.{blockAt}
 use Rattle.verdict.specs.Saying.{says, finds}

@@ -1,16 +1,16 @@
 // One entry, or a command and its answer, beside what is due.
 use crate::Met;
+use numbers::kinds::ANSWER;
+use numbers::kinds::COMMAND;
+use numbers::kinds::DECISION;
+use numbers::kinds::SILENCE;
 use slices::alike;
-use tape_read::ANSWER;
 use tape_read::BLOCK;
-use tape_read::COMMAND;
-use tape_read::DECISION;
-use tape_read::SILENCE;
 use tape_read::block_at;
 use tape_read::kind;
 use tape_read::payload;
-use verdict::Answer;
 use verdict::Finding;
+use verdict::Ruling;
 use verdict::Verdict;
 ghost use mathlib.Core.Path.{_≡_};
 ghost use Prim.Native.Nat.{_+_, _/_, _≤_};
@@ -22,10 +22,10 @@ ghost use Rattle.verdict.specs.declared.Verdict.{Verdict as Said};
 ghost use Rattle.quick_meet.specs.Meeting.{isEnd, stands as standsAt, ends as endsAt, breaks as breaksAt, kindAt, payloadAt};
 ghost use Rattle.quick_meet.specs.Meeting.{wordMet, closedMet, silenceMet, answerMet, exchangeMet, lastMet, decisionMet};
 
-fn said(verdict: Verdict, place: usize) -> Answer
+fn said(verdict: Verdict, place: usize) -> Ruling
     ensures { λ r. ⌜ r ≡ says verdict place 0 ⌝ }
 {
-    Answer {
+    Ruling {
         verdict,
         place,
         code: 0,
@@ -63,8 +63,8 @@ fn breaks(k: usize) -> Met
 pub fn stop(m: Met, zeros: usize) -> Finding
     ensures { λ r. ⌜ r ≡ finds (m .said) zeros ⌝ }
 {
-    let answer = m.said;
-    Finding { answer, zeros }
+    let ruling = m.said;
+    Finding { ruling, zeros }
 }
 
 // The rules are broken at an entry.
@@ -72,7 +72,7 @@ pub fn fail(k: usize, zeros: usize) -> Finding
     ensures { λ r. ⌜ r ≡ finds (says Said.Fail k 0) zeros ⌝ }
 {
     Finding {
-        answer: said(Verdict::Fail, k),
+        ruling: said(Verdict::Fail, k),
         zeros,
     }
 }
@@ -162,7 +162,7 @@ fn last(tape: &[u8], k: usize, zeros: usize) -> Finding
 {
     if is_end(tape, k) {
         return Finding {
-            answer: said(Verdict::Pass, k),
+            ruling: said(Verdict::Pass, k),
             zeros,
         };
     }

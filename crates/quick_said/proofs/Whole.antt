@@ -62,7 +62,7 @@ module _ (t : List ℕ) where
         subst (Held (blocksOf t)) h (held-tape t) ∙ ap (λ (n : ℕ). map entryIn (cut n t)) all
 
     -- the finding of the tape
-    pub found-right : Judged t (foundFrom opens 0 0 t .answer) × Zeroed t (foundFrom opens 0 0 t .zeros)
+    pub found-right : Judged t (foundFrom opens 0 0 t .ruling) × Zeroed t (foundFrom opens 0 0 t .zeros)
     unfolding foundFrom saidFrom zerosAfter newIn unsuppliedIn summed finally verdictOf zerosIn
     found-right =
         let most = zeros-most es in

@@ -11,7 +11,7 @@ use Rattle.words.specs.Words.{wordKind, wordAllowed}
 use Rattle.words.specs.declared.Word.the-variants.{Host}
 use Rattle.decide_requests.specs.Replies.{codeIn, replyOf}
 use Rattle.rulebook.specs.Phase.{says, dueKind}
-use Rattle.rulebook.specs.Turn.{wantedIn, allowed, replyMade, replied, heard, after}
+use Rattle.rulebook.specs.Turn.{wantedIn, allowed, replyMade, replied, issuerReplied, after}
 use Rattle.quick_said.specs.Said.{foundFrom}
 use Rattle.quick_ask.specs.Standing.{situationIn}
 use Rattle.quick_follow.proofs.Going.{heard-stops, heard-fails, heard-goes, heard-inside}
