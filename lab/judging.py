@@ -32,10 +32,11 @@ class Judged(NamedTuple):
 class Judge:
     """One `lab_tapes` with a place for the tape at hand."""
 
-    def __init__(self, words, with_due=False, then=None):
-        """`then` is handed the judge and each tape that has its verdict, while the judge holds it, and says what is made of it."""
+    def __init__(self, words, with_due=False, then=None, plain=False):
+        """`then` is handed the judge and each tape that has its verdict, while the judge holds it, and says what is made of it. `plain`: by the
+        plain judge and not by the quick one; what was due is always said by the plain one, which judges the tape once more."""
         self.words, self.copy, self.talk, self.with_due, self.told = words, files.Copy(), None, with_due, []
-        self.then = then
+        self.then, self.word = then, b"PLAIN " if plain else b"JUDGE "
 
     def judge(self, name, number, known):
         """`known` is asked, with name, number and sha256, whether the finding is there already."""
@@ -60,7 +61,7 @@ class Judge:
     def answered(self, have, place):
         if self.talk is None:
             self.talk = programs.Talk(self.words)
-        answer = self.talk.ask(b"JUDGE " + place + b"\n")
+        answer = self.talk.ask(self.word + place + b"\n")
         end = b" " + place + b"\n"
         if answer.startswith(b"ERROR ") or not answer.endswith(end):
             return have._replace(error="no verdict: " + answer.decode("utf-8", "backslashreplace").strip())
@@ -94,12 +95,12 @@ class Judge:
 class Judges:
     """Judges side by side."""
 
-    def __init__(self, jobs=None, known=None, with_due=False, then=None):
+    def __init__(self, jobs=None, known=None, with_due=False, then=None, plain=False):
         [words] = programs.ready(PROGRAM)
         self.count = jobs or os.cpu_count() or 1
         self.known = known
         self.free = queue.SimpleQueue()
-        self.all = [Judge(words, with_due, then) for _ in range(self.count)]
+        self.all = [Judge(words, with_due, then, plain) for _ in range(self.count)]
         for judge in self.all:
             self.free.put(judge)
         self.threads = concurrent.futures.ThreadPoolExecutor(self.count)

@@ -107,6 +107,7 @@ def main():
     for k, pair in enumerate(errors):
         asked.insert(1 + 3 * k, pair)
     asked.append(asked[0])
+    asked += [(line.replace("JUDGE", "PLAIN", 1), said.replace("JUDGE", "PLAIN", 1)) for line, said in asked if line.startswith("JUDGE")]
     asked += [(f"DUE {name}", "\n".join([*followed[name], f"{lines[name]} {name}"])) for name in names]
     asked += [("DUE missing.tape", "ERROR opening missing.tape"), ("DUE .", "ERROR reading ."), ("DUE", "ERROR word DUE"),
               ("due empty.tape", "ERROR word due empty.tape"), ("DUE ", "ERROR opening ")]

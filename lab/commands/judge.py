@@ -8,7 +8,7 @@ from lab.explaining.explained import masked
 from lab.words import NOT_ALL, UNDONE, Undone, command, shown, voice
 
 USAGE = """
-bin/judge [--jsonl FILE [--show-pan]] [--junit FILE] [--jobs N] NAME ..    judges tapes
+bin/judge [--jsonl FILE [--show-pan]] [--junit FILE] [--jobs N] [--plain] NAME ..    judges tapes
 bin/judge [..] --samples    judges the bundled samples; so does bin/judge alone
 
 NAME is a file, a folder (every *.tape below it), or - for names on standard input, a line each or with a zero byte behind each.
@@ -23,6 +23,8 @@ backslash, the line begins with a backslash and they stand as \\n and \\\\.
 --show-pan    .. account numbers whole: for a list that stays where the tapes are
 --junit FILE  a report for build servers: FAIL is a failure, anything else that is not PASS an error
 --jobs N      so many judges side by side; as many as processors if not said
+--plain       by the plain judge, a block at a time, and not by the quick one; both promise the same. In a list of --jsonl the judge is then
+              another one
 
 Example:  bin/judge --jsonl night.jsonl /data/night
 Status:   0 every tape is PASS; 1 some tape is not; 2 some tape could not be judged, or something could not be written, or nothing was
@@ -96,13 +98,14 @@ def main(asked):
         raise Undone("--show-pan is for --jsonl: the lines here have no bytes of a tape")
     programs.ready(judging.PROGRAM)
     lines = junit = None
+    plain = bool(asked.get("--plain"))
     if asked.get("--jsonl"):
-        lines = reports.JsonLines(asked.get("--jsonl"), programs.judge_version(judging.PROGRAM))
+        lines = reports.JsonLines(asked.get("--jsonl"), programs.judge_version(judging.PROGRAM) + " plain" * plain)
     if asked.get("--junit"):
         junit = reports.JUnit(asked.get("--junit"))
     run = Run(len(names), lines, junit)
     then = masked if lines and not asked.get("--show-pan") else None
-    with judging.Judges(jobs, lines and lines.finding, with_due=lines is not None, then=then) as judges:
+    with judging.Judges(jobs, lines and lines.finding, with_due=lines is not None, then=then, plain=plain) as judges:
         for some in judges.in_order(judging.with_numbers(names)):
             for judged in some:
                 run.take(judged)
@@ -116,4 +119,4 @@ def main(asked):
 
 
 def start():
-    command(USAGE, [judging.PROGRAM], main, flags=("--samples", "--show-pan"), valued=("--jsonl", "--junit", "--jobs"))
+    command(USAGE, [judging.PROGRAM], main, flags=("--samples", "--show-pan", "--plain"), valued=("--jsonl", "--junit", "--jobs"))

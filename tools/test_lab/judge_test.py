@@ -383,6 +383,25 @@ class Lost(Trial):
         self.assertEqual(judge.answered(have, b"/x").finding, ("PASS", 1, 0, 0))
         self.assertEqual(judge.talk.asked, b"JUDGE /x\n")
         judge.copy.close()
+        plain = judging.Judge([], plain=True)
+        plain.talk = judge.talk
+        self.assertEqual(plain.answered(have, b"/x").finding, ("PASS", 1, 0, 0))
+        self.assertEqual(plain.talk.asked, b"PLAIN /x\n")
+        plain.copy.close()
+
+    def test_the_plain_judge_says_the_same_under_its_own_name(self):
+        quick = self.bin("judge", "--jsonl", "a.jsonl", "--samples")
+        plain = self.bin("judge", "--plain", "--jsonl", "b.jsonl", "--samples")
+        self.assertTrue(quick.out)
+        self.assertEqual((quick.status, quick.out), (plain.status, plain.out))
+        told = [[json.loads(line) for line in (self.folder / name).read_text().splitlines()] for name in ("a.jsonl", "b.jsonl")]
+        self.assertEqual(len(told[0]), len(quick.out.splitlines()))
+        for one, other in zip(*told):
+            self.assertEqual(other.pop("judge"), one.pop("judge") + " plain")
+            self.assertEqual(one, other)
+        again = self.bin("judge", "--plain", "--jsonl", "a.jsonl", "--samples")
+        self.assertEqual(again.out, quick.out)
+        self.assertEqual(len((self.folder / "a.jsonl").read_text().splitlines()), 2 * len(told[0]))
 
     def test_an_interrupt_leaves_whole_lines(self):
         self.tapes("one", 1500)

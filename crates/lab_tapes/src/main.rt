@@ -1,7 +1,8 @@
 // Many tapes, by name, a line each. In:
 //
-//     JUDGE name                        a file's name, to the end of the line
-//     DUE name                          the same, and what was due at each entry
+//     JUDGE name                        a file's name, to the end of the line: judged by the quick judge
+//     PLAIN name                        the same, by the plain judge
+//     DUE name                          by the plain judge, and what was due at each entry
 //
 // Out, at once for each line, before the next is read:
 //
@@ -14,9 +15,10 @@
 //     ERROR word line                   the line asks for nothing
 //     ERROR length                      the line is longer than any name
 //
-// A single block of a tape is held in memory. Where a line cannot be written, standard error says so, and nothing more is read.
+// For JUDGE a tape is held in memory whole, for the others a single block of it. Where a line cannot be written, standard error says so, and nothing more is read.
 mod follow;
 mod say;
+mod whole;
 
 use follow::Followed;
 use follow::follow_file;
@@ -31,6 +33,8 @@ use text_lines::after_word;
 use text_lines::line_end;
 use verdict::Finding;
 use verdict_line::line;
+use whole::ROOM;
+use whole::judge_whole;
 
 // The word, a space, and the longest name that a file can have.
 const LONGEST: usize = 4102;
@@ -40,13 +44,14 @@ const MOST: usize = 0x7FFF_FFFF_FFFF_FFFF;
 
 fn main() {
     let mut asked = [0u8; LONGEST];
-    answer_lines(&mut asked);
+    let mut tape = [0u8; ROOM];
+    answer_lines(&mut asked, &mut tape);
 }
 
-fn answer_lines(asked: &mut [u8]) {
+fn answer_lines(asked: &mut [u8], tape: &mut [u8]) {
     let mut left: usize = MOST;
     while 0 < left {
-        if !answer_next(asked) {
+        if !answer_next(asked, tape) {
             return;
         }
         left -= 1;
@@ -54,22 +59,38 @@ fn answer_lines(asked: &mut [u8]) {
 }
 
 // One line answered: whether there may be a next one.
-fn answer_next(asked: &mut [u8]) -> bool {
+fn answer_next(asked: &mut [u8], tape: &mut [u8]) -> bool {
     match read_line(asked) {
-        Line::Whole(n) => answer(part(asked, 0, n)),
+        Line::Whole(n) => answer(part(asked, 0, n), tape),
         Line::Long => say(b"ERROR length", b"", b""),
         Line::End => false,
     }
 }
 
-fn answer(asked: &[u8]) -> bool {
+fn answer(asked: &[u8], tape: &mut [u8]) -> bool {
     if alike(part(asked, 0, 6), b"JUDGE ") {
+        return judge_quick(after_word(asked), tape);
+    }
+    if alike(part(asked, 0, 6), b"PLAIN ") {
         return judge_named(after_word(asked), false);
     }
     if alike(part(asked, 0, 4), b"DUE ") {
         return judge_named(after_word(asked), true);
     }
     say(b"ERROR word", b" ", asked)
+}
+
+fn judge_quick(name: &[u8], tape: &mut [u8]) -> bool {
+    let file = os::open_read(name);
+    if file < 0 {
+        return say(b"ERROR opening", b" ", name);
+    }
+    let judged = judge_whole(file, tape);
+    libc::close(file);
+    match judged {
+        Judged::Found(found) => tell(found, name),
+        Judged::Failed => say(b"ERROR reading", b" ", name),
+    }
 }
 
 // A tape is judged before it is followed, since one that is unreadable is not.

@@ -8,10 +8,10 @@ use Rattle.lab_tapes.proofs.answer_lines.Statement.{statement}
 use Rattle.lab_tapes.proofs.answer_lines.Tie as tie
 
 abbrev Inv-loop : tie.InvT-loop
-Inv-loop asked₀ left₀ asked left = length asked ≡ length asked₀
+Inv-loop asked₀ tape₀ left₀ asked tape left = (length asked ≡ length asked₀) × (length tape ≡ length tape₀)
 
 abbrev μ-loop : tie.MeasureT-loop
-μ-loop asked₀ left₀ asked left = left
+μ-loop asked₀ tape₀ left₀ asked tape left = left
 
 pub answer-lines-spec : {M : Type 1} → statement M
 answer-lines-spec =
