@@ -48,7 +48,7 @@ returns-2 c =
     ∙ heard-fails t bytes (args .k) (args .zeros) small h (m .word .result) (m .word .ensures) (not-false _ (p .before .if1 .left)) test
 
 returns-3 : tie.Need-returns-3
-unfolding dueKind wordKind allowed wantedIn after heard
+unfolding dueKind wordKind allowed wantedIn after issuerReplied
 returns-3 c =
     let r = c .before .before in
     let a = r .before .before in
