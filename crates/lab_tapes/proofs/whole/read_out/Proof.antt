@@ -8,10 +8,10 @@ use Rattle.lab_tapes.proofs.whole.read_out.Statement.{statement}
 use Rattle.lab_tapes.proofs.whole.read_out.Tie as tie
 
 abbrev Inv-loop : tie.InvT-loop
-Inv-loop file found rest₀ left₀ rest left = length rest ≡ length rest₀
+Inv-loop file rest₀ found left₀ rest left = length rest ≡ length rest₀
 
 abbrev μ-loop : tie.MeasureT-loop
-μ-loop file found rest₀ left₀ rest left = left
+μ-loop file rest₀ found left₀ rest left = left
 
 pub read-out-spec : {M : Type 1} → statement M
 read-out-spec =
@@ -23,7 +23,11 @@ read-out-spec =
     (λ c κs. search needs)
     (λ c. search needs)
     (λ c. search needs)
-    (λ c. omega arith)
+    (λ c. search needs)
+    (λ c. search needs)
+    (λ c. search needs)
+    (λ c. search needs)
+    (λ c. search needs)
     (λ c. omega arith)
     (λ c. search needs)
     (λ c. search needs)
