@@ -1,4 +1,5 @@
--- The rulebook's situation, read off the bytes that are at hand: START, the slots of what the records told, and AIP, TVR and TSI beside them.
+-- The rulebook's situation, read off the bytes that are at hand: START, the slots of what the records told, and AIP, TVR and TSI beside
+-- them.
 -- Assumes nothing.
 use mathlib.Core.List.{List}
 use Prim.Native.Nat.{ℕ}

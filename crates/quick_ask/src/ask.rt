@@ -7,7 +7,6 @@ use quick_meet::Met;
 use quick_meet::meet::exchange;
 use slices::part;
 ghost use mathlib.Core.Path.{_≡_};
-ghost use Prim.Native.Nat.{_%_};
 ghost use Rattle.start_fields.specs.Reading.{readingOf};
 ghost use Rattle.session_records.specs.Slots.{toldIn};
 ghost use Rattle.dol_fill.specs.Filled.{filling};

@@ -8,7 +8,6 @@ use lib.ListN.{length}
 use Rattle.slices.specs.Writing.{laid, zeros}
 use Rattle.slices.proofs.Writing.{zeros-length}
 use Rattle.start_fields.specs.Reading.{readingOf}
-use Rattle.facts.specs.Facts.{Facts}
 use Rattle.answer_gpo.specs.Options.{optionsReason, profileOf}
 use Rattle.answer_laws.proofs.AcceptedAnswers.{options-profile}
 use Rattle.session_records.specs.Slots.{end, toldIn, emptyStore, told}

@@ -1,4 +1,5 @@
--- What is found where a session goes on, put together of what was met: a command and its answer, somebody else's word, a reason that ends it.
+-- What is found where a session goes on, put together of what was met: a command and its answer, somebody else's word, a reason that
+-- ends it.
 -- Assumes nothing.
 use mathlib.Core.Path.{_≡_, sym, ap, _∙_}
 use mathlib.Core.Bool.{true, false}
@@ -53,7 +54,8 @@ module _ (t : List ℕ) (bytes : areBytes t ≡ true) (k z : ℕ) (w : Asked) (m
   asked-stops f =
       ap (finds (m .said)) filled-due ∙ (as-stopped m _ met-due _ _ f ∙ sym (asks-found t bytes k z w))
 
-  pub asked-goes : (p : List ℕ) → p ≡ payloadAt (k + 1) t → m .there ≡ true → foundFrom (turn w p) (k + 2) filled t ≡ foundFrom (asks w) k z t
+  pub asked-goes : (p : List ℕ) → p ≡ payloadAt (k + 1) t → m .there ≡ true
+      → foundFrom (turn w p) (k + 2) filled t ≡ foundFrom (asks w) k z t
   asked-goes p e y =
       (λ i. foundFrom (turn w (e i)) (k + 2) (filled-due i) t) ∙ (as-going m _ met-due _ _ y ∙ sym (asks-found t bytes k z w))
 

@@ -1,9 +1,9 @@
 -- One record further: what was taken of it is the rulebook's reason, and where that is 0 the situation after it.
 -- Assumes nothing.
-use mathlib.Core.Path.{_≡_, sym, ap, ap₂, _∙_}
+use mathlib.Core.Path.{_≡_, sym, ap, _∙_}
 use mathlib.Core.Bool.{true}
-use mathlib.Core.List.{List, [], _∷_, map}
-use Prim.Native.Nat.{ℕ, suc, _+_}
+use mathlib.Core.List.{List}
+use Prim.Native.Nat.{ℕ, suc}
 use lib.ListN.{length}
 use Rattle.slices.specs.Tests.{isSome}
 use Rattle.tlv_list.specs.Place.{placesFrom}
@@ -23,7 +23,7 @@ use Rattle.session_records.specs.declared.Store.{Store}
 use Rattle.session_records.proofs.Keeping.{full-all, objects-length}
 use Rattle.session_state.proofs.Telling.{facts-told}
 use Rattle.rulebook.specs.Situation.{Situation}
-use Rattle.rulebook.specs.Phase.{reading, Phase, asks}
+use Rattle.rulebook.specs.Phase.{reading, asks}
 use Rattle.rulebook.specs.Turn.{readOn, withRecord}
 use Rattle.quick_ask.specs.Standing.{situationIn}
 

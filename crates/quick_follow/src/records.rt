@@ -12,7 +12,6 @@ use quick_meet::meet::stop;
 use session_records::END;
 use verdict::Finding;
 ghost use mathlib.Core.Path.{_≡_};
-ghost use lib.ListN.{length};
 ghost use Rattle.slices.specs.Writing.{zeros as zeroBytes};
 ghost use Rattle.session_records.specs.Slots.{end as slotsEnd};
 ghost use Rattle.answer_afl.specs.Entries.{toRead};

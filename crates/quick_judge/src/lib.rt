@@ -1,5 +1,5 @@
-// The quick judge: the verdict of a whole tape (02, R-14). What makes the tape unreadable first, block by block up to the first bad one; then
-// its dialogue, in the order of a session. Its promise is the plain judge's, to the letter.
+// The quick judge: the verdict of a whole tape (02, R-14). What makes the tape unreadable first, block by block up to the first bad one;
+// then its dialogue, in the order of a session. Its promise is the plain judge's, to the letter.
 use quick_check::damage;
 use quick_follow::follow;
 use verdict::Finding;

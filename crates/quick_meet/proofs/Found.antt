@@ -1,128 +1,41 @@
--- What is found of a tape from a block on, by what stands there: at each phase the entry that is due leads on, and anything else is said of the
--- tape at once.
+-- What is found of a tape from a block on, by what stands there: at each phase the entry that is due leads on, and anything else is said
+-- of the tape at once.
 -- Assumes nothing.
 use mathlib.Core.Path.{_≡_, refl, sym, ap, _∙_}
 use mathlib.Core.Bool.{true, false}
-use mathlib.Core.List.{List, [], _∷_}
-use Prim.Native.Nat.{ℕ, _+_, _*_, _/_, _^_, _<_}
+use mathlib.Core.List.{List}
+use Prim.Native.Nat.{ℕ, _+_, _^_, _<_}
 use native.Mathlib.Omega.{arith}
-use lib.Dec.{eqb, leb}
-use lib.ListN.{length, drop}
+use lib.Dec.{eqb}
+use lib.ListN.{length}
 use lib.Pow.{areBytes}
-use borrow.Author.Tests.{eqb-true, eqb-false, leb-true, leb-false}
+use borrow.Author.Tests.{eqb-true, eqb-false}
 use Rattle.slices.specs.Choice.{pick}
 use Rattle.slices.specs.Tests.{alike}
 use Rattle.slices.proofs.Choice.{pick-yes, pick-no, either}
-use Rattle.slices.proofs.Comparing.{alike-same, same-alike}
+use Rattle.slices.proofs.Comparing.{alike-same}
 use Rattle.slices.proofs.Cutting.{none-left}
-use Rattle.tape_crc.proofs.Bytes.{bytes-take, bytes-drop}
-use Rattle.numbers.specs.Kinds.{command, answer, silence, decision}
-use Rattle.tape_read.specs.Entries.{Entry, entry, blockSize}
-use Rattle.tape_read.specs.Blocks.{entryIn}
-use Rattle.tape_read.specs.Tapes.{blockAt}
+use Rattle.tape_read.specs.Entries.{entry, command, answer, silence, decision}
 use Rattle.dol_fill.specs.Filled.{summed}
-use Rattle.sessions.specs.Session.{isPayload}
 use Rattle.rulebook.specs.Situation.{Situation}
 use Rattle.rulebook.specs.Phase.{Asked, Heard, Phase, asks, hears, decides, commandOf, dueKind, decisionOf}
 use Rattle.rulebook.specs.Turn.{turn, allowed, after}
-use Rattle.rulebook.specs.Machine.{Machine, at, owes, done}
+use Rattle.rulebook.specs.Machine.{at, owes, done}
 use Rattle.rulebook_zeros.specs.Zeros.{unsuppliedAsking, unsuppliedIn}
 use Rattle.rulebook_zeros.specs.Summing.{newIn}
 use Rattle.verdict.specs.Saying.{says, finds}
 use Rattle.verdict.specs.declared.Verdict.the-variants.{Pass, Fail, Inconclusive}
 use Rattle.verdict.specs.declared.Finding.{Finding}
-use Rattle.verdict_judged.specs.Progress.{Progress, reached, closed, broken, reads}
-use Rattle.verdict_judged.proofs.Blockwise.{block-payload}
+use Rattle.verdict_judged.specs.Progress.{reached, closed, broken, reads}
 use Rattle.verdict_judged.proofs.Taking.{reads-heard, heard-invalid, heard-missing, reads-command, command-wrong, command-missing}
 use Rattle.verdict_judged.proofs.Taking.{reads-answer, reads-silence, silence-wrong, answer-missing, reads-decision}
 use Rattle.verdict_judged.proofs.Taking.{decision-wrong, decision-missing, reads-after-end}
 use Rattle.quick_said.specs.Said.{entriesFrom, saidFrom, foundFrom}
-use Rattle.quick_said.proofs.Reading.{sum-none, sum-small, said-one, phase-end, owes-end, done-end, closed-end, closed-more, broken-on}
-use Rattle.quick_said.proofs.Blocks.{from-end, from-more}
-use Rattle.quick_meet.specs.declared.Met.{Met}
+use Rattle.quick_said.proofs.Reading.{sum-none, sum-small, phase-end, owes-end, done-end}
 use Rattle.quick_meet.specs.Meeting.{isEnd, stands, ends, breaks, goesOn, kindAt, payloadAt}
-use Rattle.quick_meet.specs.Meeting.{wordMet, closedMet, silenceMet, answerMet, exchangeMet, lastMet, decisionMet}
-
-different : (a b : List ℕ) → alike a b ≡ false → a ≡ b → ⊥
-different a b n e =
-    let z : true ≡ false = sym (same-alike b) ∙ (ap (λ (x : List ℕ). alike x b) (sym e) ∙ n) in let k : _≡_ {A = ℕ} 0 1 = cc in omega arith
-
-module _ (t : List ℕ) (bytes : areBytes t ≡ true) (k : ℕ) where
-  -- no block there, or its entry and those behind it
-  none-left-there : isEnd t k ≡ true → entriesFrom k t ≡ []
-  unfolding isEnd
-  none-left-there y = from-end k t (leb-true (length t / blockSize) k y)
-
-  one-there : isEnd t k ≡ false → entriesFrom k t ≡ entry (kindAt k t) (payloadAt k t) ∷ entriesFrom (k + 1) t
-  unfolding isEnd entryIn
-  one-there n = from-more k t (leb-false (length t / blockSize) k n)
-
-  payload-there : isPayload (payloadAt k t) ≡ true
-  unfolding blockAt
-  payload-there = block-payload (blockAt k t) (bytes-take blockSize (drop (k * blockSize) t) (bytes-drop (k * blockSize) t bytes))
-
-  abbrev Rest : Progress → ℕ → Finding
-  Rest m z = saidFrom m z (entriesFrom (k + 1) t)
-
-  -- one entry, by what it makes of the progress
-  read-one : (σ : Machine) (z : ℕ) (m : Progress) → isEnd t k ≡ false
-      → reads (reached σ k) (entry (kindAt k t) (payloadAt k t)) ≡ m → saidFrom (reached σ k) z (entriesFrom k t) ≡ Rest m (summed z (newIn σ))
-  read-one σ z m n e =
-      ap (saidFrom (reached σ k) z) (one-there n)
-      ∙ (said-one σ k z _ _ ∙ ap (λ (x : Progress). Rest x (summed z (newIn σ))) e)
-
-  -- the same where it breaks the rules
-  breaks-here : (σ : Machine) (z : ℕ) → isEnd t k ≡ false
-      → reads (reached σ k) (entry (kindAt k t) (payloadAt k t)) ≡ broken k
-      → saidFrom (reached σ k) z (entriesFrom k t) ≡ finds (says Fail k 0) (summed z (newIn σ))
-  breaks-here σ z n e =
-      read-one σ z (broken k) n e
-      ∙ (broken-on k (summed z (newIn σ)) _ ∙ ap (finds (says Fail k 0)) (sum-none _ (sum-small z (newIn σ))))
-
-  as-kind : (due : ℕ) → kindAt k t ≡ due → (m : Progress) → reads m (entry (kindAt k t) (payloadAt k t)) ≡ reads m (entry due (payloadAt k t))
-  as-kind due e m = ap (λ (q : ℕ). reads m (entry q (payloadAt k t))) e
-
-  -- what is said at the ends, whatever would be found of the rest
-  module _ (z : ℕ) (small : z < 2 ^ 64) (rest : Finding) where
-    pub same : summed z 0 ≡ z
-    same = sum-none z small
-
-    met : {x : Finding} {m n : Met} → m ≡ n → x ≡ goesOn n z rest → x ≡ goesOn m z rest
-    met e h = h ∙ ap (λ (m : Met). goesOn m z rest) (sym e)
-
-    at-ends : (n : ℕ) → goesOn (ends n) z rest ≡ finds (says Inconclusive n 0) z
-    unfolding goesOn ends pick
-    at-ends n = refl
-
-    at-breaks : (n : ℕ) → goesOn (breaks n) z rest ≡ finds (says Fail n 0) z
-    unfolding goesOn breaks pick
-    at-breaks n = refl
-
-    at-stands : (n : ℕ) → goesOn (stands n) z rest ≡ rest
-    unfolding goesOn stands pick
-    at-stands n = refl
-
-    -- an entry that breaks the rules where nothing is counted
-    broken-here : (σ : Machine) → newIn σ ≡ 0 → isEnd t k ≡ false
-        → reads (reached σ k) (entry (kindAt k t) (payloadAt k t)) ≡ broken k
-        → saidFrom (reached σ k) z (entriesFrom k t) ≡ goesOn (breaks k) z rest
-    broken-here σ none n e =
-        breaks-here σ z n e ∙ (ap (λ (x : ℕ). finds (says Fail k 0) (summed z x)) none
-        ∙ (ap (finds (says Fail k 0)) same ∙ sym (at-breaks k)))
-
-    -- nothing may follow a closing silence
-    closed-found : saidFrom (closed k) z (entriesFrom k t) ≡ goesOn (closedMet k t) z rest
-    unfolding closedMet
-    closed-found =
-        either (isEnd t k)
-        (λ y.
-        met (pick-yes _ _ _ y)
-        (ap (saidFrom (closed k) z) (none-left-there y)
-        ∙ (closed-end k z ∙ (ap (finds (says Inconclusive k 0)) same ∙ sym (at-ends k)))))
-        (λ n.
-        met (pick-no _ _ _ n)
-        (ap (saidFrom (closed k) z) (one-there n)
-        ∙ (closed-more k z _ _ ∙ (ap (finds (says Fail k 0)) same ∙ sym (at-breaks k)))))
+use Rattle.quick_meet.specs.Meeting.{wordMet, silenceMet, answerMet, exchangeMet, lastMet, decisionMet}
+use Rattle.quick_meet.proofs.OneBlock.{different, none-left-there, payload-there, read-one, breaks-here, as-kind}
+use Rattle.quick_meet.proofs.OneBlock.{met, at-ends, at-breaks, at-stands, broken-here, closed-found}
 
 -- ---- the card's answer, or its silence
 
@@ -153,8 +66,12 @@ module _ (t : List ℕ) (bytes : areBytes t ≡ true) (k z : ℕ) (small : z < 2
       (read-one t bytes k (owes w) z (closed (k + 1)) n (e ∙ reads-silence k w p (none-left p (eqb-true (length p) 0 v)))
       ∙ (ap (λ (x : ℕ). saidFrom (closed (k + 1)) x (entriesFrom (k + 1) t)) (sum-none z small)
       ∙ closed-found t bytes (k + 1) z small answered)))
-      (λ v. met t bytes k z small answered (pick-no _ _ _ v) (broken-at (e ∙ silence-wrong k w p (λ q. eqb-false (length p) 0 v (ap length q)))))))
-      (λ s. met t bytes k z small answered (pick-no _ _ _ s) (broken-at (answer-missing k w p (kindAt k t) other (eqb-false (kindAt k t) silence s))))
+      (λ v.
+      met t bytes k z small answered (pick-no _ _ _ v)
+      (broken-at (e ∙ silence-wrong k w p (λ q. eqb-false (length p) 0 v (ap length q)))))))
+      (λ s.
+      met t bytes k z small answered (pick-no _ _ _ s)
+      (broken-at (answer-missing k w p (kindAt k t) other (eqb-false (kindAt k t) silence s))))
 
   pub answer-found : owed ≡ goesOn (answerMet k t) z answered
   unfolding answerMet newIn foundFrom
@@ -229,7 +146,9 @@ module _ (t : List ℕ) (bytes : areBytes t ≡ true) (k z : ℕ) (w : Asked) wh
       met t bytes k filled small-sum onward (pick-yes _ _ _ y)
       (either (alike p c) (λ v. met t bytes k filled small-sum onward (pick-yes _ _ _ v) (asked-answered n y v))
       (λ v. met t bytes k filled small-sum onward (pick-no _ _ _ v) (asked-broken n (command-wrong k w p (kindAt k t) (different p c v))))))
-      (λ o. met t bytes k filled small-sum onward (pick-no _ _ _ o) (asked-broken n (command-missing k w p (kindAt k t) (eqb-false (kindAt k t) command o))))))
+      (λ o.
+      met t bytes k filled small-sum onward (pick-no _ _ _ o)
+      (asked-broken n (command-missing k w p (kindAt k t) (eqb-false (kindAt k t) command o))))))
 
 -- ---- somebody else's word
 
@@ -272,7 +191,9 @@ module _ (t : List ℕ) (bytes : areBytes t ≡ true) (k z : ℕ) (small : z < 2
         (λ n.
         met t bytes k z small said (pick-no _ _ _ n)
         (either (eqb (kindAt k t) (dueKind h))
-        (λ y. met t bytes k z small said (pick-yes _ _ _ y) (heard-said n (eqb-true (kindAt k t) (dueKind h) y) ∙ sym (at-stands t bytes k z small said k)))
+        (λ y.
+        met t bytes k z small said (pick-yes _ _ _ y)
+        (heard-said n (eqb-true (kindAt k t) (dueKind h) y) ∙ sym (at-stands t bytes k z small said k)))
         (λ o.
         met t bytes k z small said (pick-no _ _ _ o)
         (heard-broken n (heard-missing k h (payloadAt k t) (kindAt k t) (eqb-false (kindAt k t) (dueKind h) o))
@@ -337,7 +258,9 @@ module _ (t : List ℕ) (bytes : areBytes t ≡ true) (k z : ℕ) (small : z < 2
         (λ n.
         met t bytes k z small right (pick-no _ _ _ n)
         (either (eqb (kindAt k t) decision)
-        (λ y. met t bytes k z small right (pick-yes _ _ _ y) (decided-said n (eqb-true (kindAt k t) decision y) ∙ sym (at-stands t bytes k z small right k)))
+        (λ y.
+        met t bytes k z small right (pick-yes _ _ _ y)
+        (decided-said n (eqb-true (kindAt k t) decision y) ∙ sym (at-stands t bytes k z small right k)))
         (λ o.
         met t bytes k z small right (pick-no _ _ _ o)
         (decided-broken n (decision-missing k outcome reason s (payloadAt k t) (kindAt k t) (eqb-false (kindAt k t) decision o))

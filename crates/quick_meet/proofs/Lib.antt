@@ -1,2 +1,3 @@
 pub mod Tests
+mod OneBlock
 pub mod Found

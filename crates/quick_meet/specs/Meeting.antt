@@ -1,5 +1,5 @@
--- What stands at a block of a tape beside what is due there: it stands there and the session goes on, or something is said of the tape. Nobody
--- need believe it: that it is what the rules say is proved (proofs/Found). 01, "The tape"; demand 3.
+-- What stands at a block of a tape beside what is due there: it stands there and the session goes on, or something is said of the tape.
+-- Nobody need believe it: that it is what the rules say is proved (proofs/Found). 01, "The tape"; demand 3.
 -- Assumes nothing.
 use mathlib.Core.Bool.{Bool, true, false}
 use mathlib.Core.List.{List}

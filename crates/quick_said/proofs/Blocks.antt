@@ -1,11 +1,11 @@
 -- The entries of a tape from a block on: the block's own and those of the rest, or none.
 -- Assumes nothing.
-use mathlib.Core.Path.{_≡_, refl, ap, _∙_}
+use mathlib.Core.Path.{_≡_, ap, _∙_}
 use mathlib.Core.List.{List, [], _∷_, map}
 use Prim.Native.Nat.{ℕ, suc, _+_, _*_, _-_, _/_, _≤_, _<_}
 use native.Mathlib.Omega.{arith}
 use lib.ListN.{length, take, drop}
-use Rattle.tape_read.specs.Entries.{Entry, blockSize}
+use Rattle.tape_read.specs.Entries.{blockSize}
 use Rattle.tape_read.specs.Blocks.{entryIn}
 use Rattle.tape_read.specs.Tapes.{blockAt, cut}
 use Rattle.tape_read.proofs.Steps.{rest-next}

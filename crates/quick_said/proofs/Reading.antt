@@ -18,7 +18,6 @@ use Rattle.rulebook_zeros.specs.Zeros.{unsuppliedIn}
 use Rattle.rulebook_zeros.specs.Summing.{newIn, countOn, zerosFrom}
 use Rattle.verdict.specs.Saying.{says, finds}
 use Rattle.verdict.specs.declared.Verdict.the-variants.{Pass, Fail, Inconclusive}
-use Rattle.verdict.specs.declared.Finding.{Finding}
 use Rattle.verdict_judged.specs.Progress.{Progress, reached, closed, broken, closes, onward, reads, readsAll, concluded}
 use Rattle.quick_said.specs.Said.{zerosAfter, saidFrom}
 

@@ -1,5 +1,5 @@
--- What is found of a tape from one of its blocks on (02, R-14), where the entries before it have led the rulebook's machine to a phase. Nobody
--- need believe it: it is put together of what finds the verdict (Progress of verdict_judged) and the fourth number (Summing of
+-- What is found of a tape from one of its blocks on (02, R-14), where the entries before it have led the rulebook's machine to a phase.
+-- Nobody need believe it: it is put together of what finds the verdict (Progress of verdict_judged) and the fourth number (Summing of
 -- rulebook_zeros), and from the first block on it is the finding of the whole tape (proofs/Whole).
 -- Assumes nothing.
 use mathlib.Core.List.{List, map}

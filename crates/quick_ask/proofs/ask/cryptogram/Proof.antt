@@ -1,6 +1,6 @@
 -- `ask::cryptogram` meets its contract: the command is written, and met.
 -- Assumes nothing.
-use mathlib.Core.Path.{_≡_, ap, _∙_}
+use mathlib.Core.Path.{ap, _∙_}
 use mathlib.Core.List.{List}
 use Prim.Native.Nat.{ℕ}
 use lib.ListN.{length}
@@ -25,7 +25,9 @@ returns c =
     let data′ = filling (readingOf (args .start .now)) (toldIn (args .known .now)) (args .list .now) in
     let one = w .before .before .p1 .ensures in
     let due = cryptogramCommand (p1Of (args .request)) data′ in
-    let there = written-there due _ _ longest (cryptogram-most _ _ (filling-most _ _ (args .list .now))) (w .cryptogram .ensures .0 ∙ ap (λ (q : ℕ). sizeIn (length (zeros longest)) (cryptogramCommand q data′)) one) (w .cryptogram .ensures .1 ∙ ap (λ (q : ℕ). laid (cryptogramCommand q data′) 0 (zeros longest)) one) in
+    let size = w .cryptogram .ensures .0 ∙ ap (λ (q : ℕ). sizeIn (length (zeros longest)) (cryptogramCommand q data′)) one in
+    let buffer = w .cryptogram .ensures .1 ∙ ap (λ (q : ℕ). laid (cryptogramCommand q data′) 0 (zeros longest)) one in
+    let there = written-there due _ _ longest (cryptogram-most _ _ (filling-most _ _ (args .list .now))) size buffer in
     c .exchange .ensures ∙ ap (λ (x : List ℕ). exchangeMet x (args .k) (args .tape .now)) (c .before .part .ensures ∙ there)
 
 pub cryptogram-spec : {M : Type 1} → statement M

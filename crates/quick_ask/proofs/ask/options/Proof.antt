@@ -1,6 +1,6 @@
 -- `ask::options` meets its contract: the command is written, and met.
 -- Assumes nothing.
-use mathlib.Core.Path.{_≡_, ap, _∙_}
+use mathlib.Core.Path.{ap, _∙_}
 use mathlib.Core.List.{List}
 use Prim.Native.Nat.{ℕ}
 use borrow.Author.Needs.{needs}
@@ -21,7 +21,8 @@ returns c =
     let w = c .before .before .before .before in
     let args = w .before .before .before .before .before .before .args in
     let due = optionsCommand (filling (readingOf (args .start .now)) (toldIn (args .known .now)) (args .list .now)) in
-    let there = written-there due _ _ longest (options-most _ (filling-most _ _ (args .list .now))) (w .options .ensures .0) (w .options .ensures .1) in
+    let fits = options-most _ (filling-most _ _ (args .list .now)) in
+    let there = written-there due _ _ longest fits (w .options .ensures .0) (w .options .ensures .1) in
     c .exchange .ensures ∙ ap (λ (x : List ℕ). exchangeMet x (args .k) (args .tape .now)) (c .before .part .ensures ∙ there)
 
 pub options-spec : {M : Type 1} → statement M

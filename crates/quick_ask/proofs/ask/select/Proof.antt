@@ -1,6 +1,6 @@
 -- `ask::select` meets its contract: the command is written, and met.
 -- Assumes nothing.
-use mathlib.Core.Path.{_≡_, ap, _∙_}
+use mathlib.Core.Path.{ap, _∙_}
 use mathlib.Core.List.{List}
 use Prim.Native.Nat.{ℕ}
 use borrow.Author.Needs.{needs}
@@ -19,7 +19,8 @@ returns c =
     let w = c .before .before .before .before in
     let args = w .before .before .before .before .args in
     let due = selectCommand (readingOf (args .start .now) .aid) in
-    let there = written-there due _ _ longest (select-most _ (aid-most (args .start .now))) (w .select .ensures .0) (w .select .ensures .1) in
+    let fits = select-most _ (aid-most (args .start .now)) in
+    let there = written-there due _ _ longest fits (w .select .ensures .0) (w .select .ensures .1) in
     c .exchange .ensures ∙ ap (λ (x : List ℕ). exchangeMet x (args .k) (args .tape .now)) (c .before .part .ensures ∙ there)
 
 pub select-spec : {M : Type 1} → statement M

@@ -1,11 +1,10 @@
 -- `online::from_first` meets its contract: a bad answer ends the session, a good one sets a bit and goes on by its type.
 -- Assumes nothing.
-use mathlib.Core.Path.{_≡_, sym, ap, _∙_}
-use Prim.Native.Nat.{ℕ, _^_, _<_}
+use mathlib.Core.Path.{_∙_}
+use Prim.Native.Nat.{_^_, _<_}
 use native.Mathlib.Omega.{arith}
 use borrow.Author.Needs.{needs}
 use Rattle.tape_crc.proofs.Bytes.{bytes-each}
-use mathlib.Core.List.{List}
 use Rattle.decide_cryptogram.specs.Cryptograms.{allowedBy}
 use Rattle.decide_cryptogram.specs.declared.Request.the-variants.{First}
 use Rattle.answer_cryptogram.specs.Cryptogram.{cryptogramReason, cryptogramOf}

@@ -1,11 +1,10 @@
 -- `online::from_second` meets its contract: a bad answer ends the session, a good one decides it.
 -- Assumes nothing.
-use mathlib.Core.Path.{_≡_, refl, sym, ap, ap₂, _∙_}
+use mathlib.Core.Path.{sym, ap, ap₂, _∙_}
 use Prim.Native.Nat.{ℕ, _^_, _%_, _<_}
 use native.Mathlib.Omega.{arith}
 use borrow.Author.Needs.{needs}
-use mathlib.Core.List.{List, [], _∷_, _++_}
-use lib.ListN.{length}
+use mathlib.Core.List.{List, _∷_, _++_}
 use Rattle.tape_crc.proofs.Bytes.{bytes-each}
 use Rattle.decide_cryptogram.specs.Cryptograms.{allowedBy}
 use Rattle.decide_cryptogram.specs.declared.Request.the-variants.{Second}

@@ -1,10 +1,10 @@
 -- `online::host` meets its contract: the issuer's reply, where it is one, leads to the second request.
 -- Assumes nothing.
-use mathlib.Core.Path.{_≡_, refl, sym, ap, ap₂, _∙_}
+use mathlib.Core.Path.{sym, ap, _∙_}
 use Prim.Native.Nat.{ℕ, _+_, _^_, _<_}
 use native.Mathlib.Omega.{arith}
 use borrow.Author.Needs.{needs}
-use mathlib.Core.List.{List, [], _∷_, _++_}
+use mathlib.Core.List.{List}
 use Rattle.tape_crc.proofs.Bytes.{bytes-each}
 use borrow.Author.Tests.{not-true, not-false}
 use Rattle.words.specs.Words.{wordKind, wordAllowed}

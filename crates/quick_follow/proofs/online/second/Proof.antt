@@ -1,13 +1,12 @@
 -- `online::second` meets its contract: the end where the list cannot be filled, else the second request, met.
 -- Assumes nothing.
-use mathlib.Core.Path.{_≡_, refl, sym, ap, ap₂, _∙_}
-use Prim.Native.Nat.{ℕ, _^_, _%_, _<_}
+use mathlib.Core.Path.{_≡_, refl, sym, ap, _∙_}
+use Prim.Native.Nat.{ℕ, _^_, _<_}
 use native.Mathlib.Omega.{arith}
 use borrow.Author.Needs.{needs}
-use mathlib.Core.List.{List, [], _∷_, _++_}
+use mathlib.Core.List.{List}
 use lib.ListN.{length}
 use Rattle.tape_crc.proofs.Bytes.{bytes-each}
-use mathlib.Core.Option.{some}
 use borrow.Author.Tests.{not-true, not-false}
 use Rattle.slices.proofs.Choice.{pick-yes, pick-no}
 use Rattle.start_fields.specs.Reading.{readingOf}
@@ -19,7 +18,7 @@ use Rattle.decide_requests.specs.declared.reply.HostReply.{HostReply}
 use Rattle.decide_requests.specs.declared.reply.HostReply.the-variants.{Approve, Decline, Unable}
 use Rattle.decide_cryptogram.specs.declared.Cryptogram.{Cryptogram}
 use Rattle.decide_cryptogram.specs.declared.Cryptogram.the-variants.{Aac, Tc, Arqc}
-use Rattle.rulebook.specs.Situation.{knownIn, listIn}
+use Rattle.rulebook.specs.Situation.{listIn}
 use Rattle.rulebook.specs.Phase.{second, Phase, asks, commandOf}
 use Rattle.rulebook.specs.Turn.{replied, turn}
 use Rattle.rulebook_zeros.specs.Zeros.{unsuppliedAsking}

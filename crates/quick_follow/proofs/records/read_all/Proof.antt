@@ -21,8 +21,7 @@ use Rattle.answer_afl.proofs.Walking.{none-remain, all-remain}
 use Rattle.answer_common.specs.Content.{recordNames, namesFor}
 use Rattle.answer_record.specs.Records.{recordReason}
 use Rattle.answer_laws.proofs.Reasons.{record-small}
-use Rattle.rulebook.specs.Situation.{Situation}
-use Rattle.rulebook.specs.Phase.{Asked, reading, Phase, commandOf}
+use Rattle.rulebook.specs.Phase.{reading, Phase, commandOf}
 use Rattle.rulebook.specs.Turn.{readOn, withRecord, recorded, turn}
 use Rattle.rulebook_zeros.specs.Zeros.{unsuppliedAsking}
 use Rattle.verdict.specs.declared.Finding.{Finding}
@@ -212,6 +211,11 @@ returns-3 c =
     ∙ (ap (λ (x : List (ℕ × ℕ)). from (args .start .now) (args .profile) (l .told) x (l .k) (args .zeros) (args .tape .now)) (sym none)
     ∙ l .inv .1)
 
+names-long : tie.Need-slice-aggregate-take-2 Inv-loop μ-loop
+names-long c =
+    let n = c .before .before .before .before .before .before .before .before .before in
+    sym (length-take-le _ recordNames (n .names-for .ensures .2))
+
 pub read-all-spec : {M : Type 1} → statement M
 read-all-spec =
     tie.close
@@ -227,7 +231,7 @@ read-all-spec =
     returns
     (λ c. search needs)
     (λ c. search needs)
-    (λ c. sym (length-take-le _ recordNames (c .before .before .before .before .before .before .before .before .before .names-for .ensures .2)))
+    names-long
     answer-there
     (λ c κs. search needs)
     (λ c κs. search needs)

@@ -1,19 +1,18 @@
 -- `requests::results` meets its contract: as many results as are wanted set their bits and lead to the first request.
 -- Assumes nothing.
-use mathlib.Core.Path.{_≡_, sym, ap, _∙_}
+use mathlib.Core.Path.{sym, ap, _∙_}
 use Prim.Native.Nat.{ℕ, _+_, _^_, _<_}
 use native.Mathlib.Omega.{arith}
 use borrow.Author.Needs.{needs}
 use Rattle.tape_crc.proofs.Bytes.{bytes-each}
 use mathlib.Core.List.{List}
-use mathlib.Core.Bool.{Bool}
 use borrow.Author.Tests.{not-true, not-false}
 use Rattle.start_fields.specs.Reading.{readingOf}
 use Rattle.session_records.specs.Slots.{toldIn}
 use Rattle.answer_record.specs.Records.{afterRecords}
 use Rattle.words.specs.Words.{wordKind, wordAllowed}
 use Rattle.words.specs.declared.Word.the-variants.{Results}
-use Rattle.decide_verification.specs.Verification.{resultsWanted, tvrAfterResults}
+use Rattle.decide_verification.specs.Verification.{tvrAfterResults}
 use Rattle.rulebook.specs.Phase.{says, dueKind}
 use Rattle.rulebook.specs.Turn.{wantedIn, allowed, requested, verifiedBy, after}
 use Rattle.quick_said.specs.Said.{foundFrom}
@@ -34,7 +33,8 @@ returns c =
     let told = args .told .now in
     let s = situationIn (args .start .now) told (args .profile) (args .tvr) (args .tsi) in
     c .stop .ensures
-    ∙ heard-stops t bytes (args .k) (args .zeros) small (says Results s) (m .word .result) (m .word .ensures) (not-true _ (c .before .if1 .taken))
+    ∙ heard-stops t bytes (args .k) (args .zeros) small (says Results s) (m .word .result) (m .word .ensures)
+    (not-true _ (c .before .if1 .taken))
 
 returns-2 : tie.Need-returns-2
 unfolding dueKind wordKind allowed wantedIn

@@ -1,6 +1,6 @@
 -- `requests::verify` meets its contract.
 -- Assumes nothing.
-use mathlib.Core.Path.{_≡_, sym, ap, _∙_}
+use mathlib.Core.Path.{sym, ap, _∙_}
 use borrow.Author.Needs.{needs}
 use Rattle.slices.proofs.Choice.{pick-yes, pick-no}
 use Rattle.rulebook.specs.Phase.{Phase}

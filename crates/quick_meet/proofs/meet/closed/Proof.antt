@@ -2,7 +2,6 @@
 -- Assumes nothing.
 use mathlib.Core.Path.{sym, _∙_}
 use borrow.Author.Needs.{needs}
-use borrow.Author.Tests.{not-true, not-false}
 use Rattle.slices.proofs.Choice.{pick-yes, pick-no}
 use Rattle.quick_meet.specs.Meeting.{closedMet}
 use Rattle.quick_meet.proofs.meet.closed.Statement.{statement}
