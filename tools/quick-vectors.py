@@ -3,11 +3,12 @@
 
     tools/quick-vectors.py FOLDER [FOLDER ..]
 
-A FOLDER has tapes (tapes/) and `NAME VERDICT place code ..` lines for them (expected.txt), made by an independent program. Place and code of
-an UNREADABLE one are what is due, and 0 and 0 for any other verdict: it reads as entries. Those are taken of which the reading below, from
+A FOLDER has tapes (tapes/) and `NAME VERDICT place code zeros` lines for them (expected.txt), made by an independent program. Place and code
+of an UNREADABLE one are what is due, and 0 and 0 for any other verdict: it reads as entries. Those are taken of which the reading below, from
 01 with zlib's CRC-32, says the same; others were made under earlier limits, and are named. Beside them stand blocks changed and sealed
 again, one way for each test of 01 and each end of what it looks at, whose place and code are known from the change; and one tape with a
-payload of every length there can be.
+payload of every length there can be. The verdict that both judges must say is the line of expected.txt; a changed tape is UNREADABLE, and the two
+made here that read as entries break the rules at once: the one has a START of one byte, the other has none.
 """
 import os, struct, sys, zlib
 
@@ -61,7 +62,7 @@ def given(folder):
         if due != damage(tape):
             others.append(name)
         elif len(tape) <= SMALL * SIZE or verdict == "UNREADABLE":
-            taken.append((tape, due))
+            taken.append((tape, due, line.split(maxsplit=1)[1].rstrip("\n")))
     print(f"{folder}: {len(taken)} can be taken; not said of {len(others)}: {' '.join(others)}")
     return taken
 
@@ -106,8 +107,13 @@ def made():
     yield b"".join(block(n, s, 3, bytes(1 + (n + i) % 255 for i in range(n))) for n in range(PAYLOAD + 1)), (0, 0)
 
 
-tapes = list(made())
-assert all(damage(tape) == due for tape, due in tapes)
+def said(due):
+    """The verdict of a made tape: one that reads as entries does not begin with a valid START."""
+    return "UNREADABLE %d %d 0" % due if due[1] else "FAIL 0 0 0"
+
+
+tapes = [(tape, due, said(due)) for tape, due in made()]
+assert all(damage(tape) == due for tape, due, line in tapes)
 rest = [one for folder in sys.argv[1:] for one in given(folder)]
 long = [one for one in rest if len(one[0]) > SMALL * SIZE]
 tapes += [one for one in long if len(one[0]) <= MOST * SIZE // 4] + [one for one in long if len(one[0]) > MOST * SIZE][:LONG]
@@ -116,12 +122,13 @@ good = [one for one in rest if not one[1][1]]
 tapes += bad + good[:: len(good) // GOOD + 1]
 assert len(tapes) <= TAPES, len(tapes)
 ends, at = [], 0
-for tape, due in tapes:
+for tape, due, line in tapes:
     at += len(tape)
     ends.append(at)
 spare = TAPES - len(tapes)
 with open(os.path.join(here, "stdin"), "wb") as out:
-    out.write(struct.pack(f">{TAPES}I", *ends, *[0] * spare) + b"".join(tape for tape, due in tapes))
+    out.write(struct.pack(f">{TAPES}I", *ends, *[0] * spare) + b"".join(tape for tape, due, line in tapes))
 with open(os.path.join(here, "stdout"), "w") as out:
-    out.write(2 * "".join("%d %d\n" % due for due in [due for tape, due in tapes] + [(0, 0)] * spare))
+    out.write(2 * "".join("%d %d\n" % due for due in [due for tape, due, line in tapes] + [(0, 0)] * spare))
+    out.write("".join(2 * (line + "\n") for line in [line for tape, due, line in tapes] + ["INCONCLUSIVE 0 0 0"] * spare))
 print(len(tapes), "tapes,", at, "bytes")

@@ -1,12 +1,16 @@
-// What makes tapes unreadable that other programs made. Standard input has the places where the tapes end, four bytes each, big-endian,
-// and then the tapes, one behind the other. For each there is a line with place and code (code 0: it reads as entries): first of each
-// tape by itself, then of all of them at once. A place that is left over is 0, and makes an empty tape.
+// What makes tapes unreadable that other programs made, and what the plain judge and the quick one say of them. Standard input has the places
+// where the tapes end, four bytes each, big-endian, and then the tapes, one behind the other. For each there is a line with place and code
+// (code 0: it reads as entries): first of each tape by itself, then of all of them at once. Behind these stand the verdicts, two lines for
+// each tape: the plain judge's and the quick one's. A place that is left over is 0, and makes an empty tape.
+use judge::judge;
 use libc::STDIN_FILENO;
 use libc::STDOUT_FILENO;
 use quick_check::damage;
 use quick_check::damages;
 use slices::byte;
 use slices::part;
+use verdict::Finding;
+use verdict_line::LONGEST;
 ghost use Prim.Native.Nat.{_≤_};
 ghost use lib.ListN.{length};
 
@@ -30,6 +34,7 @@ fn tell(head: &mut [u8], bytes: &mut [u8]) {
     let tapes = part(bytes, 0, got);
     alone(tapes, &ends);
     together(tapes, &ends);
+    judged(tapes, &ends);
 }
 
 fn read_ends(head: &[u8], ends: &mut [usize])
@@ -81,6 +86,28 @@ fn lines(places: &[usize; TAPES], codes: &[usize; TAPES]) {
         line(places[i], codes[i]);
         i += 1;
     }
+}
+
+fn judged(tapes: &[u8], ends: &[usize]) {
+    let mut from = 0;
+    let mut i = 0;
+    while i < ends.len() {
+        let to = later(from, ends[i]);
+        both(part(tapes, from, to - from));
+        from = to;
+        i += 1;
+    }
+}
+
+fn both(tape: &[u8]) {
+    say(judge(tape));
+    say(quick_judge::judge(tape));
+}
+
+fn say(found: Finding) {
+    let mut out = [0u8; LONGEST];
+    let n = verdict_line::line(found, &mut out);
+    io::write_all(STDOUT_FILENO, part(&out, 0, n));
 }
 
 fn line(place: usize, code: usize) {
