@@ -22,6 +22,7 @@ MUTABLE = re.compile(r"&(?:'\w+ )?mut\b")
 OTHERWISE = {
     "tlv_write write": "`one-answer` in `crates/tlv_write/proofs/Refusals.antt`: refusal and size together are the answer",
     "book_judged judged": "`entered-once` in `crates/book_judged/proofs/Theorem.antt`: no tape has two entries under one number",
+    "quick_judge judge": "`quick-plain` in `crates/quick_judge/proofs/Same.antt`: no tape has two findings",
     "judge judge": "`judged-once` in `crates/verdict_judged/proofs/Once.antt`: no tape has two answers",
     "lab due::lab_judge": "`found-once` in `crates/lab/proofs/Once.antt`: no tape has two findings",
 }
