@@ -15,7 +15,8 @@ use Rattle.slices.specs.Tests.{alike}
 use Rattle.slices.proofs.Choice.{pick-yes, pick-no, either}
 use Rattle.slices.proofs.Comparing.{alike-same}
 use Rattle.slices.proofs.Cutting.{none-left}
-use Rattle.tape_read.specs.Entries.{entry, command, answer, silence, decision}
+use Rattle.numbers.specs.Kinds.{command, answer, silence, decision}
+use Rattle.tape_read.specs.Entries.{entry}
 use Rattle.dol_fill.specs.Filled.{summed}
 use Rattle.rulebook.specs.Situation.{Situation}
 use Rattle.rulebook.specs.Phase.{Asked, Heard, Phase, asks, hears, decides, commandOf, dueKind, decisionOf}
