@@ -37,6 +37,8 @@ EXCEPTIONS = {
     "select_list joining::clear": "bytes behind the rows that count; the list that they read as, `listIn`, is an equation",
     "select_list joining::join": "bytes behind the rows that count; the list that they read as, `listIn`, is an equation",
     "select_list joining::remove": "bytes behind the rows that count; the list that they read as, `listIn`, is an equation",
+    "select_search turns::begin": "bytes behind the rows that count; the list that they read as, `listIn`, is an equation",
+    "select_search turns::heard": "bytes behind the rows that count; the list that they read as, `listIn`, is an equation",
 }
 
 HEAD = """# Every public function

@@ -2,24 +2,23 @@
 -- Assumes nothing.
 use mathlib.Core.Path.{_≡_, refl, sym, ap, ap₂, _∙_}
 use mathlib.Core.Bool.{Bool, true, false, _||_}
-use mathlib.Core.List.{List}
-use Prim.Native.Nat.{ℕ, _+_, _-_, _≤_, _<_}
+use Prim.Native.Nat.{ℕ, _+_, _-_, _≤_}
 use native.Mathlib.Omega.{arith}
-use lib.Dec.{eqb, ltb}
-use lib.ListN.{length, getD, take, length-take}
-use lib.Seq.{take-take, getD-take}
-use borrow.Author.Tests.{ltb-true, ltb-false, lt-ltb, le-ltb, eq-eqb, ne-eqb, eqb-true, eqb-false}
+use lib.Dec.{ltb}
+use lib.ListN.{take}
+use lib.Seq.{take-take}
 use Rattle.slices.specs.Choice.{pick}
-use Rattle.slices.proofs.Choice.{pick-ap, pick-cong, either}
+use Rattle.slices.proofs.Choice.{pick-ap, pick-cong}
 use Rattle.start_list.specs.Listing.{Applications}
 use Rattle.select_list.specs.Order.{Candidate}
-use Rattle.select_list.specs.Kept.{mostKept, candidateAt}
-use Rattle.select_search.specs.Search.{Search, Found, asks, shows, over, mostExchanges, mayGoOn, goes, offers}
+use Rattle.select_list.specs.Kept.{mostKept}
+use Rattle.select_list.proofs.Seen.{first-seen, none-seen, two-seen}
+use Rattle.select_search.specs.Search.{Search, Found, asks, shows, over, mostExchanges, mayGoOn, goes, offers, cutTo}
 use Rattle.select_search.specs.Final.{attended, unattended, finalSelection, chosen}
 use Rattle.select_search.specs.Listing.{fromFirst, nextAid}
 use Rattle.select_search.specs.declared.Step.{Step}
 use Rattle.select_search.specs.declared.Step.the-variants.{Listed, Final}
-use Rattle.select_laws.specs.Cut.{cutTo, roomNext, cut}
+use Rattle.select_laws.specs.Cut.{roomNext, cut}
 
 -- a choice between two ends, cut
 pub cut-pick : {t t′ : Bool} (a a′ b b′ : Found) → t ≡ t′ → cut a ≡ cut a′ → cut b ≡ cut b′ → cut (pick t a b) ≡ cut (pick t′ a′ b′)
@@ -27,26 +26,6 @@ cut-pick {t} {t′} a a′ b b′ e f g =
     pick-ap cut t a b
     ∙ (pick-cong t (cut a) (cut a′) (cut b) (cut b′) (λ y. f) (λ n. g)
     ∙ (ap (λ (x : Bool). pick x (cut a′) (cut b′)) e ∙ sym (pick-ap cut t′ a′ b′)))
-
--- tests of a list that see no further than its first two
-module _ (m : ℕ) (l : List Candidate) where
-  pub first-seen : 0 < m → candidateAt (take m l) 0 ≡ candidateAt l 0
-  unfolding candidateAt
-  first-seen h = getD-take m l 0 _ h
-
-  pub none-seen : 0 < m → eqb (length l) 0 ≡ eqb (length (take m l)) 0
-  none-seen h =
-      let z = length-take m l in
-      either (eqb (length l) 0)
-      (λ y. let e = eqb-true (length l) 0 y in y ∙ sym (eq-eqb (length (take m l)) 0 (omega arith)))
-      (λ n. let e = eqb-false (length l) 0 n in n ∙ sym (ne-eqb (length (take m l)) 0 (λ k. e (omega arith))))
-
-  pub two-seen : 1 < m → ltb 1 (length l) ≡ ltb 1 (length (take m l))
-  two-seen h =
-      let z = length-take m l in
-      either (ltb 1 (length l))
-      (λ y. let e = ltb-true 1 (length l) y in y ∙ sym (lt-ltb 1 (length (take m l)) (omega arith)))
-      (λ n. let e = ltb-false 1 (length l) n in n ∙ sym (le-ltb 1 (length (take m l)) (omega arith)))
 
 -- what it is that a step sees no more than is kept
 abbrev pub Blind : (Search → Found) → Type 0

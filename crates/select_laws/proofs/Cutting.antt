@@ -10,7 +10,7 @@ use lib.ListN.{take}
 use lib.Seq.{take-take, getD-take}
 use Rattle.slices.specs.Choice.{pick}
 use Rattle.slices.specs.Tests.{every, alike}
-use Rattle.slices.proofs.Choice.{picked, pick-cong, pick-ap}
+use Rattle.slices.proofs.Choice.{pick-cong, pick-ap}
 use Rattle.start_list.specs.Listing.{Applications}
 use Rattle.select_names.specs.Names.{supported}
 use Rattle.select_answers.specs.Files.{directoryFile, isApplication, applicationName, applicationIndicator}
@@ -18,15 +18,18 @@ use Rattle.select_answers.specs.Directory.{Met, applicationsOf}
 use Rattle.select_list.specs.Order.{Candidate, candidateOf, placed, without, mostShown}
 use Rattle.select_list.specs.Kept.{mostKept, candidateAt}
 use Rattle.select_list.proofs.Placing.{cut-placed, cut-without}
-use Rattle.select_search.specs.Search.{Search, Found, over, mostExchanges, goes, withList, hasStatus}
+use Rattle.select_list.proofs.Seen.{none-seen}
+use Rattle.select_search.specs.Search.{Search, Found, asks, shows, runs, over, mostExchanges, goes, withList, hasStatus, cutTo}
 use Rattle.select_search.specs.Final.{finalSelection, lessOne, selected, afterFinal}
 use Rattle.select_search.specs.Listing.{fromFirst, nextAid, joinedBy, compared, afterListed}
-use Rattle.select_search.specs.Directory.{afterEnvironment, joinedAll, afterRecord}
+use Rattle.select_search.specs.Directory.{afterEnvironment, nextRecord, joinedAll, afterRecord}
 use Rattle.select_search.specs.Heard.{heardAt, heard}
+use Rattle.select_search.specs.Turns.{kept}
 use Rattle.select_search.specs.declared.Step.{Step}
 use Rattle.select_search.specs.declared.Step.the-variants.{Environment, Directory, Listed, Final}
-use Rattle.select_laws.specs.Cut.{cutTo, roomNow, roomNext, cut, AmongShown}
-use Rattle.select_laws.proofs.Blind.{Blind, cut-pick, none-seen, goes-blind, final-blind, next-blind, first-blind, alike-cut}
+use Rattle.select_search.proofs.Joining.{joined-stand}
+use Rattle.select_laws.specs.Cut.{roomNow, roomNext, cut, AmongShown}
+use Rattle.select_laws.proofs.Blind.{Blind, cut-pick, goes-blind, final-blind, next-blind, first-blind, alike-cut}
 
 -- joining sees no further than is kept
 placed-seen : (m : ℕ) (c : Candidate) (l l′ : List Candidate) → take m l ≡ take m l′ → take m (placed c l) ≡ take m (placed c l′)
@@ -51,10 +54,6 @@ fallen-seen : (m i : ℕ) (l : List Candidate) → i ≤ m → take m (without i
 fallen-seen m i l h =
     cut-without m i l h
     ∙ sym (cut-without m i (take (suc m) l) h ∙ ap (without i) (take-take (suc m) (suc m) l (omega arith)))
-
-joined-stand : (t : Applications) (a : List ℕ) (s : Search) → joinedBy t a s .stand ≡ s .stand
-unfolding joinedBy withList
-joined-stand t a s = picked (λ x. x .stand ≡ s .stand) (hasStatus 0x9000 a) _ s (λ y. refl) (λ n. refl)
 
 module _ (t : Applications) (a : List ℕ) (s : Search) (h : s .stand .exchanges ≤ mostExchanges) where
   abbrev n : ℕ
@@ -87,12 +86,12 @@ module _ (t : Applications) (a : List ℕ) (s : Search) (h : s .stand .exchanges
       cut-pick (finalSelection t s) (finalSelection t s′) _ _
       (ap (λ (b : Bool). hasStatus 0x6A83 a && not b) (none-seen n (s .list) (omega arith)))
       (same (finalSelection t) (final-blind t))
-      (cut-pick (goes (withList (joinedAll t (applicationsOf a) (s .list)) s) (Directory file (number + 1)))
-      (goes (withList (joinedAll t (applicationsOf a) (take n (s .list))) s′) (Directory file (number + 1)))
+      (cut-pick (goes (withList (joinedAll t (applicationsOf a) (s .list)) s) (Directory file (nextRecord number)))
+      (goes (withList (joinedAll t (applicationsOf a) (take n (s .list))) s′) (Directory file (nextRecord number)))
       (fromFirst (withList [] s))
       (fromFirst (withList [] s′))
       refl
-      (alike-cut (λ x. goes x (Directory file (number + 1))) (goes-blind (Directory file (number + 1)))
+      (alike-cut (λ x. goes x (Directory file (nextRecord number))) (goes-blind (Directory file (nextRecord number)))
       (withList (joinedAll t (applicationsOf a) (s .list)) s)
       (withList (joinedAll t (applicationsOf a) (take n (s .list))) s′)
       refl
@@ -156,3 +155,11 @@ module _ (t : Applications) (a : List ℕ) (s : Search) (h : s .stand .exchanges
   cut-turn p =
       cut-pick (over 1) (over 1) (heardAt t s a (s .stand .step)) (heardAt t s′ a (s .stand .step)) refl refl
       (at-step (s .stand .step) p)
+
+-- the room of the lent bytes is no less: what the code keeps of what was found is as good, wherever it is cut
+pub kept-cut : (f : Found) → cut (kept f) ≡ cut f
+unfolding cut kept
+kept-cut (asks x) = ap (λ l. asks (record { stand = x .stand; list = l })) (take-take (roomNow x) mostKept (x .list) (omega arith))
+kept-cut (shows x) = ap (λ l. shows (record { stand = x .stand; list = l })) (take-take (roomNext x) mostKept (x .list) (omega arith))
+kept-cut (runs list) = refl
+kept-cut (over reason) = refl

@@ -26,7 +26,7 @@ use Rattle.select_list.specs.Kept.{candidateAt}
 use Rattle.select_search.specs.Search.{Search, asks, shows, runs, over, begun, mayGoOn, goes, offers, withList, hasStatus}
 use Rattle.select_search.specs.Final.{attended, unattended, finalSelection, chosen, lessOne, selected, afterFinal}
 use Rattle.select_search.specs.Listing.{fromFirst, nextAid, joinedBy, compared, afterListed}
-use Rattle.select_search.specs.Directory.{afterEnvironment, joinedAll, afterRecord}
+use Rattle.select_search.specs.Directory.{afterEnvironment, nextRecord, joinedAll, afterRecord}
 use Rattle.select_search.specs.Heard.{heardAt, heard}
 use Rattle.select_search.specs.declared.Step.{Step}
 use Rattle.select_search.specs.declared.Step.the-variants.{Environment, Directory, Listed, Final}
@@ -152,10 +152,10 @@ module _ (t : Applications) where
         (λ y. final-known s o)
         (λ n.
         picked (Known t) (hasStatus 0x9000 a && recordRight a)
-        (goes (withList (joinedAll t (applicationsOf a) (s .list)) s) (Directory file (number + 1)))
+        (goes (withList (joinedAll t (applicationsOf a) (s .list)) s) (Directory file (nextRecord number)))
         (fromFirst (withList [] s))
         (λ y.
-        on (withList (joinedAll t (applicationsOf a) (s .list)) s) (Directory file (number + 1))
+        on (withList (joinedAll t (applicationsOf a) (s .list)) s) (Directory file (nextRecord number))
         (all-joined (applicationsOf a) (s .list) o) tt)
         (λ m. on (withList [] s) (Listed 0 false) tt some))
     at-step (Listed k again) p =
@@ -166,7 +166,7 @@ module _ (t : Applications) where
         (λ y. compared-known k p)
         (λ m. next-known s k o))
     at-step (Final place taken) p =
-        picked (Known t) (selected s place a) (pick (fillable (pdolOf a)) (runs (pdolOf a)) (over 9))
+        picked (Known t) (selected (s .list) place a) (pick (fillable (pdolOf a)) (runs (pdolOf a)) (over 9))
         (finalSelection t (lessOne place taken s))
         (λ y. picked (Known t) (fillable (pdolOf a)) (runs (pdolOf a)) (over 9) (λ f. tt) (λ f. tt))
         (λ n. final-known (lessOne place taken s) (all-without place (s .list) o))

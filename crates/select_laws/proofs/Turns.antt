@@ -26,7 +26,7 @@ use Rattle.select_list.specs.Kept.{candidateAt}
 use Rattle.select_search.specs.Search.{Search, shows, runs, over, mostExchanges, mayGoOn, goes, offers, withList, hasStatus}
 use Rattle.select_search.specs.Final.{attended, unattended, finalSelection, chosen, lessOne, selected, afterFinal}
 use Rattle.select_search.specs.Listing.{fromFirst, nextAid, joinedBy, compared, afterListed}
-use Rattle.select_search.specs.Directory.{afterEnvironment, joinedAll, afterRecord}
+use Rattle.select_search.specs.Directory.{afterEnvironment, nextRecord, joinedAll, afterRecord}
 use Rattle.select_search.specs.Heard.{heardAt, heard}
 use Rattle.select_laws.specs.Follows.{Follows}
 use Rattle.select_search.specs.declared.Step.{Step}
@@ -154,17 +154,17 @@ module _ (t : Applications) (s : Search) (a : List ℕ) where
       (λ y. final-follows e s refl t)
       (λ n.
       picked (Follows e) (hasStatus 0x9000 a && recordRight a)
-      (goes (withList (joinedAll t (applicationsOf a) (s .list)) s) (Directory file (number + 1)))
+      (goes (withList (joinedAll t (applicationsOf a) (s .list)) s) (Directory file (nextRecord number)))
       (fromFirst (withList [] s))
       (λ y.
       goes-follows e (withList (joinedAll t (applicationsOf a) (s .list)) s)
-      (ap (λ x. x .exchanges) (kept-made (joinedAll t (applicationsOf a) (s .list)) s)) (Directory file (number + 1)))
+      (ap (λ x. x .exchanges) (kept-made (joinedAll t (applicationsOf a) (s .list)) s)) (Directory file (nextRecord number)))
       (λ m. first-follows e (withList [] s) (ap (λ x. x .exchanges) (kept-made [] s))))
 
   last-follows : (place : ℕ) (taken : Bool) → Follows e (afterFinal t s place taken a)
   unfolding afterFinal
   last-follows place taken =
-      picked (Follows e) (selected s place a) (pick (fillable (pdolOf a)) (runs (pdolOf a)) (over 9))
+      picked (Follows e) (selected (s .list) place a) (pick (fillable (pdolOf a)) (runs (pdolOf a)) (over 9))
       (finalSelection t (lessOne place taken s))
       (λ y. picked (Follows e) (fillable (pdolOf a)) (runs (pdolOf a)) (over 9) (λ f. tt) (λ f. nine e))
       (λ n. final-follows e (lessOne place taken s) (less-made place taken s) t)

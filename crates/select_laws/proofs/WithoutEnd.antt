@@ -12,7 +12,7 @@ use Rattle.slices.proofs.Choice.{pick-yes, pick-no, and-both}
 use Rattle.start_list.specs.Listing.{Applications}
 use Rattle.select_answers.specs.Directory.{applicationsOf}
 use Rattle.select_search.specs.Search.{Search, asks, over, mostExchanges, mayGoOn, goes, withList, hasStatus}
-use Rattle.select_search.specs.Directory.{joinedAll, afterRecord}
+use Rattle.select_search.specs.Directory.{nextRecord, joinedAll, afterRecord}
 use Rattle.select_search.specs.Heard.{heardAt, heard}
 use Rattle.select_search.specs.declared.Step.the-variants.{Directory}
 use Rattle.select_laws.specs.Repeated.{answered}
@@ -30,7 +30,7 @@ abbrev more : Applications → List ℕ → Search → Search
 more t a s = record { stand = s .stand; list = joinedAll t (applicationsOf a) (s .list) }
 
 good-turn : (t : Applications) (s : Search) (a : List ℕ) (file number : ℕ) → s .stand .step ≡ Directory file number → GoodRecord a
-    → heard t s a ≡ goes (more t a s) (Directory file (number + 1))
+    → heard t s a ≡ goes (more t a s) (Directory file (nextRecord number))
 unfolding heard heardAt afterRecord withList
 good-turn t s a file number e g =
     pick-no _ _ _ (g .size)
@@ -49,9 +49,9 @@ without-end t (a ∷ []) s file number e h n g =
 without-end t (a ∷ b ∷ rest) s file number e h n g =
     let next : Search =
     record {
-      stand = record { exchanges = s .stand .exchanges + 1; step = Directory file (number + 1); fallen = s .stand .fallen };
+      stand = record { exchanges = s .stand .exchanges + 1; step = Directory file (nextRecord number); fallen = s .stand .fallen };
       list = joinedAll t (applicationsOf a) (s .list);
     } in
     ap (through t (b ∷ rest))
     (good-turn t s a file number e (g .0) ∙ pick-yes _ _ _ (lt-ltb (s .stand .exchanges) mostExchanges (omega arith)))
-    ∙ without-end t (b ∷ rest) next file (number + 1) refl (omega arith) (omega arith) (g .1)
+    ∙ without-end t (b ∷ rest) next file (nextRecord number) refl (omega arith) (omega arith) (g .1)

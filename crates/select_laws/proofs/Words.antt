@@ -23,7 +23,7 @@ use Rattle.select_list.specs.Kept.{candidateAt}
 use Rattle.select_search.specs.Search.{Search, shows, runs, over, mayGoOn, goes, offers, withList, hasStatus}
 use Rattle.select_search.specs.Final.{attended, unattended, finalSelection, lessOne, selected, afterFinal}
 use Rattle.select_search.specs.Listing.{fromFirst, nextAid, joinedBy, compared, afterListed}
-use Rattle.select_search.specs.Directory.{afterEnvironment, joinedAll, afterRecord}
+use Rattle.select_search.specs.Directory.{afterEnvironment, nextRecord, joinedAll, afterRecord}
 use Rattle.select_search.specs.Heard.{heardAt, heard}
 use Rattle.select_search.specs.declared.Step.{Step}
 use Rattle.select_search.specs.declared.Step.the-variants.{Environment, Directory, Listed, Final}
@@ -109,9 +109,9 @@ module _ (t : Applications) where
         (λ y. final-unasked s)
         (λ n.
         picked (Unasked t) (hasStatus 0x9000 a && recordRight a)
-        (goes (withList (joinedAll t (applicationsOf a) (s .list)) s) (Directory file (number + 1)))
+        (goes (withList (joinedAll t (applicationsOf a) (s .list)) s) (Directory file (nextRecord number)))
         (fromFirst (withList [] s))
-        (λ y. directory-on (withList (joinedAll t (applicationsOf a) (s .list)) s) file (number + 1))
+        (λ y. directory-on (withList (joinedAll t (applicationsOf a) (s .list)) s) file (nextRecord number))
         (λ m. listed-on (withList [] s) 0 false))
     at-step (Listed k again) =
         picked (Unasked t) (eqb k 0 && (not again && hasStatus 0x6A81 a)) (over 12) _
@@ -121,7 +121,7 @@ module _ (t : Applications) where
         (λ y. compared-unasked k)
         (λ m. next-unasked s k))
     at-step (Final place taken) =
-        picked (Unasked t) (selected s place a) (pick (fillable (pdolOf a)) (runs (pdolOf a)) (over 9))
+        picked (Unasked t) (selected (s .list) place a) (pick (fillable (pdolOf a)) (runs (pdolOf a)) (over 9))
         (finalSelection t (lessOne place taken s))
         (λ y. picked (Unasked t) (fillable (pdolOf a)) (runs (pdolOf a)) (over 9) (λ f. tt) (λ f. tt))
         (λ n. final-unasked (lessOne place taken s))

@@ -2,15 +2,11 @@
 -- can be shown, and one more can move up for each exchange that is left: 355 less the number of that exchange.
 -- Assumes nothing.
 use Prim.Native.Nat.{ℕ, _+_, _-_, _<_}
-use lib.ListN.{take}
 use Rattle.select_list.specs.Order.{mostShown}
 use Rattle.select_list.specs.Kept.{mostKept}
-use Rattle.select_search.specs.Search.{Search, Found, asks, shows, runs, over}
+use Rattle.select_search.specs.Search.{Search, Found, asks, shows, runs, over, cutTo}
 use Rattle.select_search.specs.declared.Step.{Step}
 use Rattle.select_search.specs.declared.Step.the-variants.{Environment, Directory, Listed, Final}
-
-abbrev pub cutTo : ℕ → Search → Search
-cutTo n s = record { stand = s .stand; list = take n (s .list) }
 
 -- the room in the exchange that is due, and in the one after it
 abbrev pub roomNow : Search → ℕ

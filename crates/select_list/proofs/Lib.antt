@@ -7,5 +7,6 @@ pub mod Standing
 pub mod Counting
 pub mod Filling
 pub mod Made
+pub mod Seen
 pub mod InOrder
 pub mod Worked

@@ -1,1 +1,4 @@
+pub mod Turning
+pub mod Joining
+pub mod Leaving
 pub mod Worked

@@ -23,7 +23,7 @@ use Rattle.select_search.specs.Search.{Search, Found, asks, shows, runs,
 use Rattle.select_search.specs.Search.{mayGoOn, goes, offers, withList, hasStatus}
 use Rattle.select_search.specs.Final.{attended, unattended, finalSelection, chosen, lessOne, selected, afterFinal}
 use Rattle.select_search.specs.Listing.{fromFirst, nextAid, joinedBy, compared, afterListed}
-use Rattle.select_search.specs.Directory.{afterEnvironment, joinedAll, afterRecord}
+use Rattle.select_search.specs.Directory.{afterEnvironment, joinedAll, nextRecord, afterRecord}
 use Rattle.select_search.specs.Heard.{heardAt, heard}
 use Rattle.select_search.specs.declared.Step.the-variants.{Listed}
 
@@ -38,7 +38,7 @@ unfolding opened between alike andThen sizeAt firstWanted asksFor wantedStep ent
     applicationName applicationIndicator isNamed entryRight entries entriesIn recordRight entryName entryIndicator applications
     applicationsOf priority confirms standingOf candidateOf placed without candidateAt listedAt mayGoOn goes offers withList hasStatus
     attended unattended finalSelection chosen lessOne selected afterFinal fromFirst nextAid joinedBy compared afterListed
-    afterEnvironment joinedAll afterRecord heardAt heard
+    afterEnvironment joinedAll nextRecord afterRecord heardAt heard
 turn t (asks s) (answer a) = heard t s a
 turn t (asks s) (choice c) = asks s
 turn t (shows s) (answer a) = shows s

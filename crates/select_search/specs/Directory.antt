@@ -2,7 +2,7 @@
 -- Assumes nothing.
 use mathlib.Core.Bool.{not, _&&_}
 use mathlib.Core.List.{List, [], _∷_}
-use Prim.Native.Nat.{ℕ, _+_}
+use Prim.Native.Nat.{ℕ, _+_, _%_}
 use lib.Dec.{eqb}
 use lib.ListN.{length}
 use Rattle.slices.specs.Choice.{pick}
@@ -28,11 +28,15 @@ joinedAll t [] l = l
 joinedAll t (m ∷ ms) l =
     joinedAll t ms (pick (supported t (m .name)) (placed (candidateOf (t .choice) (m .name) (m .indicator)) l) l)
 
+-- the record behind one: a number of one byte, which a selection counts up to 99
+unfoldable pub nextRecord : ℕ → ℕ
+nextRecord number = (number + 1) % 256
+
 -- 4: behind the last record ('6A83') the list is complete, where somebody stands in it. 2 and 3: a good record's entries join, and the next
 -- record is read. 5, and any error: the list is cleared, and the list of AIDs is used
 unfoldable pub afterRecord : Applications → Search → ℕ → ℕ → List ℕ → Found
 afterRecord t s file number a =
     pick (hasStatus 0x6A83 a && not (eqb (length (s .list)) 0)) (finalSelection t s)
     (pick (hasStatus 0x9000 a && recordRight a)
-    (goes (withList (joinedAll t (applicationsOf a) (s .list)) s) (Directory file (number + 1)))
+    (goes (withList (joinedAll t (applicationsOf a) (s .list)) s) (Directory file (nextRecord number)))
     (fromFirst (withList [] s)))

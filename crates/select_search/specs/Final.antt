@@ -11,7 +11,7 @@ use Rattle.dol_wanted.specs.Wanted.{fillable}
 use Rattle.start_list.specs.Listing.{Applications}
 use Rattle.answer_select.specs.Select.{pdolOf}
 use Rattle.select_answers.specs.Files.{isApplication, applicationName}
-use Rattle.select_list.specs.Order.{without}
+use Rattle.select_list.specs.Order.{Candidate, without}
 use Rattle.select_list.specs.Kept.{candidateAt}
 use Rattle.select_search.specs.Search.{Search, Found, runs, over, goes, offers, hasStatus}
 use Rattle.select_search.specs.declared.Step.the-variants.{Final}
@@ -44,11 +44,11 @@ lessOne place taken s =
     }
 
 -- a successful final SELECT: '9000', no format errors, and 84 that matches the name sent exactly
-unfoldable pub selected : Search → ℕ → List ℕ → Bool
-selected s place a =
-    every (hasStatus 0x9000 a ∷ isApplication a ∷ alike (candidateAt (s .list) place .name) (applicationName a) ∷ [])
+unfoldable pub selected : List Candidate → ℕ → List ℕ → Bool
+selected l place a =
+    every (hasStatus 0x9000 a ∷ isApplication a ∷ alike (candidateAt l place .name) (applicationName a) ∷ [])
 
 -- selection is over, unless 9F38 cannot be filled (01, reason 9); any other answer removes the application, and processing resumes at 1
 unfoldable pub afterFinal : Applications → Search → ℕ → Bool → List ℕ → Found
 afterFinal t s place taken a =
-    pick (selected s place a) (pick (fillable (pdolOf a)) (runs (pdolOf a)) (over 9)) (finalSelection t (lessOne place taken s))
+    pick (selected (s .list) place a) (pick (fillable (pdolOf a)) (runs (pdolOf a)) (over 9)) (finalSelection t (lessOne place taken s))

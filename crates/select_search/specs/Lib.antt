@@ -4,3 +4,5 @@ pub mod Directory
 pub mod Listing
 pub mod Final
 pub mod Heard
+pub mod Turns
+pub mod Entries

@@ -4,7 +4,7 @@ use mathlib.Core.Bool.{Bool, false}
 use mathlib.Core.List.{List, [], _∷_, _++_}
 use Prim.Native.Nat.{ℕ, _+_, _*_, _-_}
 use lib.Dec.{eqb, ltb}
-use lib.ListN.{length, getD}
+use lib.ListN.{length, getD, take}
 use Rattle.slices.specs.Choice.{pick}
 use Rattle.start_list.specs.Listing.{Applications, listedAt}
 use Rattle.commands.specs.Commands.{recordCommand}
@@ -68,6 +68,10 @@ goes s step =
 -- a choice before it is due: likewise
 unfoldable pub offers : Search → Found
 offers s = pick (mayGoOn s) (shows s) (over 11)
+
+-- the first n of its list
+abbrev pub cutTo : ℕ → Search → Search
+cutTo n s = record { stand = s .stand; list = take n (s .list) }
 
 unfoldable pub withList : List Candidate → Search → Search
 withList l s = record { stand = s .stand; list = l }
