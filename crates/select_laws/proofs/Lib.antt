@@ -6,3 +6,4 @@ pub mod Matching
 pub mod Missing
 pub mod FirstFree
 pub mod WithoutEnd
+pub mod Numbers

@@ -6,3 +6,4 @@ pub mod Supported
 pub mod Repeated
 pub mod Free
 pub mod Endless
+pub mod Numbered
