@@ -4,12 +4,13 @@ use mathlib.Core.Path.{_≡_}
 use mathlib.Core.Bool.{true}
 use mathlib.Core.List.{List, [], _∷_}
 use Prim.Native.Nat.{ℕ, _+_, _<_}
+use Rattle.numbers.specs.Reasons.{forSize, forList, forExchanges, forNobody}
 use Rattle.answer_common.specs.Named.{listed}
 use Rattle.select_search.specs.Search.{Found, asks, shows, runs, over, mostExchanges}
 
 -- the reasons that a selection can end with
 abbrev pub reasons : List ℕ
-reasons = 1 ∷ 9 ∷ 11 ∷ 12 ∷ []
+reasons = forSize ∷ forList ∷ forExchanges ∷ forNobody ∷ []
 
 -- behind e exchanges: one more, or a choice before it, while fewer than a hundred were made; GET PROCESSING OPTIONS; or the end
 abbrev pub Follows : ℕ → Found → Type 0

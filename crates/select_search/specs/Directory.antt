@@ -6,6 +6,7 @@ use Prim.Native.Nat.{ℕ, _+_, _%_}
 use lib.Dec.{eqb}
 use lib.ListN.{length}
 use Rattle.slices.specs.Choice.{pick}
+use Rattle.numbers.specs.Reasons.{forNobody}
 use Rattle.start_list.specs.Listing.{Applications}
 use Rattle.select_names.specs.Names.{supported}
 use Rattle.select_answers.specs.Files.{directoryFile}
@@ -19,7 +20,7 @@ use Rattle.select_search.specs.declared.Step.the-variants.{Directory}
 -- 1: '6A81' ends the session; a good answer leads to the directory's first record, anything else to the list of AIDs
 unfoldable pub afterEnvironment : Search → List ℕ → Found
 afterEnvironment s a =
-    pick (hasStatus 0x6A81 a) (over 12)
+    pick (hasStatus 0x6A81 a) (over forNobody)
     (pick (hasStatus 0x9000 a && not (eqb (directoryFile a) 0)) (goes s (Directory (directoryFile a) 1)) (fromFirst s))
 
 -- 3: those that match one of the applications supported join, in the order of their entries

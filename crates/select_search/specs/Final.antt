@@ -7,6 +7,7 @@ use lib.Dec.{eqb, ltb}
 use lib.ListN.{length}
 use Rattle.slices.specs.Choice.{pick}
 use Rattle.slices.specs.Tests.{every, alike}
+use Rattle.numbers.specs.Reasons.{forList, forNobody}
 use Rattle.dol_wanted.specs.Wanted.{fillable}
 use Rattle.start_list.specs.Listing.{Applications}
 use Rattle.answer_select.specs.Select.{pdolOf}
@@ -25,15 +26,15 @@ attended s =
 
 -- 2 and 5, where he cannot: the first in order, which wants a confirmation only where all do
 unfoldable pub unattended : Search → Found
-unattended s = pick (candidateAt (s .list) 0 .confirm) (over 12) (goes s (Final 0 false))
+unattended s = pick (candidateAt (s .list) 0 .confirm) (over forNobody) (goes s (Final 0 false))
 
 -- 1: nobody is left
 unfoldable pub finalSelection : Applications → Search → Found
-finalSelection t s = pick (eqb (length (s .list)) 0) (over 12) (pick (t .choice) (attended s) (unattended s))
+finalSelection t s = pick (eqb (length (s .list)) 0) (over forNobody) (pick (t .choice) (attended s) (unattended s))
 
 -- the choice: a place among those shown, from 0, or 'FF' for none of them (02, R-12)
 unfoldable pub chosen : Search → ℕ → Found
-chosen s place = pick (eqb place 0xFF) (over 12) (goes s (Final place true))
+chosen s place = pick (eqb place 0xFF) (over forNobody) (goes s (Final place true))
 
 -- the application that was sent falls out; whether it was the shopper's is kept
 unfoldable pub lessOne : ℕ → Bool → Search → Search
@@ -51,4 +52,4 @@ selected l place a =
 -- selection is over, unless 9F38 cannot be filled (01, reason 9); any other answer removes the application, and processing resumes at 1
 unfoldable pub afterFinal : Applications → Search → ℕ → Bool → List ℕ → Found
 afterFinal t s place taken a =
-    pick (selected (s .list) place a) (pick (fillable (pdolOf a)) (runs (pdolOf a)) (over 9)) (finalSelection t (lessOne place taken s))
+    pick (selected (s .list) place a) (pick (fillable (pdolOf a)) (runs (pdolOf a)) (over forList)) (finalSelection t (lessOne place taken s))

@@ -3,6 +3,7 @@
 use mathlib.Core.List.{List}
 use Prim.Native.Nat.{ℕ}
 use Rattle.slices.specs.Choice.{pick}
+use Rattle.numbers.specs.Reasons.{forSize}
 use Rattle.start_list.specs.Listing.{Applications}
 use Rattle.answer_common.specs.Answer.{sizeBad}
 use Rattle.select_search.specs.Search.{Search, Found, over}
@@ -20,4 +21,4 @@ heardAt t s a (Final place taken) = afterFinal t s place taken a
 
 -- an answer of a bad size ends the session before anything is looked at (01, reason 1)
 unfoldable pub heard : Applications → Search → List ℕ → Found
-heard t s a = pick (sizeBad a) (over 1) (heardAt t s a (s .stand .step))
+heard t s a = pick (sizeBad a) (over forSize) (heardAt t s a (s .stand .step))

@@ -7,6 +7,7 @@ use lib.Dec.{eqb, ltb}
 use lib.ListN.{length}
 use Rattle.slices.specs.Choice.{pick}
 use Rattle.slices.specs.Tests.{alike}
+use Rattle.numbers.specs.Reasons.{forNobody}
 use Rattle.start_list.specs.Listing.{Applications, listedAt}
 use Rattle.select_names.specs.Names.{beginsWith}
 use Rattle.select_answers.specs.Files.{isApplication, applicationName, applicationIndicator}
@@ -41,5 +42,5 @@ compared t s k a =
 -- 2: '6A81' to the first command of all ends the session. 3: '9000' and '6283' with a good FCI are compared; anything else leads to 5
 unfoldable pub afterListed : Applications → Search → ℕ → Bool → List ℕ → Found
 afterListed t s k again a =
-    pick (eqb k 0 && (not again && hasStatus 0x6A81 a)) (over 12)
+    pick (eqb k 0 && (not again && hasStatus 0x6A81 a)) (over forNobody)
     (pick ((hasStatus 0x9000 a || hasStatus 0x6283 a) && isApplication a) (compared t s k a) (nextAid t s k))

@@ -6,6 +6,7 @@ use Prim.Native.Nat.{ℕ, _+_, _*_, _-_}
 use lib.Dec.{eqb, ltb}
 use lib.ListN.{length, getD, take}
 use Rattle.slices.specs.Choice.{pick}
+use Rattle.numbers.specs.Reasons.{forExchanges}
 use Rattle.start_list.specs.Listing.{Applications, listedAt}
 use Rattle.commands.specs.Commands.{recordCommand}
 use Rattle.select_answers.specs.Files.{environment}
@@ -63,11 +64,11 @@ goes s step =
       stand = record { exchanges = s .stand .exchanges + 1; step = step; fallen = s .stand .fallen };
       list = s .list;
     }))
-    (over 11)
+    (over forExchanges)
 
 -- a choice before it is due: likewise
 unfoldable pub offers : Search → Found
-offers s = pick (mayGoOn s) (shows s) (over 11)
+offers s = pick (mayGoOn s) (shows s) (over forExchanges)
 
 -- the first n of its list
 abbrev pub cutTo : ℕ → Search → Search
