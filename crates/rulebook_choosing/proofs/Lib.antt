@@ -4,6 +4,8 @@ pub mod Growing
 pub mod Hundred
 pub mod Along
 pub mod Sent
+pub mod Ends
 pub mod Nobody
+pub mod Endless
 pub mod Worked
 pub mod Theorem

@@ -1,82 +1,58 @@
 -- A card that answers '6A82' to everything: the environment is asked for, then each AID, and nobody is left.
 -- Assumes nothing.
-use mathlib.Core.Path.{_≡_, refl, sym, ap, _∙_, subst}
+use mathlib.Core.Path.{_≡_, refl, sym, _∙_, subst}
 use mathlib.Core.Bool.{true}
-use mathlib.Core.List.{List, [], _∷_}
+use mathlib.Core.List.{List, _∷_}
 use Prim.Native.Nat.{ℕ, zero, suc, _+_, _*_, _<_, _≤_}
 use native.Mathlib.Omega.{arith}
 use lib.Dec.{leb}
 use lib.ListN.{length, getD}
 use borrow.Author.Tests.{leb-true}
 use Rattle.slices.proofs.Choice.{picked, pick-yes}
-use Rattle.numbers.specs.Kinds.{start, command, answer, decision}
-use Rattle.numbers.specs.Outcomes.{terminated}
+use Rattle.numbers.specs.Kinds.{start, command, answer}
 use Rattle.numbers.specs.Reasons.{forNobody}
 use Rattle.tape_read.specs.Entries.{Entry, entry}
 use Rattle.start_list.specs.Listing.{applicationsIn, countIn, countAt}
 use Rattle.select_search.specs.Search as search
-use Rattle.select_search.specs.Search.{Found, over, mostExchanges}
-use Rattle.select_search.specs.Heard.{heard as heardOf}
+use Rattle.select_search.specs.Search.{over, mostExchanges}
 use Rattle.select_laws.specs.Repeated.{missing}
 use Rattle.select_laws.proofs.Missing.{at-aid, after-environment, further as to-the-next, ends}
-use Rattle.sessions.specs.Rules.{asks, decides}
+use Rattle.sessions.specs.Rules.{asks}
 use Rattle.sessions.specs.Session as Under
 use Rattle.sessions.specs.Session.{exchanged, heard, decided}
-use Rattle.rulebook.specs.Situation.{Situation}
-use Rattle.rulebook.specs.Phase.{decisionOf}
 use Rattle.rulebook.specs.Turn.{after}
 use Rattle.verdict_editions.specs.Later.{AskedLater, turnLater, allowedLater, afterLater}
 use Rattle.start_choosing.specs.Start.{isListing}
-use Rattle.rulebook_choosing.specs.Choosing.{Choosing, ChoosingPhase, further, following, searched, listed}
+use Rattle.rulebook_choosing.specs.Choosing.{Choosing, ChoosingPhase, further, following, listed}
 use Rattle.rulebook_choosing.specs.Session.{Plays, Session}
-use Rattle.rulebook_choosing.specs.Nobody.{AnswersAll, EndsWith, NobodyFound}
+use Rattle.rulebook_choosing.specs.Nobody.{AnswersAll, NobodyFound}
+use Rattle.rulebook_choosing.proofs.Ends.{Left, two-before, one-left, gone-on}
 use Rattle.rulebook_choosing.proofs.Sent.{list-count, list-some}
 
-before : (e f : Entry) (es : List Entry) → EndsWith e es → EndsWith e (f ∷ es)
-before e f [] h = absurd h
-before e f (g ∷ es) h = h
-
--- the decision, and so many entries before it
-abbrev Left : Situation → ℕ → List Entry → Type 0
-Left s n es = (length es ≡ n) × EndsWith (entry decision (decisionOf terminated forNobody s)) es
-
-two-before : (s : Situation) (n : ℕ) (e f : Entry) (es : List Entry) → Left s n es → Left s (n + 2) (e ∷ f ∷ es)
-two-before s n e f es h = (let size = h .0 in omega arith, before _ e (f ∷ es) (before _ f es (h .1)))
-
-one-left : (s : Situation) (es : List Entry) → Plays (decides terminated forNobody s) es → Left s 1 es
-one-left s es (decided f) = (refl, ap (entry decision) f)
-
 module _ (x : Choosing) (few : length (x .applications .list) + 2 ≤ mostExchanges) where
-  -- after '6A82' a selection goes on as the search does
-  gone-on : (s : search.Search) (a : List ℕ) (f : Found) → a ≡ missing → heardOf (x .applications) s missing ≡ f
-      → searched (further s x) a ≡ following (further s x) f
-  unfolding searched further
-  gone-on s a f same e =
-      ap (λ (b : List ℕ). following (further s x) (heardOf (x .applications) s b)) same ∙ ap (following (further s x)) e
-
   from-aid : (j k : ℕ) → length (x .applications .list) ≡ k + suc j → (es : List Entry)
-      → Plays (asks (AskedLater.new (further (at-aid k) x))) es → AnswersAll missing es → Left (x .situation) (2 * j + 3) es
+      → Plays (asks (AskedLater.new (further (at-aid k) x))) es → AnswersAll missing es → Left forNobody (x .situation) (2 * j + 3) es
   unfolding turnLater following further
   from-aid zero k e es (exchanged {c} {a} {es = rest} f ok play) h =
-      let here = gone-on (at-aid k) a (over 12) (h .1 .0 refl) (ends (x .applications) few k (omega arith)) in
-      let last = one-left (x .situation) rest (subst (λ (q : ChoosingPhase). Plays q rest) here play) in
-      two-before (x .situation) 1 (entry command c) (entry answer a) rest last
+      let here = gone-on x (at-aid k) a missing (over 12) (h .1 .0 refl) (ends (x .applications) few k (omega arith)) in
+      let last = one-left forNobody (x .situation) rest (subst (λ (q : ChoosingPhase). Plays q rest) here play) in
+      two-before forNobody (x .situation) 1 (entry command c) (entry answer a) rest last
   from-aid (suc j) k e es (exchanged {c} {a} {es = rest} f ok play) h =
-      let here = gone-on (at-aid k) a _ (h .1 .0 refl) (to-the-next (x .applications) few k (omega arith)) in
+      let here = gone-on x (at-aid k) a missing _ (h .1 .0 refl) (to-the-next (x .applications) few k (omega arith)) in
       let more = from-aid j (k + 1) (omega arith) rest (subst (λ (q : ChoosingPhase). Plays q rest) here play) (h .1 .1) in
-      let all : Left (x .situation) (2 * j + 3 + 2) (entry command c ∷ entry answer a ∷ rest) =
-      two-before (x .situation) (2 * j + 3) (entry command c) (entry answer a) rest more in
+      let all : Left forNobody (x .situation) (2 * j + 3 + 2) (entry command c ∷ entry answer a ∷ rest) =
+      two-before forNobody (x .situation) (2 * j + 3) (entry command c) (entry answer a) rest more in
       let size : length (entry command c ∷ entry answer a ∷ rest) ≡ 2 * j + 3 + 2 = all .0 in
       (omega arith, all .1)
 
   -- from the environment on
   from-environment : (n : ℕ) → length (x .applications .list) ≡ suc n → (es : List Entry)
-      → Plays (asks (AskedLater.new (further search.begun x))) es → AnswersAll missing es → Left (x .situation) (2 * n + 3 + 2) es
+      → Plays (asks (AskedLater.new (further search.begun x))) es → AnswersAll missing es → Left forNobody (x .situation) (2 * n + 3 + 2) es
   unfolding turnLater following further
   from-environment n e es (exchanged {c} {a} {es = rest} f ok play) h =
-      let here = gone-on search.begun a _ (h .1 .0 refl) (after-environment (x .applications)) in
+      let here = gone-on x search.begun a missing _ (h .1 .0 refl) (after-environment (x .applications)) in
       let more = from-aid n 0 (omega arith) rest (subst (λ (q : ChoosingPhase). Plays q rest) here play) (h .1 .1) in
-      two-before (x .situation) (2 * n + 3) (entry command c) (entry answer a) rest more
+      two-before forNobody (x .situation) (2 * n + 3) (entry command c) (entry answer a) rest more
 
 -- a list of START has at most eight
 list-few : (p : List ℕ) → length (applicationsIn p .list) + 2 ≤ mostExchanges

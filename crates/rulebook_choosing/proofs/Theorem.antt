@@ -32,12 +32,14 @@ use Rattle.rulebook_choosing.specs.Session.{rules, longest, Plays, Sessi
 use Rattle.rulebook_choosing.specs.Stated.{GoesOn, Takes, actsOf, Hundred, Growing}
 use Rattle.rulebook_choosing.specs.Sent.{Each, Sound, SoundAt, Worded}
 use Rattle.rulebook_choosing.specs.Nobody.{AnswersAll, NobodyFound}
+use Rattle.rulebook_choosing.specs.Endless.{Endless, Exhausted}
 use Rattle.rulebook_choosing.proofs.Selecting.{searched-on, chose-on}
 use Rattle.rulebook_choosing.proofs.Kept.{toCome, kept}
 use Rattle.rulebook_choosing.proofs.Growing.{reading-grows}
 use Rattle.rulebook_choosing.proofs.Hundred.{hundred}
 use Rattle.rulebook_choosing.proofs.Sent.{reading-sound, sent-supported, reading-worded}
 use Rattle.rulebook_choosing.proofs.Nobody.{nobody}
+use Rattle.rulebook_choosing.proofs.Endless.{endless}
 
 pub record Rulebook : Type 0 where
   pub inhabited : (es : List Entry) × Session es
@@ -68,6 +70,8 @@ pub record Rulebook : Type 0 where
   -- a card that answers '6A82' to everything
   pub nobody-found : (p : List ℕ) (es : List Entry) → isListing p ≡ true → Session (entry start p ∷ es) → AnswersAll missing es
       → NobodyFound p es
+  -- a directory without end
+  pub exhausted : (p : List ℕ) (es : List Entry) → isListing p ≡ true → Session (entry start p ∷ es) → Endless es → Exhausted p es
   -- a tape whose START has another length is judged as today
   pub earlier : (t : List ℕ) (a : Ruling) → FirstOf (Earlier choosing) t → Same (JudgedUnder rules t a) (Judged t a)
 
@@ -96,5 +100,6 @@ rulebook =
       sent = sent-supported;
       worded = reading-worded;
       nobody-found = nobody;
+      exhausted = endless;
       earlier = judged-as-it-was choosing (entry start sample ∷ sample-session .0, (refl, sample-session .1));
     }

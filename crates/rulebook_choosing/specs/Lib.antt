@@ -4,3 +4,4 @@ pub mod Session
 pub mod Stated
 pub mod Sent
 pub mod Nobody
+pub mod Endless

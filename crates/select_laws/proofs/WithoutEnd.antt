@@ -26,10 +26,10 @@ not-last a e =
     ne-eqb (256 * getD a (length a - 2) 0 + getD a (length a - 1) 0) 0x6A83 (λ z. absurd (omega arith))
 
 -- the search one record further
-abbrev more : Applications → List ℕ → Search → Search
+abbrev pub more : Applications → List ℕ → Search → Search
 more t a s = record { stand = s .stand; list = joinedAll t (applicationsOf a) (s .list) }
 
-good-turn : (t : Applications) (s : Search) (a : List ℕ) (file number : ℕ) → s .stand .step ≡ Directory file number → GoodRecord a
+pub good-turn : (t : Applications) (s : Search) (a : List ℕ) (file number : ℕ) → s .stand .step ≡ Directory file number → GoodRecord a
     → heard t s a ≡ goes (more t a s) (Directory file (nextRecord number))
 unfolding heard heardAt afterRecord withList
 good-turn t s a file number e g =
