@@ -39,7 +39,8 @@ next t a file number s =
       list = more t a s .list;
     }
 
-module _ (t : Applications) (s : Search) (a : List ℕ) (file number : ℕ) (e : s .stand .step ≡ Directory file number) (good : GoodRecord a) where
+module _ (t : Applications) (s : Search) (a : List ℕ) (file number : ℕ) (e : s .stand .step ≡ Directory file number)
+    (good : GoodRecord a) where
   -- an exchange is left
   to-next : s .stand .exchanges + 1 ≤ mostExchanges → heardOf t s a ≡ search.asks (next t a file number s)
   unfolding goes mayGoOn

@@ -7,5 +7,6 @@ pub mod Sent
 pub mod Ends
 pub mod Nobody
 pub mod Endless
+pub mod Untouched
 pub mod Worked
 pub mod Theorem

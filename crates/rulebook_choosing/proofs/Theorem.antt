@@ -33,6 +33,7 @@ use Rattle.rulebook_choosing.specs.Stated.{GoesOn, Takes, actsOf, Hundre
 use Rattle.rulebook_choosing.specs.Sent.{Each, Sound, SoundAt, Worded}
 use Rattle.rulebook_choosing.specs.Nobody.{AnswersAll, NobodyFound}
 use Rattle.rulebook_choosing.specs.Endless.{Endless, Exhausted}
+use Rattle.rulebook_choosing.specs.Untouched.{Untouched}
 use Rattle.rulebook_choosing.proofs.Selecting.{searched-on, chose-on}
 use Rattle.rulebook_choosing.proofs.Kept.{toCome, kept}
 use Rattle.rulebook_choosing.proofs.Growing.{reading-grows}
@@ -40,6 +41,7 @@ use Rattle.rulebook_choosing.proofs.Hundred.{hundred}
 use Rattle.rulebook_choosing.proofs.Sent.{reading-sound, sent-supported, reading-worded}
 use Rattle.rulebook_choosing.proofs.Nobody.{nobody}
 use Rattle.rulebook_choosing.proofs.Endless.{endless}
+use Rattle.rulebook_choosing.proofs.Untouched.{reading-untouched}
 
 pub record Rulebook : Type 0 where
   pub inhabited : (es : List Entry) × Session es
@@ -70,6 +72,8 @@ pub record Rulebook : Type 0 where
   -- a card that answers '6A82' to everything
   pub nobody-found : (p : List ℕ) (es : List Entry) → isListing p ≡ true → Session (entry start p ∷ es) → AnswersAll missing es
       → NobodyFound p es
+  -- TVR and TSI are zeros at every phase of a selection, at GPO and at every record
+  pub untouched : (es : List Entry) (ps : List ChoosingPhase) → Reads es ps → Each Untouched ps
   -- a directory without end
   pub exhausted : (p : List ℕ) (es : List Entry) → isListing p ≡ true → Session (entry start p ∷ es) → Endless es → Exhausted p es
   -- a tape whose START has another length is judged as today
@@ -100,6 +104,7 @@ rulebook =
       sent = sent-supported;
       worded = reading-worded;
       nobody-found = nobody;
+      untouched = reading-untouched;
       exhausted = endless;
       earlier = judged-as-it-was choosing (entry start sample ∷ sample-session .0, (refl, sample-session .1));
     }

@@ -5,3 +5,4 @@ pub mod Stated
 pub mod Sent
 pub mod Nobody
 pub mod Endless
+pub mod Untouched
