@@ -122,7 +122,8 @@ later-still (AskedLater.new x) a h = searched-still x h _ (searched-on x a)
 after-still : (h : HeardLater Choosing) (p : List ℕ) → rules .allowed h p ≡ true → Untouched (hears h) → Untouched (rules .after h p)
 unfolding afterLater
 after-still (HeardLater.was terminal) p fits h =
-    picked Untouched (isListing p) (asks (AskedLater.new (listed p))) (asWas (after terminal p)) (λ y. listing-still p) (λ n. opened-still p)
+    picked Untouched (isListing p) (asks (AskedLater.new (listed p))) (asWas (after terminal p)) (λ y. listing-still p)
+    (λ n. opened-still p)
 after-still (HeardLater.was (says word s)) p fits h = word-still word s p
 after-still (HeardLater.new x) p fits h = chose-still x h _ (chose-on x p)
 

@@ -1,5 +1,5 @@
--- TVR and TSI are zeros while the application is chosen, at GPO, and at every record. 01, "From facts to a decision": the facts set bits after
--- the last record and not before.
+-- TVR and TSI are zeros while the application is chosen, at GPO, and at every record. 01, "From facts to a decision": the facts set bits
+-- after the last record and not before.
 -- Assumes nothing.
 use mathlib.Core.Path.{_≡_}
 use Rattle.slices.specs.Writing.{zeros}
