@@ -13,26 +13,26 @@ use Rattle.slices.specs.Shorter.{counted as o3, shorter as o4}
 use Rattle.slices.specs.Tables.{anyOf as o5, beside as o6}
 use Rattle.slices.specs.Tests.{every as o7, between as o8, alike as o9, isSome as o10}
 use Rattle.slices.specs.Writing.{put as o11, laid as o12, zeros as o13}
-use Rattle.facts.specs.Facts.{orElse as o14}
-use Rattle.tlv_head.specs.Head.{firstByte as o15, constructed as o16, twoBytes as o17, tagSize as o18, tagOf as o19}
-use Rattle.tlv_head.specs.Head.{tagRight as o20, lengthByte as o21, lengthForm as o22, lengthSize as o23, lengthOf as o24}
-use Rattle.tlv_head.specs.Head.{valueStart as o25, valueEnd as o26, whole as o27}
-use Rattle.tlv_head.specs.Member.{memberAt as o28}
-use Rattle.tlv_list.specs.Lookup.{met as o29, lookup as o30, firstAmong as o31, firstFrom as o32, unless as o33, alone as o34}
-use Rattle.tlv_list.specs.Lookup.{findInChecked as o35, further as o36, noted as o37, notedAll as o38, noMembers as o39}
-use Rattle.tlv_list.specs.Lookup.{membersOf as o40, foundValue as o41, seek as o42, lookupRefusal as o43}
-use Rattle.tlv_list.specs.Objects.{between as o44, firstObject as o45, before as o46, rightInside as o47, listed as o48}
-use Rattle.tlv_list.specs.Objects.{objects as o49, isList as o50, readRefusal as o51}
-use Rattle.tlv_list.specs.Place.{fillers as o52, nextAt as o53, lookedInto as o54, checkedAt as o55, objectAt as o56}
-use Rattle.tlv_list.specs.Place.{follow as o57, walk as o58, placesFrom as o59, dataField as o60}
-use Rattle.tlv_write.specs.Written.{isTag as o61, tagBytes as o62, lengthBytes as o63, written as o64, writtenAll as o65}
-use Rattle.tlv_write.specs.Written.{fitsTag as o66, writeRefusal as o67, refusalOf as o68, sizeOf as o69, sizeWritten as o70}
-use Rattle.tlv_write.specs.Written.{bufferAfter as o71}
-use Rattle.tape_read.specs.Blocks.{head as o72, body as o73, block as o74, window as o75, field as o76, paddingIn as o77}
-use Rattle.tape_read.specs.Blocks.{allZero as o78, checkBad as o79, numberBad as o80, sessionBad as o81, kindBad as o82}
-use Rattle.tape_read.specs.Blocks.{spareBad as o83, lengthBad as o84, paddingBad as o85, contentTests as o86, codeOf as o87}
-use Rattle.tape_read.specs.Blocks.{payloadIn as o88, entryIn as o89}
-use Rattle.numbers.specs.Kinds.{isKind as o90}
+use Rattle.numbers.specs.Kinds.{isKind as o14}
+use Rattle.facts.specs.Facts.{orElse as o15}
+use Rattle.tlv_head.specs.Head.{firstByte as o16, constructed as o17, twoBytes as o18, tagSize as o19, tagOf as o20}
+use Rattle.tlv_head.specs.Head.{tagRight as o21, lengthByte as o22, lengthForm as o23, lengthSize as o24, lengthOf as o25}
+use Rattle.tlv_head.specs.Head.{valueStart as o26, valueEnd as o27, whole as o28}
+use Rattle.tlv_head.specs.Member.{memberAt as o29}
+use Rattle.tlv_list.specs.Lookup.{met as o30, lookup as o31, firstAmong as o32, firstFrom as o33, unless as o34, alone as o35}
+use Rattle.tlv_list.specs.Lookup.{findInChecked as o36, further as o37, noted as o38, notedAll as o39, noMembers as o40}
+use Rattle.tlv_list.specs.Lookup.{membersOf as o41, foundValue as o42, seek as o43, lookupRefusal as o44}
+use Rattle.tlv_list.specs.Objects.{between as o45, firstObject as o46, before as o47, rightInside as o48, listed as o49}
+use Rattle.tlv_list.specs.Objects.{objects as o50, isList as o51, readRefusal as o52}
+use Rattle.tlv_list.specs.Place.{fillers as o53, nextAt as o54, lookedInto as o55, checkedAt as o56, objectAt as o57}
+use Rattle.tlv_list.specs.Place.{follow as o58, walk as o59, placesFrom as o60, dataField as o61}
+use Rattle.tlv_write.specs.Written.{isTag as o62, tagBytes as o63, lengthBytes as o64, written as o65, writtenAll as o66}
+use Rattle.tlv_write.specs.Written.{fitsTag as o67, writeRefusal as o68, refusalOf as o69, sizeOf as o70, sizeWritten as o71}
+use Rattle.tlv_write.specs.Written.{bufferAfter as o72}
+use Rattle.tape_read.specs.Blocks.{head as o73, body as o74, block as o75, window as o76, field as o77, paddingIn as o78}
+use Rattle.tape_read.specs.Blocks.{allZero as o79, checkBad as o80, numberBad as o81, sessionBad as o82, kindBad as o83}
+use Rattle.tape_read.specs.Blocks.{spareBad as o84, lengthBad as o85, paddingBad as o86, contentTests as o87, codeOf as o88}
+use Rattle.tape_read.specs.Blocks.{payloadIn as o89, entryIn as o90}
 use Rattle.tape_read.specs.Entries.{storable as o91, allStorable as o92}
 use Rattle.tape_read.specs.Numbers.{numberOf as o93, bytesOf as o94}
 use Rattle.tape_read.specs.Tapes.{preceded as o95, blockAt as o96, cut as o97, blocksOf as o98, readBlocks as o99}
