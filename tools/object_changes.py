@@ -155,7 +155,7 @@ def flawed_list(chance, nodes, inner):
 def other_locator(chance, nodes, inner):
     """Another AFL (94, or 80 behind its first two bytes), up to more records than there may be."""
     for node in pick(chance, with_value(nodes, ("94", "80"))):
-        last = chance.choice((1, 2, 58, 250, 251, 255))
+        last = chance.choice((1, 2, 167, 250, 251, 255))
         entry = bytes([chance.choice((8, 16, 80, 88, 9, 0)), chance.choice((1, 1, 1, 0, 2)), last, chance.choice((0, 0, 1, last, 255))])
         node.value = (node.value[:2] if node.tag == b"\x80" else b"") + entry * chance.choice((1, 1, 2, 2, 3))
 

@@ -9,8 +9,8 @@ from object_changes import other_answer, other_bytes, pick
 
 BLOCK, BODY, HEAD, ROOM = 512, 508, 12, 496
 COMMAND, ANSWER, HOST, DECISION = 2, 3, 5, 6
-# Past 1,024 blocks a tape is too long (02, R-8); such a one takes longer than a hundred others.
-TOO_LONG, RARELY = 1025, 125
+# As long as a tape may be (02, R-8); one of that length takes longer than a hundred others.
+MOST, RARELY = 1024 * BLOCK, 125
 REASONS = range(1, 13)
 
 
@@ -109,9 +109,9 @@ CHANGES = (answer_changed,) * 14 + (payload_changed,) * 7 + (block_moved,) * 3 +
 
 
 def unsealed(chance, tape):
-    """Something that no check is made good after: a bit, bytes behind the last or off the end; at times more blocks than may be."""
+    """Something that no check is made good after: a bit, bytes behind the last or off the end; at times as many as may be, or more."""
     if tape and not chance.randrange(RARELY):
-        return tape * (TOO_LONG * BLOCK // len(tape) + 1)
+        return (tape * ((MOST + 513) // len(tape) + 1))[:MOST + chance.choice((0, 1, 511, 512, 513))]
     how = chance.randrange(4)
     if how == 0 or not tape:
         return tape + bytes([chance.randrange(256)]) * chance.choice((1, 2, 511, 512, 513))

@@ -74,6 +74,17 @@ class Changes(Trial):
         made, name = object_changes.other_answer(chance, answer)
         return made != answer, name
 
+    def test_the_limits_are_met_and_passed(self):
+        """The longest tape and the most records (02, R-8), from both sides, and too long a tape that is not of whole blocks."""
+        most, sizes, records = 1024 * BLOCK, set(), set()
+        for number in range(TRIED):
+            sizes.add(len(tape_changes.unsealed(random.Random(number), GOOD[0])))
+            node = object_changes.Node(b"\x94")
+            object_changes.other_locator(random.Random(number), [node], [node])
+            records.add(sum(node.value[at + 2] - node.value[at + 1] + 1 for at in range(0, len(node.value), 4)))
+        self.assertTrue({most, most + 1, most + 512} <= sizes, max(sizes))
+        self.assertTrue({500, 501} <= records, records)
+
     def test_objects_are_written_as_they_were_read(self):
         for answer in ANSWERS:
             self.assertEqual(object_changes.written(object_changes.nodes_of(answer[:-2])), answer[:-2])
