@@ -8,7 +8,7 @@ use Prim.Native.Nat.{ℕ, _-_}
 use lib.Dec.{ltb, eqb}
 use lib.ListN.{length, getD}
 use Rattle.slices.specs.Choice.{pick}
-use Rattle.numbers.specs.Reasons.{forSize, forStatus, forObject}
+use Rattle.numbers.specs.Tables.{forSize, forStatus, forObject}
 use Rattle.tlv_list.specs.Objects.{Object, between, objects}
 use Rattle.tlv_list.specs.Place.{dataField}
 use Rattle.tlv_head.specs.declared.Next.{Next}

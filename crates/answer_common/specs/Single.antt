@@ -4,7 +4,7 @@
 use mathlib.Core.List.{List}
 use Prim.Native.Nat.{ℕ}
 use Rattle.slices.specs.Choice.{pick}
-use Rattle.numbers.specs.Reasons.{forSize, forStatus, forObject}
+use Rattle.numbers.specs.Tables.{forSize, forStatus, forObject}
 use Rattle.tlv_list.specs.Place.{nextAt, dataField}
 use Rattle.tlv_head.specs.declared.Next.{Next}
 use Rattle.tlv_head.specs.declared.Next.the-variants.{Member, End, Broken}

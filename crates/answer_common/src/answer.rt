@@ -1,5 +1,7 @@
 // An answer as a whole: its size, its status and its one object.
-use numbers::reasons;
+use numbers::FOR_OBJECT;
+use numbers::FOR_SIZE;
+use numbers::FOR_STATUS;
 use slices::byte;
 use tlv_head::Next;
 use tlv_list::place::data_field;
@@ -114,16 +116,16 @@ fn alone(s: &[u8]) -> Single
     ensures { λ r. ⌜ r ≡ aloneIn (now (s .entry)) ⌝ }
 {
     match next(s, 0) {
-        Next::End => Single::Refused(reasons::OBJECT),
-        Next::Broken => Single::Refused(reasons::OBJECT),
+        Next::End => Single::Refused(FOR_OBJECT),
+        Next::Broken => Single::Refused(FOR_OBJECT),
         Next::Member { tag, start, end } => match next(s, end) {
             Next::End => Single::Object { tag, start, end },
-            Next::Broken => Single::Refused(reasons::OBJECT),
+            Next::Broken => Single::Refused(FOR_OBJECT),
             Next::Member {
                 tag: _,
                 start: _,
                 end: _,
-            } => Single::Refused(reasons::OBJECT),
+            } => Single::Refused(FOR_OBJECT),
         },
     }
 }
@@ -133,10 +135,10 @@ pub fn single_of(answer: &[u8]) -> Single
     ensures { λ r. ⌜ r ≡ singleOf (now (answer .entry)) ⌝ }
 {
     if is_size_bad(answer) {
-        return Single::Refused(reasons::SIZE);
+        return Single::Refused(FOR_SIZE);
     }
     if is_status_bad(answer) {
-        return Single::Refused(reasons::STATUS);
+        return Single::Refused(FOR_STATUS);
     }
     alone(data_field(answer))
 }

@@ -7,7 +7,7 @@ use Prim.Native.Nat.{ℕ}
 use lib.ListN.{length, getD}
 use Rattle.slices.specs.Choice.{pick, firstOf}
 use Rattle.slices.specs.Tests.{between}
-use Rattle.numbers.specs.Reasons.{forTwice, forContent, forMissing, forCryptogram}
+use Rattle.numbers.specs.Tables.{forTwice, forContent, forMissing, forCryptogram}
 use Rattle.answer_common.specs.Answer.{isOne, inside, frame}
 use Rattle.answer_common.specs.Named.{direct, valueOf, anyTwice, anyWrong}
 use Rattle.answer_common.specs.Forms.{template, joined, bothForms, lacks}

@@ -13,7 +13,11 @@ use decide_cryptogram::Given;
 use decide_cryptogram::Request;
 use decide_cryptogram::allowed;
 use decide_cryptogram::given_by;
-use numbers::reasons;
+use numbers::FOR_CONTENT;
+use numbers::FOR_CRYPTOGRAM;
+use numbers::FOR_MISSING;
+use numbers::FOR_OBJECT;
+use numbers::FOR_TWICE;
 use slices::byte;
 use tlv_list::Found;
 use tlv_list::lookup::members;
@@ -25,7 +29,7 @@ ghost use mathlib.Core.List.{[], _∷_, _++_};
 ghost use lib.ListN.{getD};
 ghost use Rattle.slices.specs.Choice.{firstOf};
 ghost use Rattle.slices.specs.Tables.{anyOf};
-ghost use Rattle.numbers.specs.Reasons.{forCryptogram};
+ghost use Rattle.numbers.specs.Tables.{forCryptogram};
 ghost use Rattle.tlv_list.specs.Lookup.{foundValue};
 ghost use Rattle.decide_cryptogram.specs.Cryptograms.{givenBy, allowedBy};
 ghost use Rattle.answer_common.specs.Answer.{frame};
@@ -83,7 +87,7 @@ fn given_reason(request: Request, information: &[u8]) -> usize
     if allowed(request, given_by(byte(information, 0) as u8)) {
         0
     } else {
-        reasons::CRYPTOGRAM
+        FOR_CRYPTOGRAM
     }
 }
 
@@ -94,10 +98,10 @@ fn joined_reason(request: Request, answer: &[u8], start: usize, end: usize) -> u
 {
     let both = value(data_field(answer), start, end);
     if both.len() < 11 {
-        return reasons::CONTENT;
+        return FOR_CONTENT;
     }
     if 43 < both.len() {
-        return reasons::CONTENT;
+        return FOR_CONTENT;
     }
     given_reason(request, both)
 }
@@ -110,20 +114,20 @@ fn template_reason(request: Request, answer: &[u8], start: usize, end: usize) ->
     let s = value(data_field(answer), start, end);
     let m = members(s, 0x9F27, 0x9F36, 0x9F26, 0x9F10);
     if !m.list {
-        return reasons::OBJECT;
+        return FOR_OBJECT;
     }
     let information = m.first;
     let counter = m.second;
     let cryptogram = m.third;
     let issuer = m.fourth;
     if any_times(2, information, counter, cryptogram, issuer) {
-        return reasons::TWICE;
+        return FOR_TWICE;
     }
     if is_any_wrong(s, information, counter, cryptogram, issuer) {
-        return reasons::CONTENT;
+        return FOR_CONTENT;
     }
     if any_times(0, information, counter, cryptogram, cryptogram) {
-        return reasons::MISSING;
+        return FOR_MISSING;
     }
     given_reason(request, value_of(s, information))
 }
@@ -141,7 +145,7 @@ pub fn cryptogram_reason(request: Request, answer: &[u8]) -> usize
             if tag == TEMPLATE {
                 template_reason(request, answer, start, end)
             } else {
-                reasons::OBJECT
+                FOR_OBJECT
             }
         }
     }

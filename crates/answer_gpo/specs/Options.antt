@@ -5,7 +5,7 @@ use mathlib.Core.List.{List, [], _∷_, _++_}
 use Prim.Native.Nat.{ℕ}
 use lib.ListN.{take, drop}
 use Rattle.slices.specs.Choice.{pick, firstOf}
-use Rattle.numbers.specs.Reasons.{forTwice, forContent, forLocator, forRecords, forMissing}
+use Rattle.numbers.specs.Tables.{forTwice, forContent, forLocator, forRecords, forMissing}
 use Rattle.answer_common.specs.Answer.{isOne, inside, frame}
 use Rattle.answer_afl.specs.Entries.{wholeEntries, entriesRight, tooMany}
 use Rattle.answer_common.specs.Named.{direct, valueOf, anyTwice, anyWrong}

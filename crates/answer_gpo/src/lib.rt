@@ -12,7 +12,12 @@ use answer_common::named::any_times;
 use answer_common::named::is_wrong;
 use answer_common::named::value_in_checked;
 use answer_common::named::value_of;
-use numbers::reasons;
+use numbers::FOR_CONTENT;
+use numbers::FOR_LOCATOR;
+use numbers::FOR_MISSING;
+use numbers::FOR_OBJECT;
+use numbers::FOR_RECORDS;
+use numbers::FOR_TWICE;
 use slices::part;
 use tlv_list::lookup::members;
 use tlv_list::place::data_field;
@@ -57,16 +62,12 @@ fn joined_reason(answer: &[u8], start: usize, end: usize) -> usize
     let both = value(data_field(answer), start, end);
     let afl = part(both, 2, both.len());
     if !are_whole(afl) {
-        return reasons::CONTENT;
+        return FOR_CONTENT;
     }
     if !are_right(afl) {
-        return reasons::LOCATOR;
+        return FOR_LOCATOR;
     }
-    if are_too_many(afl) {
-        reasons::RECORDS
-    } else {
-        0
-    }
+    if are_too_many(afl) { FOR_RECORDS } else { 0 }
 }
 
 // Reasons 3 to 8 of an answer whose one object is a template, by its members; 0 where none of them applies.
@@ -77,28 +78,28 @@ fn template_reason(answer: &[u8], start: usize, end: usize) -> usize
     let s = value(data_field(answer), start, end);
     let m = members(s, 0x82, 0x94, 0x82, 0x94);
     if !m.list {
-        return reasons::OBJECT;
+        return FOR_OBJECT;
     }
     let profile = m.first;
     let locator = m.second;
     if any_times(2, profile, locator, profile, locator) {
-        return reasons::TWICE;
+        return FOR_TWICE;
     }
     if is_wrong(s, 0x82, profile) {
-        return reasons::CONTENT;
+        return FOR_CONTENT;
     }
     if is_wrong(s, 0x94, locator) {
-        return reasons::CONTENT;
+        return FOR_CONTENT;
     }
     let afl = value_of(s, locator);
     if !are_right(afl) {
-        return reasons::LOCATOR;
+        return FOR_LOCATOR;
     }
     if are_too_many(afl) {
-        return reasons::RECORDS;
+        return FOR_RECORDS;
     }
     if any_times(0, profile, locator, profile, locator) {
-        reasons::MISSING
+        FOR_MISSING
     } else {
         0
     }
@@ -117,7 +118,7 @@ pub fn options_reason(answer: &[u8]) -> usize
             if tag == TEMPLATE {
                 template_reason(answer, start, end)
             } else {
-                reasons::OBJECT
+                FOR_OBJECT
             }
         }
     }

@@ -7,7 +7,7 @@ use Prim.Native.Nat.{ℕ}
 use lib.Dec.{eqb}
 use Rattle.slices.specs.Choice.{pick, firstOf}
 use Rattle.slices.specs.Tests.{isSome}
-use Rattle.numbers.specs.Reasons.{forTwice, forContent, forMissing, forList}
+use Rattle.numbers.specs.Tables.{forTwice, forContent, forMissing, forList}
 use Rattle.tlv_list.specs.Lookup.{Lookup}
 use Rattle.dol_wanted.specs.Wanted.{fillable}
 use Rattle.slices.specs.Tables.{anyOf}

@@ -9,7 +9,7 @@ use lib.Dec.{eqb}
 use lib.ListN.{length}
 use Rattle.slices.specs.Choice.{pick}
 use Rattle.slices.specs.Tests.{isSome}
-use Rattle.numbers.specs.Reasons.{forObject, forTwice, forContent}
+use Rattle.numbers.specs.Tables.{forObject, forTwice, forContent}
 use Rattle.tlv_list.specs.Objects.{Object as Obj, between}
 use Rattle.tlv_list.specs.Place.{checkedAt, dataField}
 use Rattle.tlv_head.specs.declared.Next.{Next}

@@ -6,7 +6,11 @@ use answer_common::content::RECORD;
 use answer_common::content::is_right;
 use answer_common::named::is_listed;
 use dol_wanted::is_fillable;
-use numbers::reasons;
+use numbers::FOR_CONTENT;
+use numbers::FOR_LIST;
+use numbers::FOR_MISSING;
+use numbers::FOR_OBJECT;
+use numbers::FOR_TWICE;
 use session_records::slots::has;
 use session_records::slots::keep;
 use session_records::slots::value;
@@ -28,15 +32,15 @@ fn worse(why: usize, again: bool, right: bool) -> usize
     ensures { λ r. ⌜ r ≡ worseOf why again right ⌝ }
 {
     if again {
-        return reasons::TWICE;
+        return FOR_TWICE;
     }
     if right {
         return why;
     }
-    if why == reasons::TWICE {
-        return reasons::TWICE;
+    if why == FOR_TWICE {
+        return FOR_TWICE;
     }
-    reasons::CONTENT
+    FOR_CONTENT
 }
 
 // One object of a record, tested and kept where its name counts, with the reason so far. A wrong value is kept as an empty one, so that a
@@ -68,7 +72,7 @@ fn take_all(told: &mut [u8], names: &[usize], s: &[u8]) -> usize
     while p < s.len() {
         match next_checked(s, p) {
             Next::End => return why,
-            Next::Broken => return reasons::OBJECT,
+            Next::Broken => return FOR_OBJECT,
             Next::Member { tag, start, end } => {
                 why = take_one(told, names, tag, place::value(s, start, end), why);
                 p = end;
@@ -87,7 +91,7 @@ pub fn take(told: &mut [u8], names: &[usize], answer: &[u8]) -> usize
         Single::Refused(why) => why,
         Single::Object { tag, start, end } => {
             if tag != RECORD {
-                return reasons::OBJECT;
+                return FOR_OBJECT;
             }
             take_all(told, names, place::value(data_field(answer), start, end))
         }
@@ -114,11 +118,11 @@ pub fn complete_reason(told: &[u8]) -> usize
 {
     let mandatory = MANDATORY;
     if any_untold(told, &mandatory) {
-        return reasons::MISSING;
+        return FOR_MISSING;
     }
     if is_fillable(value(told, 0x8C)) {
         0
     } else {
-        reasons::LIST
+        FOR_LIST
     }
 }

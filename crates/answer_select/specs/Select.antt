@@ -6,7 +6,7 @@ use mathlib.Core.List.{List, [], _∷_, _++_}
 use Prim.Native.Nat.{ℕ}
 use lib.Dec.{eqb}
 use Rattle.slices.specs.Choice.{firstOf}
-use Rattle.numbers.specs.Reasons.{forTwice, forContent, forMissing, forList}
+use Rattle.numbers.specs.Tables.{forTwice, forContent, forMissing, forList}
 use Rattle.tlv_list.specs.Lookup.{Lookup, absent, once, twice}
 use Rattle.start_fields.specs.Reading.{Terminal}
 use Rattle.dol_wanted.specs.Wanted.{fillable}

@@ -7,7 +7,11 @@ use answer_common::named::any_times;
 use answer_common::named::value_in_checked;
 use answer_common::named::value_of;
 use dol_wanted::is_fillable;
-use numbers::reasons;
+use numbers::FOR_CONTENT;
+use numbers::FOR_LIST;
+use numbers::FOR_MISSING;
+use numbers::FOR_OBJECT;
+use numbers::FOR_TWICE;
 use start_fields::fields;
 use tlv_list::Found;
 use tlv_list::lookup::members;
@@ -95,7 +99,7 @@ fn content_reason(aid: &[u8], answer: &[u8], start: usize, end: usize) -> usize
     let s = value(data_field(answer), start, end);
     let m = members(s, 0x84, 0xA5, 0x84, 0xA5);
     if !m.list {
-        return reasons::OBJECT;
+        return FOR_OBJECT;
     }
     let name = m.first;
     let inner = m.second;
@@ -103,18 +107,18 @@ fn content_reason(aid: &[u8], answer: &[u8], start: usize, end: usize) -> usize
     let n = members(p, 0x9F38, 0x9F38, 0x9F38, 0x9F38);
     let list = n.first;
     if any_times(2, name, inner, list, list) {
-        return reasons::TWICE;
+        return FOR_TWICE;
     }
     if is_wrong(aid, s, name, inner, p, list) {
-        return reasons::CONTENT;
+        return FOR_CONTENT;
     }
     if any_times(0, name, inner, name, inner) {
-        return reasons::MISSING;
+        return FOR_MISSING;
     }
     if is_fillable(value_of(p, list)) {
         0
     } else {
-        reasons::LIST
+        FOR_LIST
     }
 }
 
@@ -130,7 +134,7 @@ pub fn select_reason(start: &[u8], answer: &[u8]) -> usize
             end,
         } => {
             if tag != SELECTED {
-                return reasons::OBJECT;
+                return FOR_OBJECT;
             }
             content_reason(fields::aid(start), answer, from, end)
         }

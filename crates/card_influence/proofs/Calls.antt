@@ -12,7 +12,7 @@ use lib.ListN.{length}
 use borrow.Author.Tests.{le-ltb}
 use Rattle.slices.specs.Choice.{pick, firstOf}
 use Rattle.slices.proofs.Lines.{one-more}
-use Rattle.numbers.specs.Kinds.{answer}
+use Rattle.numbers.specs.Tables.{answer}
 use Rattle.tape_read.specs.Entries.{entry, payloadMost}
 use Rattle.rulebook.specs.Phase.{Asked, Phase}
 use Rattle.session_phase.specs.declared.Question.{Question}

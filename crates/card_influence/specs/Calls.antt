@@ -6,7 +6,7 @@ use mathlib.Core.List.{List, [], _∷_}
 use mathlib.Core.Logic.{_⊎_}
 use Prim.Native.Nat.{ℕ, _≤_}
 use lib.ListN.{length}
-use Rattle.numbers.specs.Kinds.{answer}
+use Rattle.numbers.specs.Tables.{answer}
 use Rattle.tape_read.specs.Entries.{entry, payloadMost}
 use Rattle.session_phase.specs.declared.Question.{Question}
 use Rattle.session_phase.specs.declared.Waiting.the-variants.{ForCard}

@@ -6,7 +6,7 @@ use mathlib.Core.List.{List, [], _∷_, map}
 use Prim.Native.Nat.{ℕ}
 use Rattle.slices.specs.Choice.{pick}
 use Rattle.slices.proofs.Choice.{pick-no}
-use Rattle.numbers.specs.Kinds.{command, answer, decision}
+use Rattle.numbers.specs.Tables.{command, answer, decision}
 use Rattle.tape_read.specs.Entries.{Entry, entry}
 use Rattle.sessions.specs.Session.{phasesOf}
 use Rattle.rulebook.specs.Phase.{Heard, Phase, asks, hears, decides, commandOf, dueKind, decisionOf}

@@ -6,7 +6,7 @@ use mathlib.Core.List.{List, [], _∷_, map}
 use Prim.Native.Nat.{ℕ}
 use lib.Dec.{eqb}
 use Rattle.slices.specs.Choice.{pick}
-use Rattle.numbers.specs.Kinds.{answer}
+use Rattle.numbers.specs.Tables.{answer}
 use Rattle.tape_read.specs.Entries.{Entry, entry}
 use Rattle.answer_common.specs.Content.{namesFor}
 use Rattle.sessions.specs.Session.{phasesOf}

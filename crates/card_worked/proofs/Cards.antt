@@ -8,7 +8,7 @@ use lib.Dec.{eqb}
 use lib.ListN.{getD}
 use borrow.Author.Tests.{eqb-false}
 use Rattle.slices.specs.Tables.{beside}
-use Rattle.numbers.specs.Kinds.{start, command, answer, decision, results}
+use Rattle.numbers.specs.Tables.{start, command, answer, decision, results}
 use Rattle.tape_read.specs.Entries.{Entry, entry}
 use Rattle.rulebook.proofs.Made.{startOf, select, withList, withNumber, readOne}
 

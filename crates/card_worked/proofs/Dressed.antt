@@ -6,7 +6,7 @@ use mathlib.Core.Path.{refl}
 use mathlib.Core.List.{List, [], _∷_, _++_}
 use Prim.Native.Nat.{ℕ}
 use lib.ListN.{drop}
-use Rattle.numbers.specs.Kinds.{start, command, answer, host}
+use Rattle.numbers.specs.Tables.{start, command, answer, host}
 use Rattle.tape_read.specs.Entries.{Entry, entry}
 use Rattle.rulebook.proofs.Opening.{reached}
 use Rattle.rulebook.proofs.Made.{startOf, select, withList, withNumber, readOne, reads as readsAll}

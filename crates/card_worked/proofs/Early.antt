@@ -3,7 +3,7 @@
 -- Assumes nothing.
 use mathlib.Core.Path.{refl}
 use mathlib.Core.List.{[], _∷_}
-use Rattle.numbers.specs.Kinds.{command, answer}
+use Rattle.numbers.specs.Tables.{command, answer}
 use Rattle.tape_read.specs.Entries.{entry}
 use Rattle.rulebook.specs.Roles.{given}
 use Rattle.rulebook.proofs.Opening.{reached}

@@ -7,7 +7,7 @@ use mathlib.Core.Bool.{true}
 use mathlib.Core.List.{List, [], _∷_, _++_}
 use mathlib.Core.Option.{some}
 use Prim.Native.Nat.{ℕ}
-use Rattle.numbers.specs.Kinds.{command, answer, host}
+use Rattle.numbers.specs.Tables.{command, answer, host}
 use Rattle.tape_read.specs.Entries.{Entry, entry}
 use Rattle.answer_common.specs.Content.{recordNames}
 use Rattle.sessions.specs.Machine.{run}

@@ -5,7 +5,7 @@ use mathlib.Core.Bool.{Bool, true, not, _&&_, _||_}
 use mathlib.Core.List.{List, [], _∷_}
 use lib.Dec.{eqb}
 use Rattle.slices.specs.Tests.{alike}
-use Rattle.numbers.specs.Kinds.{answer}
+use Rattle.numbers.specs.Tables.{answer}
 use Rattle.tape_read.specs.Entries.{Entry}
 use Rattle.rulebook.specs.Phase.{opens}
 use Rattle.rulebook.specs.Session.{Session}

@@ -10,7 +10,7 @@ use lib.Dec.{eqb}
 use lib.ListN.{getD}
 use Rattle.slices.specs.Choice.{pick}
 use Rattle.tlv_list.specs.Objects.{Object}
-use Rattle.numbers.specs.Kinds.{answer, decision}
+use Rattle.numbers.specs.Tables.{answer, decision}
 use Rattle.tape_read.specs.Entries.{Entry, entry}
 use Rattle.sessions.specs.Machine.{run}
 use Rattle.rulebook.specs.Phase.{opens}

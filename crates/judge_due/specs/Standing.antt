@@ -4,7 +4,7 @@
 use mathlib.Core.List.{List}
 use Prim.Native.Nat.{ℕ}
 use lib.ListN.{take}
-use Rattle.numbers.specs.Kinds.{command, answer, decision}
+use Rattle.numbers.specs.Tables.{command, answer, decision}
 use Rattle.session_phase.specs.Waiting.{awaited, countDue}
 use Rattle.session_state.specs.Results.{decisionIn}
 use Rattle.judge_stages.specs.declared.Stage.{Stage}

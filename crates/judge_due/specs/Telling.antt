@@ -6,7 +6,7 @@ use lib.Dec.{leb}
 use lib.ListN.{length}
 use Rattle.slices.specs.Choice.{pick}
 use Rattle.slices.specs.Writing.{put}
-use Rattle.numbers.specs.Kinds.{command, answer, decision}
+use Rattle.numbers.specs.Tables.{command, answer, decision}
 use Rattle.rulebook.specs.Phase.{dueKind}
 use Rattle.rulebook_due.specs.Due.{Due as Rule, asking, answering, saying, deciding, nothing, countIn}
 use Rattle.judge_due.specs.declared.DueNext.{DueNext}

@@ -2,9 +2,9 @@
 use judge::UnderWay;
 use judge_follow::Judgement;
 use judge_stages::Stage;
-use numbers::kinds::ANSWER;
-use numbers::kinds::COMMAND;
-use numbers::kinds::DECISION;
+use numbers::ANSWER;
+use numbers::COMMAND;
+use numbers::DECISION;
 use session_phase::awaits;
 use session_phase::count_due;
 use session_state::result::decision;

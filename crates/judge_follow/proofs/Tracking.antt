@@ -15,7 +15,7 @@ use Rattle.slices.proofs.Choice.{pick-yes, pick-no, either}
 use Rattle.slices.proofs.Writing.{zeros-length}
 use Rattle.slices.proofs.Cutting.{none-left}
 use Rattle.slices.proofs.Comparing.{alike-same, same-alike}
-use Rattle.numbers.specs.Kinds.{command, answer, silence, decision}
+use Rattle.numbers.specs.Tables.{command, answer, silence, decision}
 use Rattle.tape_read.specs.Entries.{Entry, entry}
 use Rattle.commands.specs.Commands.{longest}
 use Rattle.sessions.specs.Session.{isPayload}

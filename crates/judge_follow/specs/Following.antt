@@ -8,7 +8,7 @@ use lib.ListN.{length, take}
 use Rattle.slices.specs.Choice.{pick}
 use Rattle.slices.specs.Tests.{alike}
 use Rattle.slices.specs.Writing.{zeros}
-use Rattle.numbers.specs.Kinds.{command, answer, silence, decision}
+use Rattle.numbers.specs.Tables.{command, answer, silence, decision}
 use Rattle.dol_fill.specs.Filled.{summed}
 use Rattle.commands.specs.Commands.{longest}
 use Rattle.session_phase.specs.Waiting.{kindOf}

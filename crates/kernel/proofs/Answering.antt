@@ -7,7 +7,7 @@ use lib.Dec.{eqb}
 use borrow.Author.Tests.{eq-eqb, ne-eqb}
 use Rattle.slices.specs.Choice.{pick}
 use Rattle.slices.proofs.Choice.{pick-yes, pick-no}
-use Rattle.numbers.specs.Kinds.{silence}
+use Rattle.numbers.specs.Tables.{silence}
 use Rattle.tape_read.specs.Entries.{Entry}
 use Rattle.session_phase.specs.declared.Reply.the-variants.{Refused, Closed as ClosedReply}
 use Rattle.dol_fill.specs.Filled.{summed}

@@ -6,7 +6,7 @@ use Prim.Native.Nat.{ℕ}
 use lib.Dec.{eqb}
 use Rattle.slices.specs.Choice.{pick}
 use Rattle.dol_fill.specs.Filled.{summed}
-use Rattle.numbers.specs.Kinds.{silence}
+use Rattle.numbers.specs.Tables.{silence}
 use Rattle.tape_read.specs.Entries.{Entry}
 use Rattle.session_phase.specs.declared.Reply.{Reply}
 use Rattle.session_phase.specs.declared.Reply.the-variants.{Refused, Closed as ClosedReply}

@@ -11,7 +11,7 @@ use borrow.Author.Tests.{eq-eqb, ne-eqb, le-ltb}
 use Rattle.slices.specs.Choice.{firstOf}
 use Rattle.slices.proofs.Choice.{pick-no}
 use Rattle.slices.proofs.Lines.{line-no}
-use Rattle.numbers.specs.Kinds.{answer, silence}
+use Rattle.numbers.specs.Tables.{answer, silence}
 use Rattle.tape_read.specs.Entries.{Entry, entry, payloadMost}
 use Rattle.commands.specs.Commands.{longest}
 use Rattle.session_phase.specs.Waiting.{kindOf, awaited, isOver}

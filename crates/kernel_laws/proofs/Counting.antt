@@ -13,7 +13,7 @@ use lib.Dec.{eqb}
 use lib.Pow.{areBytes}
 use borrow.Author.Tests.{eqb-true, eqb-false}
 use Rattle.slices.proofs.Choice.{either, and-left, and-right}
-use Rattle.numbers.specs.Kinds.{silence}
+use Rattle.numbers.specs.Tables.{silence}
 use Rattle.tape_read.specs.Entries.{Entry, entry}
 use Rattle.dol_fill.specs.Filled.{summed}
 use Rattle.sessions.specs.Machine.{next, run}

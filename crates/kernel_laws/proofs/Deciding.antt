@@ -7,7 +7,7 @@ use mathlib.Core.List.{List, [], _∷_, _++_, append-assoc}
 use Prim.Native.Nat.{ℕ}
 use lib.Pow.{areBytes}
 use Rattle.slices.proofs.Choice.{and-left, and-right}
-use Rattle.numbers.specs.Kinds.{decision}
+use Rattle.numbers.specs.Tables.{decision}
 use Rattle.tape_read.specs.Entries.{Entry, entry}
 use Rattle.rulebook.specs.Phase.{Phase, asks, hears, decides}
 use Rattle.session_phase.specs.Waiting.{isDecided}

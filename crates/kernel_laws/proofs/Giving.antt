@@ -8,7 +8,7 @@ use native.Mathlib.Omega.{arith}
 use lib.ListN.{length, take, drop}
 use lib.Seq.{drop-at}
 use Rattle.slices.proofs.Writing.{put-start, laid-fits}
-use Rattle.numbers.specs.Kinds.{command, decision}
+use Rattle.numbers.specs.Tables.{command, decision}
 use Rattle.tape_read.specs.Entries.{Entry, entry}
 use Rattle.commands.specs.Commands.{longest}
 use Rattle.rulebook.specs.Situation.{Situation}

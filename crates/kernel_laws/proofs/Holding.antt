@@ -10,7 +10,7 @@ use lib.Dec.{eqb}
 use lib.Pow.{areBytes}
 use borrow.Author.Tests.{eqb-true, eqb-false}
 use Rattle.slices.proofs.Choice.{either, and-left, and-right}
-use Rattle.numbers.specs.Kinds.{silence}
+use Rattle.numbers.specs.Tables.{silence}
 use Rattle.tape_read.specs.Entries.{Entry}
 use Rattle.decide_tvr.proofs.Rows.{joined-self, kept-on}
 use Rattle.session_phase.specs.declared.Waiting.the-variants.{ForWord, Closed}

@@ -13,7 +13,7 @@ use Rattle.slices.specs.Choice.{pick}
 use Rattle.slices.specs.Tests.{alike}
 use Rattle.slices.proofs.Choice.{pick-yes, pick-no}
 use Rattle.slices.proofs.Comparing.{alike-same}
-use Rattle.numbers.specs.Kinds.{command, answer, silence, decision}
+use Rattle.numbers.specs.Tables.{command, answer, silence, decision}
 use Rattle.tape_read.specs.Entries.{Entry, entry}
 use Rattle.commands.specs.Commands.{longest}
 use Rattle.sessions.specs.Session.{isPayload}

@@ -14,7 +14,7 @@ use borrow.Author.Tests.{eqb-true, eq-eqb, ne-eqb, ltb-false}
 use Rattle.slices.specs.Choice.{firstOf}
 use Rattle.slices.proofs.Choice.{pick-yes, pick-no, and-left, and-right}
 use Rattle.slices.proofs.Cutting.{none-left}
-use Rattle.numbers.specs.Kinds.{answer, silence}
+use Rattle.numbers.specs.Tables.{answer, silence}
 use Rattle.tape_read.specs.Entries.{Entry, entry, payloadMost}
 use Rattle.commands.specs.Commands.{longest}
 use Rattle.sessions.specs.Machine.{run}

@@ -9,7 +9,7 @@ use lib.Dec.{eqb}
 use lib.Pow.{areBytes}
 use borrow.Author.Tests.{eqb-true, eqb-false}
 use Rattle.slices.proofs.Choice.{either}
-use Rattle.numbers.specs.Kinds.{silence}
+use Rattle.numbers.specs.Tables.{silence}
 use Rattle.tape_read.specs.Entries.{Entry, entry}
 use Rattle.session_events.specs.Events.{step}
 use Rattle.session_laws.specs.Agreeing.{StandsAt}

@@ -12,7 +12,7 @@ use Rattle.slices.specs.Choice.{firstOf}
 use Rattle.slices.proofs.Lines.{line-clear, last-no}
 use Rattle.start_valid.specs.Start.{beginsSession}
 use Rattle.start_valid.proofs.Laws.{begins-valid}
-use Rattle.numbers.specs.Kinds.{start, answer}
+use Rattle.numbers.specs.Tables.{start, answer}
 use Rattle.tape_read.specs.Entries.{entry}
 use Rattle.words.specs.Words.{wordKind, wordAllowed}
 use Rattle.words.proofs.Laws.{other-kind as word-kind, no-start, some-refusal}

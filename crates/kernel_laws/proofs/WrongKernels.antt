@@ -18,7 +18,7 @@ use Rattle.start_valid.proofs.Laws.{begins-valid}
 use Rattle.slices.specs.Tests.{every, between}
 use Rattle.decimal_dates.specs.Decimal.{decimalFrom, decimal, decimalByte, digitsOnly, zerosOnly}
 use Rattle.decimal_dates.specs.Dates.{monthAndDay, validStartDate}
-use Rattle.numbers.specs.Kinds.{command, decision}
+use Rattle.numbers.specs.Tables.{command, decision}
 use Rattle.tape_read.specs.Entries.{Entry, entry}
 use Rattle.commands.specs.Commands.{longest, selectCommand}
 use Rattle.sessions.specs.Session.{isPayload}

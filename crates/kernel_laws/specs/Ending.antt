@@ -7,8 +7,7 @@ use Prim.Native.Nat.{ℕ}
 use lib.Dec.{ltb}
 use lib.ListN.{length}
 use Rattle.slices.specs.Choice.{pick}
-use Rattle.numbers.specs.Refusals.{refusedBuffer, refusedOver}
-use Rattle.numbers.specs.Kinds.{decision}
+use Rattle.numbers.specs.Tables.{refusedBuffer, refusedOver, decision}
 use Rattle.tape_read.specs.Entries.{Entry, entry}
 use Rattle.commands.specs.Commands.{longest}
 use Rattle.session_phase.specs.Waiting.{isDecided}

@@ -10,7 +10,7 @@ use lib.Dec.{leb, ltb}
 use lib.ListN.{length}
 use borrow.Author.Tests.{le-ltb, ltb-true, ltb-false, le-leb, lt-leb, leb-true, leb-false, not-false}
 use Rattle.slices.proofs.Choice.{pick-yes, pick-no, either, and-left, and-right}
-use Rattle.numbers.specs.Kinds.{isKind}
+use Rattle.numbers.specs.Tables.{isKind}
 use Rattle.tape_read.specs.Entries.{Entry, blockSize, blocksMost, payloadMost, storable, allStorable}
 use Rattle.tape_read.proofs.Back.{storable-kind, storable-fits}
 use Rattle.tape_read.proofs.Extra.{first-hit, first-skip, first-end, first-none}

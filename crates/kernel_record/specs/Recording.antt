@@ -8,8 +8,7 @@ use lib.Dec.{eqb, leb, ltb}
 use lib.ListN.{length, take}
 use Rattle.slices.specs.Choice.{pick, firstOf}
 use Rattle.slices.specs.Writing.{put}
-use Rattle.numbers.specs.Refusals.{refusedEntry, refusedRoom}
-use Rattle.numbers.specs.Kinds.{command, decision, isKind}
+use Rattle.numbers.specs.Tables.{refusedEntry, refusedRoom, command, decision, isKind}
 use Rattle.tape_read.specs.Entries.{Entry, entry, blockSize, blocksMost, payloadMost}
 use Rattle.tape_read.specs.Tapes.{written}
 use Rattle.tape_write.specs.declared.Writer.{Writer}

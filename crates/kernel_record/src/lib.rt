@@ -1,8 +1,9 @@
 // A kernel session recorded onto a tape: each accepted call's event, and after it the command or the decision that it led to.
 use kernel::Session;
-use numbers::kinds::COMMAND;
-use numbers::kinds::DECISION;
-use numbers::refusals;
+use numbers::COMMAND;
+use numbers::DECISION;
+use numbers::REFUSED_ENTRY;
+use numbers::REFUSED_ROOM;
 use session_phase::Reply;
 use session_state::result::decision;
 use slices::part;
@@ -97,15 +98,15 @@ fn why_refused(
         (now (tape .entry)) ⌝ }
 {
     if is_wrong(kind, payload) {
-        return refusals::ENTRY;
+        return REFUSED_ENTRY;
     }
     if is_wrong(next_kind, next_payload) {
-        return refusals::ENTRY;
+        return REFUSED_ENTRY;
     }
     if has_room(writer, tape) {
         0
     } else {
-        refusals::ROOM
+        REFUSED_ROOM
     }
 }
 

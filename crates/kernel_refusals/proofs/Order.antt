@@ -10,7 +10,7 @@ use borrow.Author.Tests.{lt-ltb, le-ltb}
 use Rattle.slices.specs.Choice.{pick, firstOf}
 use Rattle.slices.proofs.Choice.{pick-yes, pick-no}
 use Rattle.start_valid.specs.Start.{beginsSession}
-use Rattle.numbers.specs.Kinds.{start, answer, silence}
+use Rattle.numbers.specs.Tables.{start, answer, silence}
 use Rattle.tape_read.specs.Entries.{Entry, entry}
 use Rattle.commands.specs.Commands.{longest}
 use Rattle.session_phase.specs.Waiting.{awaited, isOver}

@@ -11,7 +11,7 @@ use lib.ListN.{length}
 use borrow.Author.Tests.{eqb-true, eqb-false, ne-eqb, not-true, not-false}
 use Rattle.slices.specs.Choice.{pick, firstOf}
 use Rattle.slices.proofs.Choice.{pick-yes, pick-no, picked, either}
-use Rattle.numbers.specs.Kinds.{answer, silence}
+use Rattle.numbers.specs.Tables.{answer, silence}
 use Rattle.tape_read.specs.Entries.{Entry}
 use Rattle.words.specs.Words.{wordKind, wordRefusal}
 use Rattle.words.specs.declared.Word.{Word}

@@ -7,8 +7,7 @@ use Prim.Native.Nat.{ℕ}
 use lib.Dec.{eqb, ltb}
 use lib.ListN.{length}
 use Rattle.slices.specs.Choice.{pick, firstOf}
-use Rattle.numbers.specs.Refusals.{refusedBuffer, refusedOver, refusedStart, refusedEvent, refusedAnswer}
-use Rattle.numbers.specs.Kinds.{start, answer, silence}
+use Rattle.numbers.specs.Tables.{refusedBuffer, refusedOver, refusedStart, refusedEvent, refusedAnswer, start, answer, silence}
 use Rattle.tape_read.specs.Entries.{Entry, payloadMost}
 use Rattle.start_valid.specs.Start.{beginsSession}
 use Rattle.commands.specs.Commands.{longest}

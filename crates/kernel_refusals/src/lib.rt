@@ -1,9 +1,13 @@
 // When a call of a session is turned away. The event is handed in as the entry that it would be on a tape, by its kind and payload.
 use commands::write::LONGEST;
-use numbers::kinds::ANSWER;
-use numbers::kinds::SILENCE;
-use numbers::kinds::START;
-use numbers::refusals;
+use numbers::ANSWER;
+use numbers::REFUSED_ANSWER;
+use numbers::REFUSED_BUFFER;
+use numbers::REFUSED_EVENT;
+use numbers::REFUSED_OVER;
+use numbers::REFUSED_START;
+use numbers::SILENCE;
+use numbers::START;
 use session_phase::Speaker;
 use session_phase::Waiting;
 use session_phase::awaits;
@@ -66,19 +70,19 @@ pub fn refusal(waiting: Waiting, kind: u8, payload: &[u8], command: &[u8]) -> us
     ensures { λ r. ⌜ r ≡ callRefusal waiting (entry kind (now (payload .entry))) (now (command .entry)) ⌝ }
 {
     if command.len() < LONGEST {
-        return refusals::BUFFER;
+        return REFUSED_BUFFER;
     }
     if awaits(waiting) == 0 {
-        return refusals::OVER;
+        return REFUSED_OVER;
     }
     if is_start_bad(kind, payload) {
-        return refusals::START;
+        return REFUSED_START;
     }
     if !is_due(waiting, kind, payload) {
-        return refusals::EVENT;
+        return REFUSED_EVENT;
     }
     if is_answer_bad(kind, payload) {
-        return refusals::ANSWER;
+        return REFUSED_ANSWER;
     }
     word_refusal(waiting, payload)
 }

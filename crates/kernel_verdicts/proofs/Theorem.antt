@@ -12,7 +12,7 @@ use native.Mathlib.Omega.{arith}
 use lib.ListN.{length, take, drop, length-append}
 use lib.Seq.{length-take-le}
 use Rattle.slices.proofs.Choice.{either}
-use Rattle.numbers.specs.Kinds.{silence}
+use Rattle.numbers.specs.Tables.{silence}
 use Rattle.tape_read.specs.Entries.{Entry, entry, storable, blockSize, blocksMost, tapeMost}
 use Rattle.tape_read.specs.Tapes.{written}
 use Rattle.tape_read.proofs.Roundtrip.{tape-back, cut-back}

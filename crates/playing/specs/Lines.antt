@@ -7,7 +7,7 @@ use lib.Dec.{eqb, ltb}
 use lib.ListN.{length}
 use Rattle.slices.specs.Choice.{pick}
 use Rattle.text_hex.specs.Digits.{digit}
-use Rattle.numbers.specs.Kinds.{start, answer, silence, host, results}
+use Rattle.numbers.specs.Tables.{start, answer, silence, host, results}
 
 -- whether w is the first word of a line: a space follows it, or nothing
 unfoldable pub named : List ℕ → List ℕ → Bool

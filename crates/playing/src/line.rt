@@ -1,9 +1,9 @@
 // What a line asks, and what is wrong with one that asks nothing.
-use numbers::kinds::ANSWER;
-use numbers::kinds::HOST;
-use numbers::kinds::RESULTS;
-use numbers::kinds::SILENCE;
-use numbers::kinds::START;
+use numbers::ANSWER;
+use numbers::HOST;
+use numbers::RESULTS;
+use numbers::SILENCE;
+use numbers::START;
 use slices::byte;
 use text_hex::digit_of;
 ghost use mathlib.Core.Path.{_≡_};

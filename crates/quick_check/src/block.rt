@@ -1,7 +1,11 @@
 // One block: its code, by a check that does not take in the zeros behind the payload.
 use crate::register::after;
 use crate::register::past;
-use numbers::codes;
+use numbers::CODE_CHECK;
+use numbers::CODE_KIND;
+use numbers::CODE_NUMBER;
+use numbers::CODE_SESSION;
+use numbers::CODE_SPARE;
 use tape_read::CHECK_AT;
 use tape_read::PAYLOAD;
 use tape_read::PAYLOAD_AT;
@@ -44,7 +48,7 @@ pub fn code(
     if is_zero(&block[from..CHECK_AT]) {
         let check = check_of(block, from, rows, behind);
         if number(&block[CHECK_AT..]) != check {
-            return codes::CHECK;
+            return CODE_CHECK;
         }
         return heading(block, due_number, due_session);
     }
@@ -85,16 +89,16 @@ fn heading(block: &[u8], due_number: usize, due_session: u32) -> u8
     ensures { λ r. ⌜ r ≡ codeOf «due_number» «due_session» (now (block .entry)) ⌝ }
 {
     if number(block) as usize != due_number {
-        return codes::NUMBER;
+        return CODE_NUMBER;
     }
     if session(block) != due_session {
-        return codes::SESSION;
+        return CODE_SESSION;
     }
     if no_kind(kind(block)) {
-        return codes::KIND;
+        return CODE_KIND;
     }
     if slices::byte(block, 9) != 0 {
-        return codes::SPARE;
+        return CODE_SPARE;
     }
     0
 }

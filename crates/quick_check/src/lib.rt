@@ -6,7 +6,8 @@ mod rows;
 
 use behind::BEHIND;
 use block::code;
-use numbers::codes;
+use numbers::CODE_LONG;
+use numbers::CODE_TORN;
 use rows::ROWS;
 use tape_feed::Damage;
 use tape_read::BLOCK;
@@ -100,10 +101,10 @@ fn of_tape(tape: &[u8], rows: &[u32; 2048], behind: &[u32; 512]) -> Damage
     ensures { λ r. ⌜ r ≡ damageIn (now (tape .entry)) ⌝ }
 {
     if TAPE < tape.len() {
-        return at(0, codes::LONG);
+        return at(0, CODE_LONG);
     }
     if tape.len() % BLOCK != 0 {
-        return at(tape.len() / BLOCK, codes::TORN);
+        return at(tape.len() / BLOCK, CODE_TORN);
     }
     first_bad(tape, session(block_at(tape, 0)), rows, behind)
 }

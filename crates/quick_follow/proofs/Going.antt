@@ -16,7 +16,7 @@ use Rattle.facts.specs.Facts.{Facts}
 use Rattle.dol_fill.specs.Filled.{filling, unsupplied, summed}
 use Rattle.commands.specs.Commands.{cryptogramCommand}
 use Rattle.rulebook.specs.Situation.{Situation}
-use Rattle.numbers.specs.Outcomes.{terminated}
+use Rattle.numbers.specs.Tables.{terminated}
 use Rattle.rulebook.specs.Phase.{Asked, Heard, Phase, asks, hears, commandOf, dueKind, decisionOf, decided, ended}
 use Rattle.rulebook.specs.Turn.{goesOn, turn, allowed, after}
 use Rattle.rulebook_zeros.specs.Zeros.{unsuppliedAsking}

@@ -4,7 +4,7 @@ use verdict::Finding;
 ghost use mathlib.Core.Path.{_≡_};
 ghost use mathlib.Core.List.{_∷_, _++_};
 ghost use Prim.Native.Nat.{_%_};
-ghost use Rattle.numbers.specs.Outcomes.{terminated};
+ghost use Rattle.numbers.specs.Tables.{terminated};
 ghost use Rattle.quick_meet.specs.Meeting.{decisionMet};
 
 // For a reason: 01 has ten, and of a larger number the low byte is kept.

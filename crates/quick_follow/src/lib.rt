@@ -6,7 +6,7 @@ mod options;
 mod records;
 mod requests;
 
-use numbers::kinds::START;
+use numbers::START;
 use options::from_start;
 use quick_meet::meet::fail;
 use quick_meet::meet::payload_at;

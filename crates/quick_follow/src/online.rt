@@ -14,7 +14,7 @@ use decide_tvr::results::tsi_after_first_answer;
 use dol_fill::count::sum;
 use dol_fill::count::unsupplied;
 use dol_wanted::is_fillable;
-use numbers::kinds::HOST;
+use numbers::HOST;
 use quick_ask::ask;
 use quick_ask::known::at_second;
 use quick_meet::meet::decided;

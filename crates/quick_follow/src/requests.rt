@@ -11,7 +11,7 @@ use decide_verification::tvr_after_results;
 use decide_verification::wanted;
 use dol_fill::count::sum;
 use dol_fill::count::unsupplied;
-use numbers::kinds::RESULTS;
+use numbers::RESULTS;
 use quick_ask::ask;
 use quick_ask::known::at_first;
 use quick_meet::meet::fail;

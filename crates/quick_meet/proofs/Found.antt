@@ -15,7 +15,7 @@ use Rattle.slices.specs.Tests.{alike}
 use Rattle.slices.proofs.Choice.{pick-yes, pick-no, either}
 use Rattle.slices.proofs.Comparing.{alike-same}
 use Rattle.slices.proofs.Cutting.{none-left}
-use Rattle.numbers.specs.Kinds.{command, answer, silence, decision}
+use Rattle.numbers.specs.Tables.{command, answer, silence, decision}
 use Rattle.tape_read.specs.Entries.{entry}
 use Rattle.dol_fill.specs.Filled.{summed}
 use Rattle.rulebook.specs.Situation.{Situation}

@@ -10,7 +10,7 @@ use lib.ListN.{length}
 use borrow.Author.Tests.{leb-false}
 use Rattle.slices.specs.Tests.{alike}
 use Rattle.slices.proofs.Choice.{pick-yes, pick-no, picked}
-use Rattle.numbers.specs.Kinds.{command, answer, silence}
+use Rattle.numbers.specs.Tables.{command, answer, silence}
 use Rattle.tape_read.specs.Entries.{blockSize}
 use Rattle.verdict.specs.Saying.{finds}
 use Rattle.verdict.specs.declared.Finding.{Finding}

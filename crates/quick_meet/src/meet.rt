@@ -1,9 +1,9 @@
 // One entry, or a command and its answer, beside what is due.
 use crate::Met;
-use numbers::kinds::ANSWER;
-use numbers::kinds::COMMAND;
-use numbers::kinds::DECISION;
-use numbers::kinds::SILENCE;
+use numbers::ANSWER;
+use numbers::COMMAND;
+use numbers::DECISION;
+use numbers::SILENCE;
 use slices::alike;
 use tape_read::BLOCK;
 use tape_read::block_at;

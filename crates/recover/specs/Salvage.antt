@@ -7,7 +7,7 @@ use Prim.Native.Nat.{ℕ, _+_, _*_, _%_}
 use lib.Dec.{eqb}
 use lib.ListN.{length, take, drop}
 use Rattle.slices.specs.Choice.{pick, firstOf}
-use Rattle.numbers.specs.Codes.{codeCheck}
+use Rattle.numbers.specs.Tables.{codeCheck}
 use Rattle.tape_read.specs.Entries.{blockSize}
 use Rattle.tape_read.specs.Blocks.{numberIn, sessionIn, kindIn, payloadAt, payloadIn, checkBad, contentTests}
 use Rattle.tape_read.specs.Tapes.{blocksOf}

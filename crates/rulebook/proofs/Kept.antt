@@ -3,7 +3,7 @@
 -- Assumes nothing.
 use mathlib.Core.Path.{refl}
 use mathlib.Core.List.{List, _∷_}
-use Rattle.numbers.specs.Kinds.{start}
+use Rattle.numbers.specs.Tables.{start}
 use Rattle.tape_read.specs.Entries.{Entry, entry}
 use Rattle.sessions.specs.Session as Under
 use Rattle.sessions.specs.Kept.{Kept}

@@ -15,7 +15,7 @@ use Rattle.slices.specs.Choice.{pick, firstOf}
 use Rattle.slices.proofs.Choice.{pick-yes, pick-same}
 use Rattle.slices.specs.Tests.{isSome}
 use Rattle.tlv_list.specs.Lookup.{Lookup, absent}
-use Rattle.numbers.specs.Kinds.{start, host, results}
+use Rattle.numbers.specs.Tables.{start, host, results}
 use Rattle.tape_read.specs.Entries.{Entry, entry}
 use Rattle.start_fields.specs.Reading.{readingOf}
 use Rattle.answer_afl.specs.Entries.{mostRecords, toRead}

@@ -12,7 +12,7 @@ use lib.ListN.{length}
 use borrow.Author.Tests.{eqb-false}
 use Rattle.slices.specs.Tests.{isSome}
 use Rattle.start_fields.proofs.Sample.{filled}
-use Rattle.numbers.specs.Kinds.{start, command, answer, silence, decision}
+use Rattle.numbers.specs.Tables.{start, command, answer, silence, decision}
 use Rattle.tape_read.specs.Entries.{Entry, entry}
 use Rattle.sessions.specs.Machine.{run}
 use Rattle.sessions.proofs.Running.{run-session}

@@ -7,7 +7,7 @@ use mathlib.Core.Option.{some}
 use Prim.Native.Nat.{ℕ}
 use Rattle.start_fields.specs.Reading.{readingOf}
 use Rattle.start_valid.specs.Start.{validStart}
-use Rattle.numbers.specs.Kinds.{start, host}
+use Rattle.numbers.specs.Tables.{start, host}
 use Rattle.tape_read.specs.Entries.{entry}
 use Rattle.decide_requests.specs.Replies.{replyOf, isReply}
 use Rattle.decide_requests.specs.declared.reply.HostReply.{HostReply}

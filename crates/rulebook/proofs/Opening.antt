@@ -13,7 +13,7 @@ use Rattle.slices.specs.Shorter.{counted as o3, shorter as o4}
 use Rattle.slices.specs.Tables.{anyOf as o5, beside as o6}
 use Rattle.slices.specs.Tests.{every as o7, between as o8, alike as o9, isSome as o10}
 use Rattle.slices.specs.Writing.{put as o11, laid as o12, zeros as o13}
-use Rattle.numbers.specs.Kinds.{isKind as o14}
+use Rattle.numbers.specs.Tables.{isKind as o14}
 use Rattle.facts.specs.Facts.{orElse as o15}
 use Rattle.tlv_head.specs.Head.{firstByte as o16, constructed as o17, twoBytes as o18, tagSize as o19, tagOf as o20}
 use Rattle.tlv_head.specs.Head.{tagRight as o21, lengthByte as o22, lengthForm as o23, lengthSize as o24, lengthOf as o25}

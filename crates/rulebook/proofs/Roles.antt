@@ -7,7 +7,7 @@ use mathlib.Core.List.{List, [], _∷_, _++_}
 use mathlib.Core.Logic.{inl, inr, ⊎-elim}
 use mathlib.Core.Option.{Option, none, some}
 use Prim.Native.Nat.{ℕ}
-use Rattle.numbers.specs.Kinds.{command, answer, decision}
+use Rattle.numbers.specs.Tables.{command, answer, decision}
 use Rattle.tape_read.specs.Entries.{Entry, entry}
 use Rattle.sessions.specs.Session as Under
 use Rattle.sessions.specs.Stated.{Sort, finished, unfinished, neither}

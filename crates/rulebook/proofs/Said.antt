@@ -14,7 +14,7 @@ use Rattle.start_valid.specs.Start.{validKind, validDigits, validRandom}
 use Rattle.start_valid.specs.Start.{validPercentages, validThreshold, validAid, validStart}
 use Rattle.decimal_dates.specs.Decimal.{decimalFrom, decimal, decimalByte, digitsOnly, zerosOnly}
 use Rattle.decimal_dates.specs.Dates.{monthAndDay, validStartDate}
-use Rattle.numbers.specs.Kinds.{isKind}
+use Rattle.numbers.specs.Tables.{isKind}
 use Rattle.tape_read.specs.Entries.{payloadMost}
 use Rattle.decide_verification.proofs.Laws.{wanted-few}
 use Rattle.words.specs.declared.Word.{Word}

@@ -21,7 +21,7 @@ use Rattle.slices.proofs.Tests.{first-held}
 use Rattle.start_fields.specs.Reading.{Terminal}
 use Rattle.start_fields.specs.Layout.{startLength}
 use Rattle.start_fields.proofs.Reading.{no-capabilities}
-use Rattle.numbers.specs.Kinds.{start, results}
+use Rattle.numbers.specs.Tables.{start, results, terminated}
 use Rattle.tape_read.specs.Entries.{Entry, entry}
 use Rattle.facts.specs.Facts.{Facts}
 use Rattle.dol_wanted.specs.Wanted.{fillable}
@@ -37,7 +37,6 @@ use Rattle.words.specs.declared.Word.the-variants.{Results}
 use Rattle.sessions.specs.Session.{phasesOf}
 use Rattle.rulebook.specs.Situation.{Situation, begun, listIn}
 use Rattle.rulebook.specs.Phase.{Asked, first, terminal, says, Phase, opens, asks, hears}
-use Rattle.numbers.specs.Outcomes.{terminated}
 use Rattle.rulebook.specs.Phase.{decides, situationOf, dueKind, ended, tvrOf, tsiOf}
 use Rattle.rulebook.specs.Turn.{goesOn, opened, managed, requested, withProfile, withRecord}
 use Rattle.rulebook.specs.Turn.{answered, turn, verifiedBy, after}

@@ -4,9 +4,8 @@ use mathlib.Core.List.{List, _∷_, _++_}
 use mathlib.Core.Option.{none, some}
 use Prim.Native.Nat.{ℕ}
 use Rattle.slices.specs.Writing.{zeros}
-use Rattle.numbers.specs.Outcomes.{terminated}
+use Rattle.numbers.specs.Tables.{terminated, start}
 use Rattle.dol_fill.specs.Filled.{filling}
-use Rattle.numbers.specs.Kinds.{start}
 use Rattle.words.specs.Words.{wordKind}
 use Rattle.words.specs.declared.Word.{Word}
 use Rattle.commands.specs.Commands.{selectCommand, optionsCommand, recordCommand, cryptogramCommand}

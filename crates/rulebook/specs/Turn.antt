@@ -7,7 +7,7 @@ use Prim.Native.Nat.{ℕ}
 use lib.Dec.{eqb}
 use Rattle.slices.specs.Choice.{pick}
 use Rattle.slices.specs.Tests.{isSome}
-use Rattle.numbers.specs.Reasons.{forMissing, forList}
+use Rattle.numbers.specs.Tables.{forMissing, forList, approved, declined}
 use Rattle.start_fields.specs.Reading.{Terminal, readingOf}
 use Rattle.start_valid.specs.Start.{validStart}
 use Rattle.facts.specs.Facts.{orElse}
@@ -37,7 +37,6 @@ use Rattle.decide_requests.specs.declared.reply.HostHeard.{HostHeard}
 use Rattle.decide_requests.specs.declared.reply.HostHeard.the-variants.{Said, Nothing}
 use Rattle.rulebook.specs.Situation.{Situation, begun, listIn}
 use Rattle.rulebook.specs.Phase.{Asked, selecting, optioning, reading, first, second, Heard, terminal}
-use Rattle.numbers.specs.Outcomes.{approved, declined}
 use Rattle.rulebook.specs.Phase.{says, Phase, asks, hears, decided, ended}
 
 -- a bad answer ends the session with its reason; otherwise it goes on

@@ -9,8 +9,7 @@ use lib.Dec.{eqb}
 use lib.ListN.{length, getD}
 use borrow.Author.Tests.{eqb-true, ne-eqb, lt-ltb, le-ltb}
 use Rattle.slices.proofs.Choice.{pick-yes, pick-no, and-both}
-use Rattle.numbers.specs.Kinds.{start, command, answer}
-use Rattle.numbers.specs.Reasons.{forExchanges}
+use Rattle.numbers.specs.Tables.{start, command, answer, forExchanges}
 use Rattle.tape_read.specs.Entries.{Entry, entry}
 use Rattle.start_list.specs.Listing.{Applications}
 use Rattle.select_answers.specs.Files.{directoryFile}

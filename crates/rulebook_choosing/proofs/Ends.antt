@@ -5,8 +5,7 @@ use mathlib.Core.List.{List, [], _∷_}
 use Prim.Native.Nat.{ℕ, _+_}
 use native.Mathlib.Omega.{arith}
 use lib.ListN.{length}
-use Rattle.numbers.specs.Kinds.{decision}
-use Rattle.numbers.specs.Outcomes.{terminated}
+use Rattle.numbers.specs.Tables.{decision, terminated}
 use Rattle.tape_read.specs.Entries.{Entry, entry}
 use Rattle.select_search.specs.Search as search
 use Rattle.select_search.specs.Search.{Found}

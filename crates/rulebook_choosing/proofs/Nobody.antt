@@ -9,8 +9,7 @@ use lib.Dec.{leb}
 use lib.ListN.{length, getD}
 use borrow.Author.Tests.{leb-true}
 use Rattle.slices.proofs.Choice.{picked, pick-yes}
-use Rattle.numbers.specs.Kinds.{start, command, answer}
-use Rattle.numbers.specs.Reasons.{forNobody}
+use Rattle.numbers.specs.Tables.{start, command, answer, forNobody}
 use Rattle.tape_read.specs.Entries.{Entry, entry}
 use Rattle.start_list.specs.Listing.{applicationsIn, countIn, countAt}
 use Rattle.select_search.specs.Search as search

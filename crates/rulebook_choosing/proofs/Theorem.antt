@@ -6,7 +6,7 @@ use mathlib.Core.Bool.{Bool, true}
 use mathlib.Core.List.{List, [], _∷_, _++_}
 use Prim.Native.Nat.{ℕ, _≤_}
 use lib.ListN.{length}
-use Rattle.numbers.specs.Kinds.{start}
+use Rattle.numbers.specs.Tables.{start}
 use Rattle.tape_read.specs.Entries.{Entry, entry}
 use Rattle.select_names.specs.Names.{supported}
 use Rattle.select_list.specs.Kept.{candidateAt}

@@ -7,8 +7,7 @@ use Prim.Native.Nat.{ℕ}
 use lib.Dec.{eqb, ltb}
 use lib.ListN.{length, getD}
 use Rattle.slices.specs.Tests.{every}
-use Rattle.numbers.specs.Kinds.{choice}
-use Rattle.numbers.specs.Outcomes.{terminated}
+use Rattle.numbers.specs.Tables.{choice, terminated}
 use Rattle.start_fields.specs.Reading.{readingOf}
 use Rattle.start_list.specs.Listing.{Applications, applicationsIn}
 use Rattle.select_list.specs.Order.{shownOf}

@@ -6,9 +6,7 @@ use mathlib.Core.List.{List, [], _∷_}
 use Prim.Native.Nat.{ℕ, _+_, _*_}
 use lib.Dec.{eqb}
 use lib.ListN.{length}
-use Rattle.numbers.specs.Kinds.{start, answer, decision}
-use Rattle.numbers.specs.Outcomes.{terminated}
-use Rattle.numbers.specs.Reasons.{forExchanges}
+use Rattle.numbers.specs.Tables.{start, answer, decision, terminated, forExchanges}
 use Rattle.tape_read.specs.Entries.{Entry, entry}
 use Rattle.answer_common.specs.Answer.{sizeBad}
 use Rattle.select_answers.specs.Files.{directoryFile}

@@ -4,9 +4,7 @@ use mathlib.Core.Path.{_≡_}
 use mathlib.Core.List.{List, [], _∷_}
 use Prim.Native.Nat.{ℕ, _+_, _*_}
 use lib.ListN.{length}
-use Rattle.numbers.specs.Kinds.{start, answer, decision}
-use Rattle.numbers.specs.Outcomes.{terminated}
-use Rattle.numbers.specs.Reasons.{forNobody}
+use Rattle.numbers.specs.Tables.{start, answer, decision, terminated, forNobody}
 use Rattle.tape_read.specs.Entries.{Entry, entry}
 use Rattle.start_list.specs.Listing.{applicationsIn}
 use Rattle.rulebook.specs.Phase.{decisionOf}

@@ -6,8 +6,7 @@ use mathlib.Core.Bool.{true}
 use mathlib.Core.List.{List, [], _∷_}
 use Prim.Native.Nat.{ℕ, suc, _+_, _<_}
 use Rattle.answer_common.specs.Named.{listed}
-use Rattle.numbers.specs.Outcomes.{terminated}
-use Rattle.numbers.specs.Reasons.{forExchanges, forNobody}
+use Rattle.numbers.specs.Tables.{terminated, forExchanges, forNobody}
 use Rattle.decide_tvr.specs.Bits.{joined}
 use Rattle.select_search.specs.Search.{Search, mostExchanges}
 use Rattle.select_laws.specs.Follows.{reasons}

@@ -6,7 +6,7 @@ use mathlib.Core.List.{List, _∷_, _++_}
 use Prim.Native.Nat.{ℕ, _+_}
 use lib.ListN.{length}
 use lib.Seq.{take-append-add}
-use Rattle.numbers.specs.Kinds.{command, decision}
+use Rattle.numbers.specs.Tables.{command, decision}
 use Rattle.tape_read.specs.Entries.{Entry, entry}
 use Rattle.sessions.specs.Machine.{run}
 use Rattle.sessions.proofs.Reading.{not-both, not-begun}

@@ -4,7 +4,7 @@ use mathlib.Core.Path.{_≡_}
 use mathlib.Core.List.{List, [], _∷_, _++_}
 use Prim.Native.Nat.{ℕ}
 use lib.ListN.{length}
-use Rattle.numbers.specs.Kinds.{command, decision}
+use Rattle.numbers.specs.Tables.{command, decision}
 use Rattle.tape_read.specs.Entries.{Entry, entry}
 use Rattle.rulebook.specs.Phase.{terminal}
 use Rattle.rulebook.specs.Session.{Session, Beginning, Closed, Lawful, BreaksAt}

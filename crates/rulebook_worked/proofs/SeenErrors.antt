@@ -5,7 +5,7 @@ use mathlib.Core.Path.{refl}
 use mathlib.Core.List.{List, [], _∷_, _++_}
 use Prim.Native.Nat.{ℕ}
 use Rattle.slices.specs.Tests.{isSome}
-use Rattle.numbers.specs.Kinds.{start, command, answer, decision}
+use Rattle.numbers.specs.Tables.{start, command, answer, decision}
 use Rattle.tape_read.specs.Entries.{Entry, entry}
 use Rattle.rulebook.specs.Session.{Session, BreaksAt}
 use Rattle.rulebook.proofs.Opening.{reached}

@@ -4,7 +4,7 @@
 use mathlib.Core.Path.{refl}
 use mathlib.Core.List.{List, [], _∷_, _++_}
 use Prim.Native.Nat.{ℕ}
-use Rattle.numbers.specs.Kinds.{start, host, decision}
+use Rattle.numbers.specs.Tables.{start, host, decision}
 use Rattle.tape_read.specs.Entries.{Entry, entry}
 use Rattle.rulebook.specs.Session.{Session}
 use Rattle.rulebook.proofs.Opening.{reached}

@@ -11,7 +11,7 @@ use lib.Dec.{eqb}
 use lib.ListN.{length, take, getD}
 use borrow.Author.Tests.{eqb-false}
 use Rattle.slices.specs.Tests.{isSome}
-use Rattle.numbers.specs.Kinds.{start, command, answer, host, decision}
+use Rattle.numbers.specs.Tables.{start, command, answer, host, decision}
 use Rattle.tape_read.specs.Entries.{Entry, entry}
 use Rattle.start_valid.specs.Start.{beginsSession}
 use Rattle.sessions.specs.Session as Under

@@ -5,7 +5,7 @@ use mathlib.Core.Path.{refl}
 use mathlib.Core.List.{List, [], _∷_, _++_}
 use Prim.Native.Nat.{ℕ, _+_}
 use lib.ListN.{length}
-use Rattle.numbers.specs.Kinds.{start, decision, results}
+use Rattle.numbers.specs.Tables.{start, decision, results}
 use Rattle.tape_read.specs.Entries.{Entry, entry}
 use Rattle.rulebook.specs.Session.{Session}
 use Rattle.rulebook.proofs.Opening.{reached}

@@ -5,7 +5,7 @@ use mathlib.Core.Path.{refl}
 use mathlib.Core.List.{List, [], _∷_, _++_}
 use Prim.Native.Nat.{ℕ}
 use Rattle.slices.specs.Tests.{isSome}
-use Rattle.numbers.specs.Kinds.{command, silence, decision, results}
+use Rattle.numbers.specs.Tables.{command, silence, decision, results}
 use Rattle.tape_read.specs.Entries.{Entry, entry}
 use Rattle.rulebook.specs.Session.{BreaksAt}
 use Rattle.rulebook.proofs.Opening.{reached}

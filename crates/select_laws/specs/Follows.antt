@@ -4,7 +4,7 @@ use mathlib.Core.Path.{_≡_}
 use mathlib.Core.Bool.{true}
 use mathlib.Core.List.{List, [], _∷_}
 use Prim.Native.Nat.{ℕ, _+_, _<_}
-use Rattle.numbers.specs.Reasons.{forSize, forList, forExchanges, forNobody}
+use Rattle.numbers.specs.Tables.{forSize, forList, forExchanges, forNobody}
 use Rattle.answer_common.specs.Named.{listed}
 use Rattle.select_search.specs.Search.{Found, asks, shows, runs, over, mostExchanges}
 

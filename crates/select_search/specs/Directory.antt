@@ -6,7 +6,7 @@ use Prim.Native.Nat.{ℕ, _+_, _%_}
 use lib.Dec.{eqb}
 use lib.ListN.{length}
 use Rattle.slices.specs.Choice.{pick}
-use Rattle.numbers.specs.Reasons.{forNobody}
+use Rattle.numbers.specs.Tables.{forNobody}
 use Rattle.start_list.specs.Listing.{Applications}
 use Rattle.select_names.specs.Names.{supported}
 use Rattle.select_answers.specs.Files.{directoryFile}

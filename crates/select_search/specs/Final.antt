@@ -7,7 +7,7 @@ use lib.Dec.{eqb, ltb}
 use lib.ListN.{length}
 use Rattle.slices.specs.Choice.{pick}
 use Rattle.slices.specs.Tests.{every, alike}
-use Rattle.numbers.specs.Reasons.{forList, forNobody}
+use Rattle.numbers.specs.Tables.{forList, forNobody}
 use Rattle.dol_wanted.specs.Wanted.{fillable}
 use Rattle.start_list.specs.Listing.{Applications}
 use Rattle.answer_select.specs.Select.{pdolOf}

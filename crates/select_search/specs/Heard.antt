@@ -3,7 +3,7 @@
 use mathlib.Core.List.{List}
 use Prim.Native.Nat.{ℕ}
 use Rattle.slices.specs.Choice.{pick}
-use Rattle.numbers.specs.Reasons.{forSize}
+use Rattle.numbers.specs.Tables.{forSize}
 use Rattle.start_list.specs.Listing.{Applications}
 use Rattle.answer_common.specs.Answer.{sizeBad}
 use Rattle.select_search.specs.Search.{Search, Found, over}

@@ -7,7 +7,7 @@ use lib.Dec.{eqb, ltb}
 use lib.ListN.{length}
 use Rattle.slices.specs.Choice.{pick}
 use Rattle.slices.specs.Tests.{alike}
-use Rattle.numbers.specs.Reasons.{forNobody}
+use Rattle.numbers.specs.Tables.{forNobody}
 use Rattle.start_list.specs.Listing.{Applications, listedAt}
 use Rattle.select_names.specs.Names.{beginsWith}
 use Rattle.select_answers.specs.Files.{isApplication, applicationName, applicationIndicator}

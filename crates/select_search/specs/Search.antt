@@ -6,7 +6,7 @@ use Prim.Native.Nat.{ℕ, _+_, _*_, _-_}
 use lib.Dec.{eqb, ltb}
 use lib.ListN.{length, getD, take}
 use Rattle.slices.specs.Choice.{pick}
-use Rattle.numbers.specs.Reasons.{forExchanges}
+use Rattle.numbers.specs.Tables.{forExchanges}
 use Rattle.start_list.specs.Listing.{Applications, listedAt}
 use Rattle.commands.specs.Commands.{recordCommand}
 use Rattle.select_answers.specs.Files.{environment}

@@ -8,7 +8,8 @@ use decide_cryptogram::Cryptogram;
 use decide_cryptogram::Given;
 use decide_cryptogram::Request;
 use decide_tvr::results::tsi_after_first_answer;
-use numbers::outcomes;
+use numbers::APPROVED;
+use numbers::DECLINED;
 use session_moves::Step;
 use session_moves::command::missing;
 use session_moves::ends::ask;
@@ -117,11 +118,11 @@ fn by_second(given: Given) -> u8
 {
     match given {
         Given::Of(cryptogram) => match cryptogram {
-            Cryptogram::Tc => outcomes::APPROVED,
-            Cryptogram::Aac => outcomes::DECLINED,
-            Cryptogram::Arqc => outcomes::DECLINED,
+            Cryptogram::Tc => APPROVED,
+            Cryptogram::Aac => DECLINED,
+            Cryptogram::Arqc => DECLINED,
         },
-        Given::Reserved => outcomes::DECLINED,
+        Given::Reserved => DECLINED,
     }
 }
 

@@ -4,7 +4,7 @@ use decide_requests::reply::HostHeard;
 use decide_requests::reply::HostReply;
 use decide_requests::reply::code_in;
 use decide_requests::reply::reply_of;
-use numbers::refusals;
+use numbers::REFUSED_EVENT;
 use session_first::on_results;
 use session_moves::Step;
 use session_phase::Question;
@@ -16,7 +16,7 @@ use session_state::State;
 use session_state::change::begun;
 use words::Word;
 ghost use mathlib.Core.Path.{_≡_};
-ghost use Rattle.numbers.specs.Refusals.{refusedEvent};
+ghost use Rattle.numbers.specs.Tables.{refusedEvent};
 ghost use Rattle.start_fields.specs.Reading.{readingOf};
 ghost use Rattle.decide_requests.specs.Replies.{replyOf};
 ghost use Rattle.rulebook.specs.Phase.{says};
@@ -92,7 +92,7 @@ fn stay(s: State) -> Step
 {
     Step {
         state: s,
-        reply: Reply::Refused(refusals::EVENT),
+        reply: Reply::Refused(REFUSED_EVENT),
         zeros: 0,
     }
 }

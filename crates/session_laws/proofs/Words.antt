@@ -9,7 +9,7 @@ use native.Mathlib.Omega.{arith}
 use lib.ListN.{length}
 use borrow.Author.Tests.{eqb-false}
 use Rattle.start_valid.proofs.Laws.{valid-length}
-use Rattle.numbers.specs.Kinds.{answer, silence, isKind}
+use Rattle.numbers.specs.Tables.{answer, silence, isKind}
 use Rattle.tape_read.specs.Entries.{entry, payloadMost}
 use Rattle.words.specs.Words.{wordKind}
 use Rattle.words.proofs.Laws.{other-kind, kind-readable, said-short}

@@ -5,7 +5,7 @@ use mathlib.Core.List.{List, [], _∷_}
 use mathlib.Core.Option.{some}
 use Prim.Native.Nat.{ℕ}
 use lib.ListN.{length}
-use Rattle.numbers.specs.Kinds.{command, decision}
+use Rattle.numbers.specs.Tables.{command, decision}
 use Rattle.tape_read.specs.Entries.{Entry, entry}
 use Rattle.sessions.specs.Machine.{next, run}
 use Rattle.rulebook.specs.Phase.{Phase, opens, asks, hears, decides, commandOf, decisionOf}

@@ -5,7 +5,7 @@ use mathlib.Core.List.{List}
 use Prim.Native.Nat.{ℕ}
 use lib.ListN.{length}
 use Rattle.slices.specs.Writing.{laid}
-use Rattle.numbers.specs.Refusals.{refusedEvent}
+use Rattle.numbers.specs.Tables.{refusedEvent}
 use Rattle.commands.specs.Commands.{sizeIn}
 use Rattle.answer_afl.specs.Cursor.{stepped}
 use Rattle.answer_afl.specs.declared.cursor.Cursor.{Cursor}

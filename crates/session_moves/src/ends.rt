@@ -1,6 +1,6 @@
 // A state that waits for what comes next.
 use crate::Step;
-use numbers::outcomes;
+use numbers::TERMINATED;
 use session_phase::Question;
 use session_phase::Reply;
 use session_phase::Speaker;
@@ -10,7 +10,7 @@ use session_state::change::change;
 use words::Word;
 ghost use mathlib.Core.Path.{_≡_};
 ghost use Prim.Native.Nat.{_%_};
-ghost use Rattle.numbers.specs.Outcomes.{terminated};
+ghost use Rattle.numbers.specs.Tables.{terminated};
 ghost use Rattle.session_moves.specs.Moves.{waitingFor, askedFor};
 ghost use Rattle.session_phase.specs.declared.Reply.the-variants.{Due, Decided as DecidedReply};
 ghost use Rattle.session_phase.specs.declared.Speaker.the-variants.{Says};
@@ -68,7 +68,7 @@ pub fn end(s: State, reason: usize) -> Step
 {
     wait(
         s,
-        Waiting::Decided(outcomes::TERMINATED, (reason % 256) as u8),
+        Waiting::Decided(TERMINATED, (reason % 256) as u8),
         Reply::Decided,
     )
 }

@@ -4,7 +4,7 @@
 use mathlib.Core.Bool.{Bool}
 use mathlib.Core.List.{List}
 use Prim.Native.Nat.{ℕ}
-use Rattle.numbers.specs.Refusals.{refusedStart}
+use Rattle.numbers.specs.Tables.{refusedStart}
 use Rattle.start_valid.specs.Start.{validStart}
 use Rattle.words.specs.Words.{wordAllowed, wordRefusal}
 use Rattle.session_phase.specs.declared.Speaker.{Speaker}

@@ -4,7 +4,7 @@
 use mathlib.Core.Bool.{Bool, true, false}
 use Prim.Native.Nat.{ℕ}
 use lib.Dec.{eqb}
-use Rattle.numbers.specs.Kinds.{start, answer}
+use Rattle.numbers.specs.Tables.{start, answer}
 use Rattle.words.specs.Words.{wordKind}
 use Rattle.session_phase.specs.declared.Speaker.{Speaker}
 use Rattle.session_phase.specs.declared.Speaker.the-variants.{Terminal, Says}

@@ -1,8 +1,8 @@
 // What a session waits for.
 use crate::Speaker;
 use crate::Waiting;
-use numbers::kinds::ANSWER;
-use numbers::kinds::START;
+use numbers::ANSWER;
+use numbers::START;
 ghost use mathlib.Core.Path.{_≡_};
 ghost use Rattle.session_phase.specs.Waiting.{kindOf, awaited, wantedOf, countDue, outcomeOf, reasonOf};
 

@@ -1,6 +1,6 @@
 // What a session may be told.
 use crate::Speaker;
-use numbers::refusals;
+use numbers::REFUSED_START;
 use start_valid::valid_start;
 ghost use mathlib.Core.Path.{_≡_};
 ghost use Rattle.session_phase.specs.Saying.{allowedBy, refusalBy};
@@ -20,7 +20,7 @@ pub fn refusal_by(speaker: Speaker) -> usize
     ensures { λ r. ⌜ r ≡ refusalBy speaker ⌝ }
 {
     match speaker {
-        Speaker::Terminal => refusals::START,
+        Speaker::Terminal => REFUSED_START,
         Speaker::Says(word, _) => words::refusal(word),
     }
 }

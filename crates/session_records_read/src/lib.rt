@@ -3,7 +3,7 @@ use answer_afl::cursor;
 use answer_afl::cursor::Cursor;
 use decide_tvr::results::tsi_after_records;
 use decide_tvr::results::tvr_after_records;
-use numbers::reasons;
+use numbers::FOR_MISSING;
 use session_first::reason;
 use session_first::verify;
 use session_moves::Step;
@@ -73,8 +73,8 @@ fn all_read(s: State, buf: &mut [u8]) -> Step
     ensures { λ r. ⌜ played r (now (buf .exit)) ≡ moved (allRead (late s)) s (now (buf .entry)) ⌝ }
 {
     let why = reason(s);
-    if why == reasons::MISSING {
-        return end(s, reasons::MISSING);
+    if why == FOR_MISSING {
+        return end(s, FOR_MISSING);
     }
     verify(managed(s), buf)
 }

@@ -5,8 +5,9 @@ use decide_requests::reply::HostReply;
 use decide_requests::reply::response_code;
 use decide_requests::requests::second_request;
 use dol_wanted::is_fillable;
-use numbers::outcomes;
-use numbers::reasons;
+use numbers::APPROVED;
+use numbers::DECLINED;
+use numbers::FOR_LIST;
 use session_moves::Step;
 use session_moves::command::generate;
 use session_moves::command::missing;
@@ -54,7 +55,7 @@ pub fn request_second(s: State, reply: HostReply, code: [u8; 2], buf: &mut [u8])
         let zeros = missing(s, value(&told, 0x8D), &known);
         ask(s, Question::Second(request), n, zeros)
     } else {
-        end(s, reasons::LIST)
+        end(s, FOR_LIST)
     }
 }
 
@@ -76,10 +77,10 @@ pub fn by_first(given: Given, s: State, buf: &mut [u8]) -> Step
 {
     match given {
         Given::Of(cryptogram) => match cryptogram {
-            Cryptogram::Tc => decide(s, outcomes::APPROVED),
-            Cryptogram::Aac => decide(s, outcomes::DECLINED),
+            Cryptogram::Tc => decide(s, APPROVED),
+            Cryptogram::Aac => decide(s, DECLINED),
             Cryptogram::Arqc => go_online(s, buf),
         },
-        Given::Reserved => decide(s, outcomes::DECLINED),
+        Given::Reserved => decide(s, DECLINED),
     }
 }

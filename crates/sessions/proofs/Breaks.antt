@@ -11,7 +11,7 @@ use lib.ListN.{length, take}
 use lib.Seq.{split-at, take-all, take-length, take-append-le, take-append-add}
 use borrow.Author.Tests.{ltb-true, ltb-false}
 use Rattle.slices.proofs.Choice.{either}
-use Rattle.numbers.specs.Kinds.{answer}
+use Rattle.numbers.specs.Tables.{answer}
 use Rattle.tape_read.specs.Entries.{Entry, entry}
 use Rattle.sessions.specs.Rules.{Rules}
 use Rattle.sessions.specs.Session.{Session, Beginning, AwaitsCard, Closed, Open, Lawful, BreaksAt}

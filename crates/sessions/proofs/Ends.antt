@@ -6,7 +6,7 @@ use mathlib.Core.Bool.{true}
 use mathlib.Core.List.{[], _∷_}
 use Prim.Native.Nat.{ℕ, zero, suc, _≤_}
 use native.Mathlib.Omega.{arith}
-use Rattle.numbers.specs.Kinds.{command, answer, decision}
+use Rattle.numbers.specs.Tables.{command, answer, decision}
 use Rattle.tape_read.specs.Entries.{entry}
 use Rattle.sessions.specs.Rules.{Phase, asks, hears, decides, Rules}
 use Rattle.sessions.specs.Session.{isPayload, exchanged, heard, decided}

@@ -6,7 +6,7 @@ use mathlib.Core.List.{List, [], _∷_, _++_}
 use mathlib.Core.Logic.{⊎-elim}
 use Prim.Native.Nat.{ℕ}
 use native.Mathlib.Omega.{arith}
-use Rattle.numbers.specs.Kinds.{command, answer, silence, decision}
+use Rattle.numbers.specs.Tables.{command, answer, silence, decision}
 use Rattle.tape_read.specs.Entries.{Entry, entry}
 use Rattle.sessions.specs.Rules.{Phase, Rules}
 use Rattle.sessions.specs.Session.{Plays, exchanged, heard, decided, Session, Open, Lawful}

@@ -10,7 +10,7 @@ use native.Mathlib.Omega.{arith}
 use lib.Dec.{eqb}
 use Rattle.slices.specs.Choice.{pick}
 use Rattle.slices.proofs.Choice.{pick-no}
-use Rattle.numbers.specs.Kinds.{command, answer, silence, decision}
+use Rattle.numbers.specs.Tables.{command, answer, silence, decision}
 use Rattle.tape_read.specs.Entries.{Entry, entry}
 use Rattle.sessions.specs.Rules.{asks, hears, decides, Rules}
 use Rattle.sessions.specs.Session.{Session, Beginning, AwaitsCard, Closed}

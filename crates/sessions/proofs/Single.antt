@@ -9,7 +9,7 @@ use native.Mathlib.Numerals.{add-one}
 use native.Mathlib.Omega.{arith}
 use lib.ListN.{length, take}
 use lib.Seq.{take-append-le}
-use Rattle.numbers.specs.Kinds.{command, answer, decision}
+use Rattle.numbers.specs.Tables.{command, answer, decision}
 use Rattle.tape_read.specs.Entries.{Entry, entry}
 use Rattle.sessions.specs.Rules.{Phase, asks, hears, Rules}
 use Rattle.sessions.specs.Session.{Plays, exchanged, heard, decided, Session, Beginning, Open, Lawful, phasesOf, Reads}

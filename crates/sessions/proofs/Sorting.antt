@@ -6,7 +6,7 @@ use mathlib.Core.List.{List, [], _∷_, _++_}
 use mathlib.Core.Option.{some}
 use Prim.Native.Nat.{ℕ}
 use native.Mathlib.Omega.{arith}
-use Rattle.numbers.specs.Kinds.{command, answer}
+use Rattle.numbers.specs.Tables.{command, answer}
 use Rattle.tape_read.specs.Entries.{Entry, entry}
 use Rattle.slices.specs.Tests.{alike}
 use Rattle.sessions.specs.Rules.{asks, Rules}

@@ -10,7 +10,7 @@ use native.Mathlib.Omega.{arith}
 use lib.Dec.{eqb}
 use borrow.Author.Tests.{eqb-true, eqb-false}
 use Rattle.slices.proofs.Choice.{either}
-use Rattle.numbers.specs.Kinds.{silence}
+use Rattle.numbers.specs.Tables.{silence}
 use Rattle.tape_read.specs.Entries.{Entry, entry}
 use Rattle.sessions.specs.Rules.{Rules}
 use Rattle.sessions.specs.Session.{Session, Beginning, Closed, Open}

@@ -9,7 +9,7 @@ use Prim.Native.Nat.{ℕ}
 use lib.Dec.{eqb}
 use Rattle.slices.specs.Choice.{pick}
 use Rattle.slices.specs.Tests.{alike}
-use Rattle.numbers.specs.Kinds.{command, answer, decision}
+use Rattle.numbers.specs.Tables.{command, answer, decision}
 use Rattle.tape_read.specs.Entries.{Entry}
 use Rattle.sessions.specs.Rules.{Phase, asks, hears, decides, Rules}
 use Rattle.sessions.specs.Session.{isPayload}

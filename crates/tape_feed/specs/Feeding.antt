@@ -7,7 +7,7 @@ use Prim.Native.Nat.{ℕ, _+_, _/_}
 use lib.Dec.{eqb, ltb}
 use lib.ListN.{length}
 use Rattle.slices.specs.Choice.{pick}
-use Rattle.numbers.specs.Codes.{codeLong, codeTorn}
+use Rattle.numbers.specs.Tables.{codeLong, codeTorn}
 use Rattle.tape_read.specs.Entries.{Entry, blockSize, blocksMost}
 use Rattle.tape_read.specs.Blocks.{sessionIn, codeOf, entryIn}
 use Rattle.tape_read.specs.Tapes.{Reading, entries, unreadable, cut}

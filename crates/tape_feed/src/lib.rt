@@ -1,5 +1,6 @@
 // A tape read piece by piece: which block is due, and what makes the tape unreadable. One piece at a time is looked at and none is kept.
-use numbers::codes;
+use numbers::CODE_LONG;
+use numbers::CODE_TORN;
 use tape_read::BLOCK;
 use tape_read::BLOCKS;
 use tape_read::code;
@@ -149,10 +150,10 @@ pub fn found(end: Reader) -> Damage
     ensures { λ r. ⌜ r ≡ damageOf end ⌝ }
 {
     if is_too_long(end) {
-        return at(0, codes::LONG);
+        return at(0, CODE_LONG);
     }
     if end.torn {
-        return at(end.blocks, codes::TORN);
+        return at(end.blocks, CODE_TORN);
     }
     at(end.place, end.code as usize)
 }

@@ -14,7 +14,7 @@ use Rattle.slices.specs.Writing.{zeros}
 use Rattle.tape_crc.proofs.Bytes.{bytes-cons, bytes-append}
 use Rattle.tape_crc.proofs.Laws.{block-check-below}
 use Rattle.tape_read.specs.Numbers.{bytesOf}
-use Rattle.numbers.specs.Kinds.{start, lastKind, isKind}
+use Rattle.numbers.specs.Tables.{start, lastKind, isKind}
 use Rattle.tape_read.specs.Entries.{Entry, entry, payloadMost, storable}
 use Rattle.tape_read.specs.Blocks.{head, body, block, allZero, numberIn, sessionIn, checkBad, numberBad}
 use Rattle.tape_read.specs.Blocks.{sessionBad, kindBad, spareBad, paddingBad, codeOf, entryIn}

@@ -7,10 +7,9 @@ use lib.Dec.{eqb, ltb}
 use lib.ListN.{length, getD, take, drop}
 use Rattle.slices.specs.Choice.{pick, firstOf}
 use Rattle.slices.specs.Writing.{zeros}
-use Rattle.numbers.specs.Codes.{codeCheck, codeNumber, codeSession, codeKind, codeSpare, codeLength, codePadding}
+use Rattle.numbers.specs.Tables.{codeCheck, codeNumber, codeSession, codeKind, codeSpare, codeLength, codePadding, isKind}
 use Rattle.tape_crc.specs.Check.{covered, blockCheckOf}
 use Rattle.tape_read.specs.Numbers.{numberOf, bytesOf}
-use Rattle.numbers.specs.Kinds.{isKind}
 use Rattle.tape_read.specs.Entries.{payloadMost, Entry, entry}
 
 -- the bytes before the payload: block number (0), session number (4), kind (8), a zero (9), length (10)

@@ -6,7 +6,7 @@ use Prim.Native.Nat.{ℕ, _*_}
 use lib.Dec.{leb}
 use lib.ListN.{length}
 use lib.Pow.{areBytes}
-use Rattle.numbers.specs.Kinds.{isKind}
+use Rattle.numbers.specs.Tables.{isKind}
 
 -- the bytes of a block
 abbrev pub blockSize : ℕ

@@ -6,7 +6,7 @@ use Prim.Native.Nat.{ℕ, zero, suc, _+_, _*_, _/_, _%_}
 use lib.Dec.{eqb, ltb}
 use lib.ListN.{length, take, drop}
 use Rattle.slices.specs.Choice.{pick}
-use Rattle.numbers.specs.Codes.{codeLong, codeTorn}
+use Rattle.numbers.specs.Tables.{codeLong, codeTorn}
 use Rattle.tape_read.specs.Entries.{Entry, blockSize, tapeMost}
 use Rattle.tape_read.specs.Blocks.{block, sessionIn, codeOf, entryIn}
 

@@ -1,7 +1,8 @@
 // The tape: entries in blocks of 512 bytes, read from any bytes.
 mod read;
 
-use numbers::kinds;
+use numbers::LAST_KIND;
+use numbers::START;
 pub use read::block_at;
 pub use read::code;
 pub use read::kind;
@@ -10,7 +11,7 @@ pub use read::payload;
 pub use read::session;
 ghost use mathlib.Core.Path.{_≡_};
 ghost use mathlib.Core.Bool.{not};
-ghost use Rattle.numbers.specs.Kinds.{isKind};
+ghost use Rattle.numbers.specs.Tables.{isKind};
 ghost use Rattle.tape_read.specs.Numbers.{bytesOf};
 
 // The limits: the bytes of a block, the blocks of a tape and its bytes, the bytes of a payload.
@@ -31,10 +32,10 @@ pub const CHECK_AT: usize = 508;
 pub fn no_kind(k: u8) -> bool
     ensures { λ r. ⌜ r ≡ not (isKind k) ⌝ }
 {
-    if k < kinds::START {
+    if k < START {
         return true;
     }
-    kinds::LAST < k
+    LAST_KIND < k
 }
 
 // A number as it stands in a block, its highest byte first.

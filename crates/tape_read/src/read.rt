@@ -4,7 +4,13 @@ use crate::CHECK_AT;
 use crate::PAYLOAD;
 use crate::PAYLOAD_AT;
 use crate::no_kind;
-use numbers::codes;
+use numbers::CODE_CHECK;
+use numbers::CODE_KIND;
+use numbers::CODE_LENGTH;
+use numbers::CODE_NUMBER;
+use numbers::CODE_PADDING;
+use numbers::CODE_SESSION;
+use numbers::CODE_SPARE;
 use slices::part;
 ghost use mathlib.Core.Path.{_≡_};
 ghost use Prim.Native.Nat.{_≤_, _<_, _+_, _-_};
@@ -60,13 +66,13 @@ pub fn code(block: &[u8], due_number: usize, due_session: u32) -> u8
     ensures { λ r. ⌜ r ≡ codeOf «due_number» «due_session» (now (block .entry)) ⌝ }
 {
     if long_at(block, CHECK_AT) != tape_crc::of_block(block) {
-        return codes::CHECK;
+        return CODE_CHECK;
     }
     if number(block) as usize != due_number {
-        return codes::NUMBER;
+        return CODE_NUMBER;
     }
     if session(block) != due_session {
-        return codes::SESSION;
+        return CODE_SESSION;
     }
     content_code(block)
 }
@@ -76,19 +82,19 @@ fn content_code(block: &[u8]) -> u8
     ensures { λ r. ⌜ r ≡ firstOf (contentTests (now (block .entry))) ⌝ }
 {
     if no_kind(kind(block)) {
-        return codes::KIND;
+        return CODE_KIND;
     }
     if slices::byte(block, 9) != 0 {
-        return codes::SPARE;
+        return CODE_SPARE;
     }
     let n = payload_length(block);
     if PAYLOAD < n {
-        return codes::LENGTH;
+        return CODE_LENGTH;
     }
     if zeros_from(block, PAYLOAD_AT + n) {
         0
     } else {
-        codes::PADDING
+        CODE_PADDING
     }
 }
 

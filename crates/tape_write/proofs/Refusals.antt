@@ -6,7 +6,7 @@ use mathlib.Core.List.{List}
 use Prim.Native.Nat.{ℕ, _+_, _*_, _≤_, _<_}
 use lib.ListN.{length}
 use borrow.Author.Tests.{lt-ltb, le-ltb, le-leb, lt-leb, ltb-false, leb-false, not-false}
-use Rattle.numbers.specs.Kinds.{isKind}
+use Rattle.numbers.specs.Tables.{isKind}
 use Rattle.tape_read.specs.Entries.{Entry, blockSize, blocksMost, payloadMost}
 use Rattle.tape_write.specs.Appending.{refusalOf}
 use Rattle.tape_read.proofs.Extra.{first-hit, first-skip, first-end, first-none}

@@ -7,8 +7,7 @@ use lib.Dec.{eqb, leb, ltb}
 use lib.ListN.{length}
 use Rattle.slices.specs.Choice.{pick, firstOf}
 use Rattle.slices.specs.Writing.{put}
-use Rattle.numbers.specs.Refusals.{refusedEntry, refusedRoom}
-use Rattle.numbers.specs.Kinds.{isKind}
+use Rattle.numbers.specs.Tables.{refusedEntry, refusedRoom, isKind}
 use Rattle.tape_read.specs.Entries.{Entry, blockSize, blocksMost, payloadMost}
 use Rattle.tape_read.specs.Blocks.{block}
 use Rattle.tape_write.specs.declared.Writer.{Writer}

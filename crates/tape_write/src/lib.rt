@@ -1,5 +1,6 @@
 // A tape written entry by entry, each in a block after the last.
-use numbers::refusals;
+use numbers::REFUSED_ENTRY;
+use numbers::REFUSED_ROOM;
 use tape_read::BLOCK;
 use tape_read::BLOCKS;
 use tape_read::CHECK_AT;
@@ -72,16 +73,16 @@ fn why_refused(used: usize, kind: u8, payload: &[u8], tape: &[u8]) -> u8
     ensures { λ r. ⌜ r ≡ refusalOf used (entry kind (now (payload .entry))) (now (tape .entry)) ⌝ }
 {
     if no_kind(kind) {
-        return refusals::ENTRY;
+        return REFUSED_ENTRY;
     }
     if PAYLOAD < payload.len() {
-        return refusals::ENTRY;
+        return REFUSED_ENTRY;
     }
     if BLOCKS <= used {
-        return refusals::ROOM;
+        return REFUSED_ROOM;
     }
     if tape.len() < used * BLOCK + BLOCK {
-        return refusals::ROOM;
+        return REFUSED_ROOM;
     }
     0
 }

@@ -5,7 +5,7 @@ use mathlib.Core.List.{List, [], _∷_}
 use Prim.Native.Nat.{ℕ}
 use lib.Dec.{eqb}
 use Rattle.slices.specs.Tables.{beside}
-use Rattle.numbers.specs.Kinds.{start, command, answer, silence, host, decision, results}
+use Rattle.numbers.specs.Tables.{start, command, answer, silence, host, decision, results}
 
 -- NOTHING: the kind of no entry
 abbrev pub nothing : List ℕ

@@ -1,11 +1,11 @@
 // The words for the kinds of entries, for programs that say what is due.
-use numbers::kinds::ANSWER;
-use numbers::kinds::COMMAND;
-use numbers::kinds::DECISION;
-use numbers::kinds::HOST;
-use numbers::kinds::RESULTS;
-use numbers::kinds::SILENCE;
-use numbers::kinds::START;
+use numbers::ANSWER;
+use numbers::COMMAND;
+use numbers::DECISION;
+use numbers::HOST;
+use numbers::RESULTS;
+use numbers::SILENCE;
+use numbers::START;
 use slices::lay;
 ghost use mathlib.Core.Path.{_≡_};
 ghost use lib.ListN.{length};

@@ -6,7 +6,7 @@ use mathlib.Core.List.{List, [], _∷_}
 use Prim.Native.Nat.{ℕ}
 use lib.Dec.{eqb}
 use Rattle.slices.specs.Choice.{pick}
-use Rattle.numbers.specs.Refusals.{refusedReading}
+use Rattle.numbers.specs.Tables.{refusedReading}
 use Rattle.tlv_list.specs.Objects.{Object, between, readRefusal}
 use Rattle.tlv_list.specs.Place.{Place, placesFrom}
 use Rattle.tlv_list.specs.declared.Found.{Found}

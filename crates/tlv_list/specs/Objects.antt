@@ -8,7 +8,7 @@ use lib.Dec.{ltb, eqb}
 use lib.ListN.{length, getD, take, drop}
 use Rattle.slices.specs.Choice.{pick, firstOf}
 use Rattle.slices.specs.Shorter.{shorter}
-use Rattle.numbers.specs.Refusals.{refusedReading}
+use Rattle.numbers.specs.Tables.{refusedReading}
 use Rattle.tlv_head.specs.Head.{constructed, tagOf, valueStart, valueEnd, whole}
 use Rattle.slices.specs.Tests.{isSome}
 

@@ -5,7 +5,7 @@ use crate::Sought;
 use crate::place::list_refusal;
 use crate::place::next;
 use crate::place::next_checked;
-use numbers::refusals;
+use numbers::REFUSED_READING;
 use tlv_head::Next;
 ghost use mathlib.Core.Path.{_≡_};
 ghost use Rattle.tlv_list.specs.Lookup.{findInChecked, firstFrom, seek, noted as notedOf, noMembers, membersOf};
@@ -50,7 +50,7 @@ pub fn find_in_checked(s: &[u8], tag: usize) -> Found
 pub fn find(s: &[u8], tag: usize) -> Sought
     ensures { λ r. ⌜ r ≡ seek (now (s .entry)) tag ⌝ }
 {
-    if list_refusal(s) == refusals::READING {
+    if list_refusal(s) == REFUSED_READING {
         return Sought::Refused;
     }
     Sought::InList(find_in_checked(s, tag))

@@ -1,6 +1,6 @@
 // The reader by place: it steps from object to object over the lent bytes and copies nothing.
 use crate::list::is_list;
-use numbers::refusals;
+use numbers::REFUSED_READING;
 use slices::byte;
 use slices::part;
 use tlv_head::Next;
@@ -32,11 +32,11 @@ pub fn list_refusal(s: &[u8]) -> usize
     ensures { λ r. ⌜ r ≡ readRefusal (now (s .entry)) ⌝ }
 {
     if 4096 < s.len() {
-        refusals::READING
+        REFUSED_READING
     } else if is_list(s) {
         0
     } else {
-        refusals::READING
+        REFUSED_READING
     }
 }
 

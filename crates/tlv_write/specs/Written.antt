@@ -7,7 +7,7 @@ use lib.Dec.{ltb, eqb}
 use lib.ListN.{length}
 use Rattle.slices.specs.Choice.{pick, firstOf}
 use Rattle.slices.specs.Writing.{put}
-use Rattle.numbers.specs.Refusals.{refusedWriting, refusedSpace}
+use Rattle.numbers.specs.Tables.{refusedWriting, refusedSpace}
 use Rattle.tlv_head.specs.Head.{constructed, twoBytes}
 use Rattle.tlv_list.specs.Objects.{Object, isList, longest}
 use Rattle.tlv_write.specs.declared.Wrote.{Wrote}

@@ -1,5 +1,6 @@
 // The writer: one object at the start of a lent buffer, with the shortest length form.
-use numbers::refusals;
+use numbers::REFUSED_SPACE;
+use numbers::REFUSED_WRITING;
 use slices::lay;
 use tlv_head::tag::has_two_bytes;
 use tlv_head::tag::is_constructed;
@@ -74,20 +75,20 @@ fn refusal(tag: usize, value: &[u8], room: usize) -> usize
     ensures { λ r. ⌜ r ≡ writeRefusal tag (now (value .entry)) room ⌝ }
 {
     if 4096 < value.len() {
-        return refusals::WRITING;
+        return REFUSED_WRITING;
     }
     let size = tag_size(tag) + length_size(value.len()) + value.len();
     if 4096 < size {
-        return refusals::WRITING;
+        return REFUSED_WRITING;
     }
     if is_tag(tag) {
         if fits_tag(tag, value) {
-            if room < size { refusals::SPACE } else { 0 }
+            if room < size { REFUSED_SPACE } else { 0 }
         } else {
-            refusals::WRITING
+            REFUSED_WRITING
         }
     } else {
-        refusals::WRITING
+        REFUSED_WRITING
     }
 }
 
@@ -140,10 +141,10 @@ pub fn write(tag: usize, value: &[u8], buf: &mut [u8]) -> Wrote
     ensures buffer { λ _. ⌜ now (buf .exit) ≡ bufferAfter tag (now (value .entry)) (now (buf .entry)) ⌝ }
 {
     let why = refusal(tag, value, buf.len());
-    if why == refusals::WRITING {
+    if why == REFUSED_WRITING {
         return Wrote::BadObject;
     }
-    if why == refusals::SPACE {
+    if why == REFUSED_SPACE {
         return Wrote::NoRoom;
     }
     Wrote::Bytes(lay_object(buf, tag, value))

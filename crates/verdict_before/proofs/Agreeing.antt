@@ -14,7 +14,7 @@ use Rattle.slices.proofs.Choice.{pick-yes, pick-no, either}
 use Rattle.start_fields.specs.Layout.{startLength}
 use Rattle.start_valid.specs.Start.{validStart}
 use Rattle.start_valid.proofs.Laws.{valid-least}
-use Rattle.numbers.specs.Kinds.{start}
+use Rattle.numbers.specs.Tables.{start}
 use Rattle.tape_read.specs.Entries.{entry}
 use Rattle.words.specs.Words.{wordKind}
 use Rattle.words.specs.declared.Word.{Word}

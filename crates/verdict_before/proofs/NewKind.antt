@@ -7,7 +7,7 @@ use mathlib.Core.List.{List, [], _∷_, _++_, append-assoc}
 use mathlib.Core.Logic.{⊎-elim}
 use native.Mathlib.Omega.{arith}
 use lib.ListN.{length}
-use Rattle.numbers.specs.Kinds.{silence, results, isKind}
+use Rattle.numbers.specs.Tables.{silence, results, isKind}
 use Rattle.tape_read.specs.Entries.{Entry, entry}
 use Rattle.sessions.specs.Session as Under
 use Rattle.sessions.proofs.Lists.{snoc-same}

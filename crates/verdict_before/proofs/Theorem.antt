@@ -7,7 +7,7 @@ use Prim.Native.Nat.{ℕ}
 use native.Mathlib.Omega.{arith}
 use lib.ListN.{length}
 use Rattle.start_fields.specs.Layout.{startLength}
-use Rattle.numbers.specs.Kinds.{start, results}
+use Rattle.numbers.specs.Tables.{start, results}
 use Rattle.tape_read.specs.Entries.{Entry, entry}
 use Rattle.tape_read.specs.Tapes.{entries, readTape}
 use Rattle.rulebook.specs.Session.{Lawful}

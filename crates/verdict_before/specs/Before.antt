@@ -9,7 +9,7 @@ use lib.Dec.{eqb}
 use lib.ListN.{length}
 use Rattle.slices.specs.Choice.{pick}
 use Rattle.slices.specs.Tests.{every, isSome}
-use Rattle.numbers.specs.Reasons.{forMissing}
+use Rattle.numbers.specs.Tables.{forMissing}
 use Rattle.start_fields.specs.Layout.{startLength}
 use Rattle.start_valid.specs.Start.{validStart}
 use Rattle.facts.specs.Facts.{orElse}

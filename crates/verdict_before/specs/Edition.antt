@@ -8,7 +8,7 @@ use Prim.Native.Nat.{ℕ, _≤_}
 use lib.Dec.{eqb}
 use lib.ListN.{length}
 use Rattle.start_fields.specs.Layout.{startLength}
-use Rattle.numbers.specs.Kinds.{host}
+use Rattle.numbers.specs.Tables.{host}
 use Rattle.words.specs.Words.{wordKind}
 use Rattle.sessions.specs.Rules.{Rules}
 use Rattle.rulebook.specs.Situation.{Situation}

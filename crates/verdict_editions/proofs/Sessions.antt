@@ -9,7 +9,7 @@ use mathlib.Core.Logic.{_⊎_, inl, inr, ⊎-elim}
 use Prim.Native.Nat.{ℕ, zero, suc, _+_}
 use lib.ListN.{take}
 use borrow.Author.Tests.{eq-eqb}
-use Rattle.numbers.specs.Kinds.{answer}
+use Rattle.numbers.specs.Tables.{answer}
 use Rattle.tape_read.specs.Entries.{Entry, entry}
 use Rattle.sessions.specs.Rules.{Phase, hears, Rules}
 use Rattle.sessions.specs.Session.{Plays, heard, Session, Beginning, AwaitsCard, Closed, Open, Lawful, BreaksAt}

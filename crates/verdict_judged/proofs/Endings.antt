@@ -7,7 +7,7 @@ use mathlib.Core.Logic.{inl, inr}
 use Prim.Native.Nat.{ℕ}
 use native.Mathlib.Omega.{arith}
 use lib.ListN.{length}
-use Rattle.numbers.specs.Kinds.{command, silence, decision}
+use Rattle.numbers.specs.Tables.{command, silence, decision}
 use Rattle.tape_read.specs.Entries.{Entry}
 use Rattle.tape_read.specs.Tapes.{entries, readTape}
 use Rattle.sessions.specs.Session as Under

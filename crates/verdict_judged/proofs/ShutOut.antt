@@ -6,7 +6,7 @@ use mathlib.Core.List.{List, [], _∷_}
 use mathlib.Core.Logic.{inl}
 use Prim.Native.Nat.{ℕ}
 use native.Mathlib.Omega.{arith}
-use Rattle.numbers.specs.Kinds.{start, command, isKind}
+use Rattle.numbers.specs.Tables.{start, command, isKind}
 use Rattle.tape_read.specs.Entries.{Entry, entry, storable, allStorable}
 use Rattle.tape_read.specs.Tapes.{entries, readTape, sessionOf, written}
 use Rattle.tape_read.proofs.Steps.{read-end, tape-ragged, tape-blocks}

@@ -9,7 +9,7 @@ use Prim.Native.Nat.{ℕ, _+_}
 use native.Mathlib.Omega.{arith}
 use lib.ListN.{length, length-append}
 use Rattle.slices.proofs.Choice.{pick-no}
-use Rattle.numbers.specs.Kinds.{start, answer, silence, host, results}
+use Rattle.numbers.specs.Tables.{start, answer, silence, host, results}
 use Rattle.tape_read.specs.Entries.{Entry, entry}
 use Rattle.sessions.specs.Session as Under
 use Rattle.sessions.specs.Machine.{due, sayable, next, run}

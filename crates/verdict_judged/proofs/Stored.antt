@@ -10,7 +10,7 @@ use native.Mathlib.Omega.{arith}
 use lib.ListN.{length, take, length-append}
 use lib.Seq.{length-take-le}
 use Rattle.slices.proofs.Choice.{and-both}
-use Rattle.numbers.specs.Kinds.{answer, silence, isKind}
+use Rattle.numbers.specs.Tables.{answer, silence, isKind}
 use Rattle.tape_read.specs.Entries.{Entry, entry, blockSize, blocksMost, storable, allStorable}
 use Rattle.tape_read.specs.Tapes.{written}
 use Rattle.tape_write.specs.Appending.{appendAll, fresh}

@@ -11,7 +11,7 @@ use lib.Dec.{eqb}
 use borrow.Author.Tests.{ne-eqb}
 use Rattle.slices.specs.Choice.{pick}
 use Rattle.slices.proofs.Choice.{pick-yes, pick-no, either, and-both}
-use Rattle.numbers.specs.Kinds.{command, answer, silence, decision}
+use Rattle.numbers.specs.Tables.{command, answer, silence, decision}
 use Rattle.tape_read.specs.Entries.{Entry, entry}
 use Rattle.sessions.specs.Session.{isPayload}
 use Rattle.sessions.specs.Machine.{due, sayable, next}

@@ -7,7 +7,7 @@ use Prim.Native.Nat.{ℕ, _+_, _*_, _^_, _≤_, _<_}
 use native.Mathlib.Omega.{arith}
 use lib.ListN.{length, take, length-append}
 use Rattle.slices.proofs.Choice.{and-both}
-use Rattle.numbers.specs.Kinds.{silence}
+use Rattle.numbers.specs.Tables.{silence}
 use Rattle.tape_read.specs.Entries.{Entry, entry, blockSize, blocksMost, storable, allStorable}
 use Rattle.tape_read.specs.Tapes.{written}
 use Rattle.tape_write.specs.Appending.{appendAll, fresh}

@@ -44,7 +44,7 @@ use Rattle.decide_verification.proofs.Laws.{results-length, results-bytes, perf
 use Rattle.rulebook.specs.Situation.{Situation, begun, listIn}
 use Rattle.rulebook.specs.Phase.{Asked, selecting, optioning, reading, first, second, Heard, terminal}
 use Rattle.words.specs.declared.Word.the-variants.{Host, Results}
-use Rattle.numbers.specs.Outcomes.{terminated}
+use Rattle.numbers.specs.Tables.{terminated}
 use Rattle.rulebook.specs.Phase.{says, Phase, asks, hears, decides, decided, ended}
 use Rattle.rulebook.specs.Turn.{goesOn, opened, selected, managed, requested, verifying, allRead, readOn, withProfile}
 use Rattle.rulebook.specs.Turn.{optioned, withRecord, recorded, answered, replied, online, byFirst, bySecond}

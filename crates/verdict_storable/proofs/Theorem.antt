@@ -6,7 +6,7 @@ use mathlib.Core.List.{List, [], _∷_, _++_}
 use mathlib.Core.Logic.{⊎-elim}
 use Prim.Native.Nat.{ℕ}
 use Rattle.slices.proofs.Choice.{and-both}
-use Rattle.numbers.specs.Kinds.{command, answer, silence, decision, isKind}
+use Rattle.numbers.specs.Tables.{command, answer, silence, decision, isKind}
 use Rattle.tape_read.specs.Entries.{Entry, entry, storable, allStorable}
 use Rattle.tape_read.proofs.Roundtrip.{first-storable, rest-storable}
 use Rattle.sessions.specs.Session.{isPayload}

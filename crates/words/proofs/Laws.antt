@@ -16,7 +16,7 @@ use Rattle.slices.specs.Writing.{zeros}
 use Rattle.slices.proofs.Choice.{pick-no, either}
 use Rattle.slices.proofs.Tests.{held, first-held}
 use Rattle.slices.proofs.Writing.{zeros-length}
-use Rattle.numbers.specs.Kinds.{start, command, answer, silence, decision, results, isKind}
+use Rattle.numbers.specs.Tables.{start, command, answer, silence, decision, results, isKind}
 use Rattle.tape_read.specs.Entries.{payloadMost}
 use Rattle.tape_read.proofs.Extra.{zeros-bytes}
 use Rattle.decimal_dates.specs.Decimal.{zerosOnly}

@@ -4,8 +4,7 @@
 use mathlib.Core.Bool.{Bool}
 use mathlib.Core.List.{List}
 use Prim.Native.Nat.{ℕ}
-use Rattle.numbers.specs.Refusals.{refusedHost, refusedResults}
-use Rattle.numbers.specs.Kinds.{host, results}
+use Rattle.numbers.specs.Tables.{refusedHost, refusedResults, host, results}
 use Rattle.cvm.specs.Lists.{areResults}
 use Rattle.decide_requests.specs.Replies.{replyOf, isReply}
 use Rattle.words.specs.declared.Word.{Word}

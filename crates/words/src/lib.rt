@@ -2,9 +2,10 @@
 // the number with which anything else is turned away.
 use cvm::list::are_results;
 use decide_requests::reply::is_reply;
-use numbers::kinds::HOST;
-use numbers::kinds::RESULTS;
-use numbers::refusals;
+use numbers::HOST;
+use numbers::REFUSED_HOST;
+use numbers::REFUSED_RESULTS;
+use numbers::RESULTS;
 ghost use mathlib.Core.Path.{_≡_};
 ghost use Rattle.words.specs.Words.{wordKind, wordAllowed, wordRefusal};
 
@@ -38,7 +39,7 @@ pub fn refusal(word: Word) -> usize
     ensures { λ r. ⌜ r ≡ wordRefusal word ⌝ }
 {
     match word {
-        Word::Host => refusals::HOST,
-        Word::Results => refusals::RESULTS,
+        Word::Host => REFUSED_HOST,
+        Word::Results => REFUSED_RESULTS,
     }
 }

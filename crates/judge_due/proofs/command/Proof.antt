@@ -4,7 +4,7 @@ use mathlib.Core.Path.{ap, _∙_}
 use mathlib.Core.List.{List}
 use Prim.Native.Nat.{ℕ}
 use borrow.Author.Needs.{needs}
-use Rattle.numbers.specs.Kinds.{command}
+use Rattle.numbers.specs.Tables.{command}
 use Rattle.judge_due.specs.Telling.{withBytes}
 use Rattle.judge_due.specs.Standing.{commandDue}
 use Rattle.judge_due.proofs.command.Statement.{statement}

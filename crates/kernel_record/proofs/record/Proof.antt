@@ -7,7 +7,7 @@ use borrow.Author.Needs.{needs}
 use Rattle.session_phase.specs.declared.Reply.{Reply}
 use Rattle.kernel.specs.declared.Session.{Session}
 use Rattle.tape_write.specs.declared.Writer.{Writer}
-use Rattle.numbers.specs.Kinds.{command, decision}
+use Rattle.numbers.specs.Tables.{command, decision}
 use Rattle.tape_read.specs.Entries.{Entry, entry}
 use Rattle.kernel_record.specs.Recording.{recorded, kept, keptAll}
 use Rattle.kernel_record.proofs.Keeping.{only, nothing-kept}

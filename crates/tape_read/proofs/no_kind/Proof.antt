@@ -3,7 +3,7 @@ use mathlib.Core.Path.{sym, ap, _∙_}
 use mathlib.Core.Bool.{Bool, not, _&&_}
 use lib.Dec.{leb}
 use borrow.Author.Tests.{lt-leb, le-leb}
-use Rattle.numbers.specs.Kinds.{start, lastKind, isKind}
+use Rattle.numbers.specs.Tables.{start, lastKind, isKind}
 use Rattle.tape_read.proofs.Extra.{below-not}
 use Rattle.tape_read.proofs.no_kind.Statement.{statement}
 use Rattle.tape_read.proofs.no_kind.Tie as tie

@@ -4,7 +4,7 @@ use mathlib.Core.Bool.{true}
 use native.Mathlib.Omega.{arith}
 use borrow.Author.Needs.{needs}
 use borrow.Author.Tests.{not-true, not-false}
-use Rattle.numbers.specs.Kinds.{isKind}
+use Rattle.numbers.specs.Tables.{isKind}
 use Rattle.tape_read.specs.Entries.{entry}
 use Rattle.tape_write.proofs.Refusals.{refused-kind, refused-payload, refused-blocks, refused-room, not-refused}
 use Rattle.tape_write.proofs.why_refused.Statement.{statement}

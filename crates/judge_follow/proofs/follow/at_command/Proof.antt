@@ -5,7 +5,7 @@ use lib.ListN.{take}
 use borrow.Author.Needs.{needs}
 use Rattle.judge_stages.specs.declared.Stage.the-variants.{Answer, Broken}
 use Rattle.slices.specs.Tests.{alike}
-use Rattle.numbers.specs.Kinds.{command}
+use Rattle.numbers.specs.Tables.{command}
 use Rattle.judge_follow.specs.Following.{staged, atCommand}
 use Rattle.judge_follow.proofs.Deciding.{other-kind, test-fails, test-holds}
 use Rattle.judge_follow.proofs.follow.at_command.Statement.{statement}

@@ -5,7 +5,7 @@ use borrow.Author.Needs.{needs}
 use Rattle.judge_stages.specs.declared.Stage.the-variants.{Done, Broken}
 use Rattle.slices.specs.Tests.{alike}
 use Rattle.session_state.specs.Results.{decisionIn}
-use Rattle.numbers.specs.Kinds.{decision}
+use Rattle.numbers.specs.Tables.{decision}
 use Rattle.judge_follow.specs.Following.{staged, atDecision}
 use Rattle.judge_follow.proofs.Deciding.{other-kind, test-fails, test-holds}
 use Rattle.judge_follow.proofs.follow.at_decision.Statement.{statement}

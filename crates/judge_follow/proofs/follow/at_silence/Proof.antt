@@ -6,7 +6,7 @@ use lib.ListN.{length}
 use borrow.Author.Tests.{eq-eqb, ne-eqb}
 use borrow.Author.Needs.{needs}
 use Rattle.judge_stages.specs.declared.Stage.the-variants.{Closed, Broken}
-use Rattle.numbers.specs.Kinds.{silence}
+use Rattle.numbers.specs.Tables.{silence}
 use Rattle.judge_follow.specs.Following.{staged, atSilence}
 use Rattle.judge_follow.proofs.Deciding.{other-kind, test-fails, test-holds}
 use Rattle.judge_follow.proofs.follow.at_silence.Statement.{statement}

@@ -5,7 +5,7 @@ use mathlib.Core.Bool.{false, not}
 use Prim.Native.Nat.{ℕ}
 use borrow.Author.Needs.{needs}
 use borrow.Author.Tests.{eq-eqb, ne-eqb}
-use Rattle.numbers.specs.Kinds.{isKind}
+use Rattle.numbers.specs.Tables.{isKind}
 use Rattle.tape_read.specs.Blocks.{spareIn, numberBad, sessionBad, kindBad, spareBad}
 use Rattle.tape_read.proofs.Windows.{byte-field}
 use Rattle.tape_read.proofs.Codes.{code-number, code-session, code-content, content-kind, content-spare, content-good}

@@ -7,7 +7,7 @@ use borrow.Author.Needs.{needs}
 use Rattle.tape_crc.proofs.Bytes.{bytes-each}
 use Rattle.decide_cryptogram.specs.declared.Given.{Given}
 use Rattle.decide_cryptogram.specs.declared.Given.the-variants.{Of}
-use Rattle.numbers.specs.Outcomes.{approved, declined}
+use Rattle.numbers.specs.Tables.{approved, declined}
 use Rattle.rulebook.specs.Turn.{byFirst}
 use Rattle.quick_said.specs.Said.{foundFrom}
 use Rattle.quick_ask.specs.Standing.{situationIn}

@@ -10,7 +10,7 @@ use Rattle.decide_cryptogram.specs.Cryptograms.{allowedBy}
 use Rattle.decide_cryptogram.specs.declared.Request.the-variants.{Second}
 use Rattle.answer_cryptogram.specs.Cryptogram.{cryptogramReason, cryptogramOf}
 use Rattle.answer_laws.proofs.Reasons.{cryptogram-small}
-use Rattle.numbers.specs.Outcomes.{terminated}
+use Rattle.numbers.specs.Tables.{terminated}
 use Rattle.rulebook.specs.Phase.{decided}
 use Rattle.rulebook.specs.Turn.{bySecond, secondAnswered}
 use Rattle.quick_meet.specs.Meeting.{decisionMet}

@@ -9,7 +9,7 @@ use lib.ListN.{length, getD}
 use borrow.Author.Tests.{not-true, not-false}
 use Rattle.slices.specs.Tests.{alike}
 use Rattle.slices.proofs.Choice.{pick-yes, pick-no}
-use Rattle.numbers.specs.Kinds.{decision}
+use Rattle.numbers.specs.Tables.{decision}
 use Rattle.session_state.proofs.Nine.{nine-bytes}
 use Rattle.quick_meet.specs.declared.Met.{Met}
 use Rattle.quick_meet.specs.Meeting.{decisionMet}

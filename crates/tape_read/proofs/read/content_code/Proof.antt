@@ -8,7 +8,7 @@ use native.Mathlib.Omega.{arith}
 use borrow.Author.Needs.{needs}
 use borrow.Author.Tests.{eq-eqb, ne-eqb, lt-ltb, le-ltb}
 use Rattle.tape_crc.specs.Check.{covered}
-use Rattle.numbers.specs.Kinds.{isKind}
+use Rattle.numbers.specs.Tables.{isKind}
 use Rattle.tape_read.specs.Entries.{payloadMost}
 use Rattle.tape_read.specs.Blocks.{window, spareIn, lengthIn, payloadAt, allZero, paddingIn, kindBad, spareBad, lengthBad, paddingBad}
 use Rattle.tape_read.proofs.Windows.{byte-field}
