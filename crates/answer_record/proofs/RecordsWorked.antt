@@ -67,14 +67,17 @@ judged : map (λ row. judge nothing (good (one 0x70 (joinedAll (row .0))))) rows
 unfolding judge nothing
 judged = refl
 
--- a record with all eleven names
+-- a record with eleven names
+abbrev fullNames : List ℕ
+fullNames = 0x5A ∷ 0x5F24 ∷ 0x5F25 ∷ 0x9F08 ∷ 0x8C ∷ 0x8D ∷ 0x9F0D ∷ 0x9F0E ∷ 0x9F0F ∷ 0x8E ∷ 0x9F42 ∷ []
+
 abbrev full : List ℕ
 full = number ++ expiry ++ two 0x5F 0x25 (0x20 ∷ 0x01 ∷ 0x01 ∷ []) ++ two 0x9F 0x08
     (0x00 ∷ 0x02 ∷ []) ++ one 0x8C [] ++ one 0x8D [] ++ two 0x9F 0x0D (replicate 5 0) ++ two 0x9F 0x0E (replicate 5 0) ++ two 0x9F 0x0F
     (replicate 5 0) ++ one 0x8E (replicate 8 0) ++ two 0x9F 0x42 (0x08 ∷ 0x26 ∷ [])
 
 -- each of them told by an earlier record; nothing told, or another name; a name told, and not there again
-told-again : (map (λ name. judge (eqb name) (good (one 0x70 full))) recordNames ≡ replicate 11 4)
+told-again : (map (λ name. judge (eqb name) (good (one 0x70 full))) fullNames ≡ replicate 11 4)
     × (judge nothing (good (one 0x70 full)) ≡ 0) × (judge (eqb 0x57) (good (one 0x70 full)) ≡ 0)
     × (judge (eqb 0x5A) (good (one 0x70 expiry)) ≡ 0)
 unfolding judge nothing

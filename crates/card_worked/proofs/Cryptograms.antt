@@ -19,7 +19,8 @@ use Rattle.card_seen.specs.Seen.{generation, seen}
 use Rattle.card_seen.specs.Given.{placeOf}
 use Rattle.card_seen.proofs.Freedoms.{viewed}
 use Rattle.card_worked.specs.Matters.{others, besides, seenBeside, placeDue, reasonSaid, Matters}
-use Rattle.card_worked.proofs.Cards.{generates, giving, counter, cryptogram, issuer, decides, tvr, differ}
+use Rattle.card_worked.proofs.Cards.{giving, counter, cryptogram, issuer, decides, tvr, differ}
+use Rattle.card_worked.proofs.Records.{generates}
 
 owed : placeDue (run rules generates (at opens)) ≡ some generation
 unfolding reached placeDue placeOf

@@ -14,8 +14,8 @@ use Rattle.card_seen.specs.Given.{placeOf}
 use Rattle.card_seen.specs.SideBySide.{none, asked, answered, said-both, decided-both}
 use Rattle.card_seen.proofs.Freedoms.{viewed}
 use Rattle.card_worked.specs.Dressed.{answersDiffer, Dressed}
-use Rattle.card_worked.proofs.Cards.{offering, profile, recordWith, plain, giving, counter, cryptogram, issuer, verified, asks, tvr}
-use Rattle.card_worked.proofs.Cards.{decides}
+use Rattle.card_worked.proofs.Cards.{offering, profile, giving, counter, cryptogram, issuer, verified, tvr, decides}
+use Rattle.card_worked.proofs.Records.{recordWith, plain, asks}
 
 -- one session with five answers
 abbrev sessionOf : List ℕ → List ℕ → List ℕ → List ℕ → List ℕ → List Entry

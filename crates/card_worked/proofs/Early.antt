@@ -12,8 +12,9 @@ use Rattle.card_seen.specs.Seen.{selection, options}
 use Rattle.card_seen.specs.Given.{placeOf}
 use Rattle.card_seen.proofs.Freedoms.{viewed}
 use Rattle.card_worked.specs.Matters.{others, besides, seenBeside, placeDue, reasonSaid, Matters}
-use Rattle.card_worked.proofs.Cards.{differ, chosen, nameEnding, listAsking, offering, profile, recordWith, plain, five}
-use Rattle.card_worked.proofs.Cards.{begins, chose, verified, asks, tvr, decides, ending}
+use Rattle.card_worked.proofs.Cards.{differ, chosen, nameEnding, listAsking, offering, profile, five}
+use Rattle.card_worked.proofs.Cards.{begins, chose, verified, tvr, decides, ending}
+use Rattle.card_worked.proofs.Records.{recordWith, plain, asks}
 
 -- an AID that ends with 4, where 3 was selected
 pub name-counts : Matters 0x84 5

@@ -1,6 +1,6 @@
 pub mod Cards
-pub mod Early
 pub mod Records
+pub mod Early
 pub mod Cryptograms
 pub mod Dressed
 pub mod Theorem
