@@ -123,7 +123,7 @@ looked-size n tag (and-then {m} {ms} h k rest) =
 pub named-list : (s : List ℕ) (tag : ℕ) → isList s ≡ true → constructed tag ≡ true → isList (valueOf (lookup tag (membersIn s))) ≡ true
 named-list s tag e c = looked-list (length s) tag c (held s (membersIn s) (members-of s e))
 
-among-size : (s : List ℕ) (name : ℕ) → length (valueOf (among s name)) ≤ length s - 2
+pub among-size : (s : List ℕ) (name : ℕ) → length (valueOf (among s name)) ≤ length s - 2
 unfolding among membersIn
 among-size s name = go (objects s) (held s)
   where

@@ -21,7 +21,7 @@ kept =
       can-say = can-say;
       toCome = toCome;
       turn-fewer = turn-fewer;
-      after-fewer = after-fewer;
+      after-fewer = λ h p fits. after-fewer h p;
       decision-left = decision-left;
     }
 

@@ -24,6 +24,7 @@ use Rattle.answer_common.specs.Answer.{frame}
 use Rattle.answer_common.proofs.Accepted.{any-none}
 use Rattle.answer_common.specs.Content.{recordTag, namesFor}
 use Rattle.answer_common.specs.Named.{listed, direct, times, told, wrongValue, anyTimes, anyTwice, anyWrong}
+use Rattle.answer_select.specs.Select.{pdolOf}
 use Rattle.answer_record.specs.Records.{again, anyAgain, recordTwice, recordLines, recordReason, valueIn, namedIn}
 use Rattle.facts.specs.Facts.{orElse}
 use Rattle.commands.specs.Commands.{recordCommand}
@@ -32,7 +33,7 @@ use Rattle.sessions.specs.Machine.{andOn, run}
 use Rattle.sessions.proofs.Running.{ends-follow, follows-ends, run-session}
 use Rattle.sessions.proofs.Reading.{run-append}
 use Rattle.rulebook.specs.Situation.{Situation, begun}
-use Rattle.rulebook.specs.Phase.{Phase, opens, reading, commandOf}
+use Rattle.rulebook.specs.Phase.{Phase, asks, opens, optioning, reading, commandOf}
 use Rattle.rulebook.specs.Turn.{goesOn, allRead, readOn, withProfile, withRecord, recorded as afterRecord, turn}
 use Rattle.rulebook.specs.Session.{rules, longest, Plays, exchanged, Session}
 use Rattle.rulebook.specs.Machine.{at, done}
@@ -148,9 +149,12 @@ abbrev located : List ℕ
 located =
     0x77 ∷ (6 + length (locator files)) ∷ 0x82 ∷ 0x02 ∷ 0x10 ∷ 0x00 ∷ 0x94 ∷ length (locator files) ∷ (locator files ++ (0x90 ∷ 0x00 ∷ []))
 
--- START, SELECT and GPO, for a card with a 9F38
+-- START and SELECT, for a card with a 9F38; then GPO
 abbrev before : List Entry
-before = entry start (startOf 2) ∷ (exchange select withList ++ exchange withNumber located)
+before = entry start (startOf 2) ∷ exchange select withList
+
+abbrev options : List Entry
+options = exchange withNumber located
 
 -- a list with one rule: no verification, always
 abbrev full : List ℕ
@@ -166,9 +170,16 @@ afterwards =
 abbrev optioned : Situation
 optioned = withProfile (begun (readingOf (startOf 2))) (0x10 ∷ 0x00 ∷ [])
 
-before-run : run rules before (at opens) ≡ some (at (readOn optioned (toRead (locator files))))
+abbrev pub optionsAsked : Phase
+optionsAsked = asks (optioning (begun (readingOf (startOf 2))) (pdolOf withList))
+
+before-run : run rules before (at opens) ≡ some (at optionsAsked)
 unfolding reached
 before-run = refl
+
+options-run : run rules options (at optionsAsked) ≡ some (at (readOn optioned (toRead (locator files))))
+unfolding reached
+options-run = refl
 
 afterwards-run : run rules afterwards (at (allRead (withRecord optioned full))) ≡ some done
 unfolding reached
@@ -203,28 +214,41 @@ records-read (r ∷ rest) some-named =
     (subst (λ (p : Phase). Plays p (readAs empty rest ++ afterwards)) (sym (full-read (r .0) (r .1) rest))
     (read-empty (withRecord optioned full) rest (ends-follow rules afterwards (at (allRead (withRecord optioned full))) afterwards-run)))
 
+abbrev recordsOn : List Entry
+recordsOn = records (toRead (locator files)) ++ afterwards
+
+-- from GPO on
+abbrev pub fromOptions : List Entry
+fromOptions = options ++ recordsOn
+
 abbrev pub fullest : List Entry
-fullest = before ++ (records (toRead (locator files)) ++ afterwards)
+fullest = before ++ fromOptions
 
 most-named : length (toRead (locator files)) ≡ mostRecords
 unfolding reached
 most-named = read-length (locator files)
 
-fullest-played : Session fullest
+options-end : run rules fromOptions (at optionsAsked) ≡ some done
 unfolding andOn
-fullest-played =
+options-end =
     let play = records-read (toRead (locator files)) (let n = most-named in omega arith) in
-    let σ = at (readOn optioned (toRead (locator files))) in
-    run-session rules fullest
-    (run-append rules before (records (toRead (locator files)) ++ afterwards) (at opens)
-    ∙ (ap (andOn (run rules (records (toRead (locator files)) ++ afterwards))) before-run
-    ∙ follows-ends rules (records (toRead (locator files)) ++ afterwards) σ play))
+    run-append rules options recordsOn (at optionsAsked)
+    ∙ (ap (andOn (run rules recordsOn)) options-run ∙ follows-ends rules recordsOn (at (readOn optioned (toRead (locator files)))) play)
+
+pub options-played : Plays optionsAsked fromOptions
+options-played = ends-follow rules fromOptions (at optionsAsked) options-end
+
+pub options-long : length fromOptions ≡ 9 + 2 * mostRecords
+options-long =
+    let n = most-named in
+    let read = records-long (toRead (locator files)) in
+    let both = length-append (records (toRead (locator files))) afterwards in
+    omega arith
 
 pub bound-reached : Session fullest × (length fullest ≡ longest)
+unfolding andOn
 bound-reached = (
-  fullest-played,
-  (let n = most-named in
-      let read = records-long (toRead (locator files)) in
-      let both = length-append (records (toRead (locator files))) afterwards in
-      omega arith),
+  run-session rules fullest
+      (run-append rules before fromOptions (at opens) ∙ (ap (andOn (run rules fromOptions)) before-run ∙ options-end)),
+  (let n = options-long in omega arith),
 )

@@ -1,20 +1,29 @@
 -- The rules with choosing keep what rules must keep (Kept of sessions): a choice has a kind of its own, there is always something to
--- choose, and each exchange and each choice takes its entries off what can still come: three for each exchange that is left, and today's
--- from GPO on.
+-- choose, and each exchange and each choice takes its entries off what can still come: two for each exchange that is left, the choices
+-- (`Choices` of `select_laws`), and today's from GPO on.
 -- Assumes nothing.
-use mathlib.Core.Path.{_≡_, refl, _∙_}
+use mathlib.Core.Path.{_≡_, refl, sym, ap, _∙_}
 use mathlib.Core.Bool.{Bool, true, false, _||_}
 use mathlib.Core.List.{List, [], _∷_}
-use Prim.Native.Nat.{ℕ, _+_, _*_, _-_, _≤_}
+use Prim.Native.Nat.{ℕ, _+_, _*_, _-_, _≤_, _<_}
 use native.Mathlib.Omega.{arith}
-use lib.Dec.{ltb}
+use lib.Dec.{eqb, leb, ltb}
+use lib.ListN.{length, getD}
+use borrow.Author.Tests.{ltb-true, leb-false}
 use Rattle.slices.specs.Choice.{pick}
 use Rattle.slices.specs.Tests.{every}
 use Rattle.slices.proofs.Choice.{picked, pick-no}
-use Rattle.slices.proofs.Tests.{held}
+use Rattle.slices.proofs.Tests.{held, first-held}
 use Rattle.answer_afl.specs.Entries.{mostRecords}
-use Rattle.select_list.specs.Order.{shownOf}
-use Rattle.select_search.specs.Search.{mostExchanges, begun as searchBegun}
+use Rattle.select_list.specs.Order.{Candidate, mostShown, shownOf}
+use Rattle.select_search.specs.Search as search
+use Rattle.select_search.specs.Search.{Found, runs, over, mostExchanges, begun as searchBegun}
+use Rattle.select_search.specs.Final.{chosen}
+use Rattle.select_search.specs.Heard.{heard}
+use Rattle.select_laws.specs.Follows.{Follows}
+use Rattle.select_laws.specs.Choices.{choicesAt, choicesShown, choicesAsked, choicesIn}
+use Rattle.select_laws.proofs.Turns.{heard-follows, chosen-follows}
+use Rattle.select_laws.proofs.Choices.{heard-few, chosen-few}
 use Rattle.sessions.specs.Rules.{asks, hears, decides}
 use Rattle.sessions.specs.Session.{isPayload}
 use Rattle.sessions.specs.Kept.{OtherKind, Kept}
@@ -26,10 +35,9 @@ use Rattle.rulebook.proofs.Coming as today
 use Rattle.rulebook.proofs.Passing.{Holds, anything-lasts, turn-holds, after-holds}
 use Rattle.verdict_editions.specs.Later.{AskedLater, HeardLater, asWas, turnLater, kindLater, allowedLater, afterLater}
 use Rattle.start_choosing.specs.Start.{isListing}
-use Rattle.rulebook_choosing.specs.Choosing.{Choosing, ChoosingPhase, further, mayChoose, isChoice, listed}
+use Rattle.rulebook_choosing.specs.Choosing.{Choosing, ChoosingPhase, further, following, searched, mayChoose, isChoice, chose, listed}
 use Rattle.rulebook_choosing.specs.Session.{rules, longest}
-use Rattle.rulebook_choosing.specs.Stated.{exchangesOf, GoesOn, asked, shown, ran, ended, Takes, sent, stopped}
-use Rattle.rulebook_choosing.proofs.Selecting.{searched-on, chose-on}
+use Rattle.rulebook_choosing.specs.Stated.{exchangesOf}
 
 -- ---- kinds, and something to say
 
@@ -60,12 +68,16 @@ can-choose (HeardLater.new x) = (0xFF ∷ [], (none-of-them (shownOf (x .search 
 abbrev fromOptions : ℕ
 fromOptions = 9 + 2 * mostRecords
 
+-- behind e exchanges
+abbrev exchangesLeft : ℕ → ℕ
+exchangesLeft e = 2 * (mostExchanges - e)
+
 unfoldable pub toCome : ChoosingPhase → ℕ
 toCome (asks (AskedLater.was w)) = today.toCome (asks w)
-toCome (asks (AskedLater.new x)) = 2 + (3 * (mostExchanges - exchangesOf x) + fromOptions)
+toCome (asks (AskedLater.new x)) = 2 + (exchangesLeft (exchangesOf x) + choicesAsked (x .search) + fromOptions)
 toCome (hears (HeardLater.was terminal)) = longest
 toCome (hears (HeardLater.was (says word s))) = today.toCome (hears (says word s))
-toCome (hears (HeardLater.new x)) = 3 * (mostExchanges - exchangesOf x) + fromOptions
+toCome (hears (HeardLater.new x)) = exchangesLeft (exchangesOf x) + choicesShown (x .search) + fromOptions
 toCome (decides outcome reason s) = 1
 
 -- where today's rules lead, as much can come as today
@@ -79,26 +91,28 @@ was-few (decides outcome reason s) h = refl
 was-turn : (w : Asked) (a : List ℕ) → toCome (asWas (turn w a)) ≡ today.toCome (turn w a)
 was-turn w a = was-few (turn w a) (turn-holds (λ s. Unit {0}) anything-lasts w a tt)
 
-module _ (x : Choosing) where
-  searched-fewer : (q : ChoosingPhase) → GoesOn x q → 2 + toCome q ≤ toCome (asks (AskedLater.new x))
-  unfolding toCome further today.toCome today.afterAsking
-  searched-fewer q (asked s e lt) = omega (arith, e, lt)
-  searched-fewer q (shown s e lt) = omega (arith, e, lt)
-  searched-fewer q (ran list) = omega arith
-  searched-fewer q (ended reason h) = omega arith
-
-  chose-fewer : (q : ChoosingPhase) → Takes x q → 1 + toCome q ≤ toCome (hears (HeardLater.new x))
-  unfolding toCome further
-  chose-fewer q (sent s e lt) = omega (arith, e, lt)
-  chose-fewer q (stopped reason h) = omega arith
+-- after an answer or a choice, by what was found: at most so many choices
+following-fewer : (x : Choosing) (n : ℕ) (f : Found) → Follows (exchangesOf x) f → choicesIn f ≤ n
+    → toCome (following x f) ≤ exchangesLeft (exchangesOf x) + n + fromOptions
+unfolding following further toCome choicesIn today.toCome today.afterAsking
+following-fewer x n (search.asks s) h few = omega (arith, h .0, h .1)
+following-fewer x n (search.shows s) h few =
+    let same : exchangesLeft (s .stand .exchanges) ≡ exchangesLeft (exchangesOf x) = ap exchangesLeft (h .0) in omega arith
+following-fewer x n (runs list) h few = omega arith
+following-fewer x n (over reason) h few = omega arith
 
 pub turn-fewer : (w : AskedLater Choosing) (a : List ℕ) → 2 + toCome (rules .turn w a) ≤ toCome (asks w)
-unfolding turnLater toCome
+unfolding turnLater toCome searched
 turn-fewer (AskedLater.was w) a = let same = was-turn w a in let few = today.turn-fewer w a in omega arith
-turn-fewer (AskedLater.new x) a = searched-fewer x _ (searched-on x a)
+turn-fewer (AskedLater.new x) a =
+    let found = heard (x .applications) (x .search) a in
+    let few =
+    following-fewer x (choicesAsked (x .search)) found (heard-follows (x .applications) (x .search) a)
+    (heard-few (x .applications) (x .search) a) in
+    omega arith
 
 listing-few : (p : List ℕ) → 1 + toCome (asks (AskedLater.new (listed p))) ≤ longest
-unfolding toCome listed searchBegun
+unfolding toCome listed searchBegun choicesAsked choicesAt
 listing-few p = omega arith
 
 opened-few : (p : List ℕ) → 1 + toCome (asWas (after terminal p)) ≤ longest
@@ -112,14 +126,39 @@ started-few p =
     (λ y. listing-few p)
     (λ n. opened-few p)
 
-pub after-fewer : (h : HeardLater Choosing) (p : List ℕ) → 1 + toCome (rules .after h p) ≤ toCome (hears h)
-unfolding afterLater toCome
-after-fewer (HeardLater.was terminal) p = started-few p
-after-fewer (HeardLater.was (says word s)) p =
+or-left : (s t : Bool) → (s || t) ≡ true → t ≡ false → s ≡ true
+or-left true t h n = refl
+or-left false t h n = sym n ∙ h
+
+shown-few : (l : List Candidate) → shownOf l ≤ length l
+unfolding shownOf
+shown-few l =
+    picked (λ (n : ℕ). n ≤ length l) (leb (length l) mostShown) (length l) mostShown (λ y. omega arith) (λ n. omega (arith, leb-false (length l) mostShown n))
+
+-- a place that may be said is one of the list
+place-there : (shown : List Candidate) (p : List ℕ) → isChoice (shownOf shown) p ≡ true → eqb (getD p 0 0) 0xFF ≡ false
+    → getD p 0 0 < length shown
+unfolding isChoice
+place-there l p fits n =
+    let both = first-held _ _ (first-held _ _ fits .1) .0 in
+    let less = ltb-true (getD p 0 0) (shownOf l) (or-left _ _ both n) in
+    let most = shown-few l in
+    omega arith
+
+pub after-fewer : (h : HeardLater Choosing) (p : List ℕ) → rules .allowed h p ≡ true → 1 + toCome (rules .after h p) ≤ toCome (hears h)
+unfolding afterLater allowedLater toCome chose mayChoose
+after-fewer (HeardLater.was terminal) p fits = started-few p
+after-fewer (HeardLater.was (says word s)) p fits =
     let same = was-few (after (says word s) p) (after-holds (λ t. Unit {0}) word s p tt) in
     let few = today.after-fewer (says word s) p in
     omega arith
-after-fewer (HeardLater.new x) p = chose-fewer x _ (chose-on x p)
+after-fewer (HeardLater.new x) p fits =
+    let place = getD p 0 0 in
+    let few = chosen-few (x .search) place (place-there (x .search .list) p fits) in
+    let left =
+    following-fewer x (choicesIn (chosen (x .search) place)) (chosen (x .search) place) (chosen-follows (x .search) place)
+    (omega arith) in
+    omega arith
 
 pub decision-left : (outcome reason : ℕ) (s : Situation) → 1 ≤ toCome (decides outcome reason s)
 unfolding toCome

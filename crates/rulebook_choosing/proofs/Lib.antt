@@ -8,5 +8,7 @@ pub mod Ends
 pub mod Nobody
 pub mod Endless
 pub mod Untouched
+pub mod Falling
+pub mod Longest
 pub mod Worked
 pub mod Theorem

@@ -37,6 +37,7 @@ use Rattle.rulebook_choosing.specs.Untouched.{Untouched}
 use Rattle.rulebook_choosing.proofs.Selecting.{searched-on, chose-on}
 use Rattle.rulebook_choosing.proofs.Kept.{toCome, kept}
 use Rattle.rulebook_choosing.proofs.Growing.{reading-grows}
+use Rattle.rulebook_choosing.proofs.Longest.{fullest, bound-reached}
 use Rattle.rulebook_choosing.proofs.Hundred.{hundred}
 use Rattle.rulebook_choosing.proofs.Sent.{reading-sound, sent-supported, reading-worded}
 use Rattle.rulebook_choosing.proofs.Nobody.{nobody}
@@ -58,6 +59,7 @@ pub record Rulebook : Type 0 where
   pub no-place : (es : List Entry) (k : ℕ) → BreaksAt es k → Lawful es → ⊥
   pub growing : (es : List Entry) (ps : List ChoosingPhase) → Reads es ps → Growing ps
   pub bounded : (es : List Entry) → Session es → length es ≤ longest
+  pub bound-met : (es : List Entry) × (Session es × (length es ≡ longest))
   -- how a selection goes on and ends, after any answer and any choice
   pub answered : (x : Choosing) (a : List ℕ) → GoesOn x (searched x a)
   pub chosen : (x : Choosing) (p : List ℕ) → Takes x (chose x p)
@@ -97,6 +99,7 @@ rulebook =
       no-place = break-unlawful kept;
       growing = reading-grows;
       bounded = Any.session-bound kept;
+      bound-met = (fullest, bound-reached);
       answered = searched-on;
       chosen = chose-on;
       at-most = hundred;

@@ -37,7 +37,12 @@ BreaksAt = Under.BreaksAt rules
 abbrev pub Reads : List Entry → List ChoosingPhase → Type 0
 Reads = Under.Reads rules
 
--- no session has more entries (02, R-12: 1,310): those of today, whose one SELECT is the first exchange of a selection; two for each other
--- exchange, and a choice before each
+-- the most choices of a selection. Each is followed by an exchange, which has one application less to offer when it fails; and by the time
+-- that enough of them stand in the list, four records of the directory were read
+abbrev pub mostChoices : ℕ
+mostChoices = 94
+
+-- no session has more entries (02, R-12, says at most 1,310): those of today, whose one SELECT is the first exchange of a selection; two for
+-- each other exchange, and the choices
 abbrev pub longest : ℕ
-longest = 12 + 2 * mostRecords + 2 * (mostExchanges - 1) + mostExchanges
+longest = 12 + 2 * mostRecords + 2 * (mostExchanges - 1) + mostChoices

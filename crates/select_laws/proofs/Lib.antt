@@ -7,3 +7,5 @@ pub mod Missing
 pub mod FirstFree
 pub mod WithoutEnd
 pub mod Numbers
+pub mod Packed
+pub mod Choices

@@ -7,3 +7,4 @@ pub mod Repeated
 pub mod Free
 pub mod Endless
 pub mod Numbered
+pub mod Choices

@@ -29,7 +29,7 @@ module _ {A H S : Type 0} {rules : Rules A H S} (kept : Kept rules) where
       (entry command (commandOf w) ∷ entry answer [] ∷ rest .0, exchanged refl no-bytes (rest .1))
   finish (suc n) (hears h) few =
       let said = can-say h in
-      let rest = finish n (after h (said .0)) (let f = after-fewer h (said .0) in omega arith) in
+      let rest = finish n (after h (said .0)) (let f = after-fewer h (said .0) (said .1 .0) in omega arith) in
       (entry (dueKind h) (said .0) ∷ rest .0, heard refl (said .1 .0) (said .1 .1) (rest .1))
   finish (suc n) (decides outcome reason s) few = (entry decision (decisionOf outcome reason s) ∷ [], decided refl)
 

@@ -23,5 +23,5 @@ pub record Kept {Asked Heard Situation : Type 0} (rules : Rules Asked Heard Situ
   -- the most entries that can still come
   pub toCome : Phase Asked Heard Situation → ℕ
   pub turn-fewer : (w : Asked) (a : List ℕ) → 2 + toCome (rules .turn w a) ≤ toCome (asks w)
-  pub after-fewer : (h : Heard) (p : List ℕ) → 1 + toCome (rules .after h p) ≤ toCome (hears h)
+  pub after-fewer : (h : Heard) (p : List ℕ) → rules .allowed h p ≡ true → 1 + toCome (rules .after h p) ≤ toCome (hears h)
   pub decision-left : (outcome reason : ℕ) (s : Situation) → 1 ≤ toCome (decides outcome reason s)
