@@ -33,7 +33,7 @@ def defined(text):
         body = line.strip()
         if not body or body.startswith("--"):
             continue
-        passed = re.match(r"pub use [^{]*\.\{([^}]*)\}$", body)
+        passed = re.match(r"(?:unfoldable )?pub use [^{]*\.\{([^}]*)\}$", body)
         if passed:
             names.update(name.split(" as ")[-1].strip() for name in passed.group(1).split(","))
         indent = len(line) - len(line.lstrip())

@@ -16,14 +16,17 @@ use Rattle.sessions.proofs.Running.{takes-answer}
 use Rattle.rulebook.specs.Phase.{Asked, Phase}
 use Rattle.rulebook.specs.Turn.{turn}
 use Rattle.rulebook.specs.Machine.{Machine, at, owes}
+use Rattle.verdict_under.specs.Progress as Any
+use Rattle.verdict_under.specs.Summing as Sums
+use Rattle.verdict_under.proofs.Zeroing as Numbers
 use Rattle.rulebook_zeros.specs.Summing.{newIn, countOn, zerosFrom}
 use Rattle.rulebook.specs.Session.{rules}
 use Rattle.verdict.specs.declared.Ruling.{Ruling}
 use Rattle.verdict_judged.specs.Judged.{Judged}
 use Rattle.verdict_judged.specs.Zeroed.{Zeroed}
 use Rattle.verdict_judged.specs.Progress.{Progress, reached, begun, onward, reads, readsAll, concluded, finally, verdictOf}
-use Rattle.verdict_judged.proofs.Meaning.{verdict-right, right-verdict}
-use Rattle.verdict_judged.proofs.Zeroing.{zerosIn, zeroed-found, zeroed-right, zeroed-once}
+use Rattle.verdict_judged.proofs.Once.{zeroed-once}
+use Rattle.verdict_judged.proofs.Meaning.{verdict-right, right-verdict, zerosIn, zeroed-found, zeroed-right}
 use Rattle.card_seen.specs.Seen.{seen}
 use Rattle.card_seen.specs.Given.{placeOf}
 use Rattle.card_seen.proofs.Turning.{settled}
@@ -36,11 +39,11 @@ same-state w a b ok ok′ e = takes-answer rules w b ok′ ∙ ap (λ (p : Phase
 
 module _ (n : ℕ) where
   taken : (σ τ : Machine) (e : Entry) → next rules σ e ≡ some τ → reads (reached σ n) e ≡ reached τ (n + 1)
-  unfolding reads onward
+  unfolding Any.reads onward
   taken σ τ e h = ap (onward σ n e) h
 
 pub same-progress : {σ : Machine} {es fs : List Entry} (n : ℕ) → Exchanged σ es fs → readsAll (reached σ n) es ≡ readsAll (reached σ n) fs
-unfolding readsAll
+unfolding Any.readsAll
 same-progress n rest = refl
 same-progress n (kept {σ} {es} {fs} e τ h more) =
     ap (λ (m : Progress). readsAll m es) (taken n σ τ e h)
@@ -51,7 +54,7 @@ same-progress n (other {w} {es} {fs} a b ok ok′ same more) =
     ∙ sym (ap (λ (m : Progress). readsAll m fs) (taken n (owes w) (at (turn w a)) (entry answer b) (same-state w a b ok ok′ same))))
 
 pub same-zeros : {σ : Machine} {es fs : List Entry} → Exchanged σ es fs → zerosFrom es σ ≡ zerosFrom fs σ
-unfolding zerosFrom countOn
+unfolding Sums.zerosFrom Sums.countOn
 same-zeros rest = refl
 same-zeros (kept {σ} {es} {fs} e τ h more) =
     ap (countOn (zerosFrom es)) h ∙ (ap (λ (n : ℕ). newIn τ + n) (same-zeros more) ∙ sym (ap (countOn (zerosFrom fs)) h))
@@ -62,13 +65,13 @@ same-zeros (other {w} {es} {fs} a b ok ok′ same more) =
 
 module _ (t u : List ℕ) (tapes : TapesAlike t u) where
   same-verdict : verdictOf t ≡ verdictOf u
-  unfolding verdictOf finally
+  unfolding Any.verdictOf Any.finally
   same-verdict =
       ap (finally begun) (tapes .first-read)
       ∙ (ap concluded (same-progress 0 (tapes .exchanged)) ∙ sym (ap (finally begun) (tapes .second-read)))
 
   same-number : zerosIn (readTape t) ≡ zerosIn (readTape u)
-  unfolding zerosIn
+  unfolding Numbers.zerosIn
   same-number = ap zerosIn (tapes .first-read) ∙ (same-zeros (tapes .exchanged) ∙ sym (ap zerosIn (tapes .second-read)))
 
 -- tapes of which the same is said are judged alike, whatever that is

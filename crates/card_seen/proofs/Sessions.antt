@@ -14,7 +14,7 @@ use Rattle.rulebook.specs.Phase.{tvrOf, tsiOf}
 use Rattle.rulebook.specs.Turn.{after}
 use Rattle.rulebook.specs.Session.{rules, Plays, exchanged, heard, decided}
 use Rattle.rulebook.proofs.Said.{other-kinds}
-use Rattle.rulebook_zeros.specs.Counted as Counted
+use Rattle.verdict_under.specs.Counted as Counted
 use Rattle.rulebook_zeros.specs.Zeros.{unsuppliedIn, addedBy}
 use Rattle.card_seen.specs.Given.{Given, said, showed, givenTo, butAnswer, butAnswers, Same}
 use Rattle.card_seen.proofs.Turning.{turnBy, turn-seen}

@@ -24,6 +24,12 @@ use Rattle.tape_feed.specs.declared.Damage.{Damage}
 use Rattle.tape_feed.specs.Feeding.{next, damageOf, readerAfter, entriesRead, readingOf, piecesOf, begun as unread}
 use Rattle.tape_feed.proofs.Turns.{InStep, Steps, next-steps, none-bad}
 use Rattle.tape_feed.proofs.Whole.{fed-reading}
+use Rattle.rulebook.specs.Session.{rules}
+use Rattle.rulebook.proofs.Kept.{kept}
+use Rattle.rulebook_zeros.specs.Zeros.{unsuppliedIn}
+use Rattle.verdict_under.specs.Progress as Any
+use Rattle.verdict_under.specs.Summing as Sums
+use Rattle.verdict_under.proofs.Zeroing as Numbers
 use Rattle.rulebook_zeros.specs.Summing.{zerosFrom, zerosOf}
 use Rattle.rulebook_zeros.proofs.Most.{zeros-most}
 use Rattle.verdict.specs.Saying.{says, finds}
@@ -32,9 +38,10 @@ use Rattle.verdict.specs.declared.Finding.{Finding}
 use Rattle.verdict_judged.specs.Judged.{Judged}
 use Rattle.verdict_judged.specs.Zeroed.{Zeroed}
 use Rattle.verdict_judged.specs.Progress.{begun as opened, readsAll, progressOf, finally, verdictOf}
-use Rattle.verdict_judged.proofs.Meaning.{progress-more, verdict-right, right-verdict}
-use Rattle.verdict_judged.proofs.Zeroing.{zeros-more, zerosIn, zeroed-right, zeroed-once}
-use Rattle.verdict_judged.proofs.Blockwise.{block-payload}
+use Rattle.verdict_under.proofs.Meaning.{progress-more}
+use Rattle.verdict_judged.proofs.Once.{zeroed-once}
+use Rattle.verdict_judged.proofs.Meaning.{verdict-right, right-verdict, zerosIn, zeroed-right}
+use Rattle.verdict_under.proofs.Blockwise.{block-payload}
 use Rattle.judge_stages.specs.Stages.{saidAt}
 use Rattle.judge_follow.specs.declared.Judgement.{Judgement}
 use Rattle.judge_follow.specs.Following.{fed as follows, led}
@@ -71,8 +78,9 @@ module _ (u : UnderWay) (p : List ℕ) (es : List Entry) (bytes : areBytes p ≡
       (a .tracks) in
       let moved : Tracks (length (es ++ (e ∷ []))) (zerosOf (es ++ (e ∷ []))) (follows (u .dialogue) (u .reader .blocks) (kindIn p)
       (payloadIn p)) (progressOf (es ++ (e ∷ []))) =
-      transport (λ i. Tracks (sym one-longer i) (sym (zeros-more es e) i) (follows (u .dialogue) (sym index i) (kindIn p) (payloadIn p))
-      (sym (progress-more es e) i)) further
+      transport (λ i. Tracks (sym one-longer i) (sym (Numbers.zeros-more kept unsuppliedIn es e) i)
+      (follows (u .dialogue) (sym index i) (kindIn p) (payloadIn p))
+      (sym (progress-more rules es e) i)) further
       in
       record {
         tracks =
@@ -131,7 +139,7 @@ along-all (p ∷ ps) u es b a =
     subst (Along (fedAll v ps)) more (along-all ps v es (b .1) (along-other u p es (b .0) a n)))
 
 pub along-begun : Along begun []
-unfolding readsAll zerosFrom
+unfolding Any.readsAll Sums.zerosFrom
 along-begun = record { tracks = tracks-begun; step = λ z. refl }
 
 -- ---- the tape
@@ -157,7 +165,7 @@ module _ (t : List ℕ) (bytes : areBytes t ≡ true) where
   Right f = Judged t (f .ruling) × Zeroed t (f .zeros)
 
   right-whole : eqb (d .code) 0 ≡ true → Right (finds (saidAt (u .dialogue .stage) (u .reader .blocks)) (u .dialogue .zeros))
-  unfolding readingOf finally verdictOf zerosIn
+  unfolding readingOf Any.finally Any.verdictOf Numbers.zerosIn
   right-whole y =
       let h : readTape t ≡ entries es = read-as ∙ pick-yes _ _ _ y in
       let blocks = along .step (none-bad (u .reader) (eqb-true (d .code) 0 y)) in
@@ -170,7 +178,7 @@ module _ (t : List ℕ) (bytes : areBytes t ≡ true) where
       )
 
   right-damaged : eqb (d .code) 0 ≡ false → Right (finds (says Unreadable (d .place) (d .code)) 0)
-  unfolding readingOf finally verdictOf zerosIn
+  unfolding readingOf Any.finally Any.verdictOf Numbers.zerosIn
   right-damaged n =
       let h : readTape t ≡ unreadable (d .place) (d .code) = read-as ∙ pick-no _ _ _ n in
       (verdict-right t _ (sym (ap (finally opened) h)), zeroed-right t 0 (sym (ap zerosIn h)))

@@ -14,6 +14,7 @@ use Rattle.rulebook.specs.Machine.{Machine, at, owes, done}
 use Rattle.rulebook_due.specs.Due.{Due as Rule, nothing, countIn}
 use Rattle.rulebook_due.specs.After.{dueAt, dueIn, dueAfter}
 use Rattle.rulebook_due.proofs.After.{none-due, unlawful-due}
+use Rattle.rulebook.specs.Session.{rules}
 use Rattle.rulebook.proofs.Kept.{kept}
 use Rattle.session_phase.specs.Waiting.{wantedOf, awaited, countDue, outcomeOf, reasonOf}
 use Rattle.session_phase.specs.declared.Waiting.{Waiting}
@@ -23,7 +24,7 @@ use Rattle.session_laws.specs.Agreeing.{StandsAt}
 use Rattle.session_laws.proofs.Words.{kind-due}
 use Rattle.session_laws.proofs.Standing.{stands-decision}
 use Rattle.verdict_judged.specs.Progress.{Progress, reached, closed, broken, progressOf}
-use Rattle.verdict_judged.proofs.Meaning.{Means, progress-means}
+use Rattle.verdict_under.proofs.Meaning.{Means, progress-means}
 use Rattle.judge_stages.specs.declared.Stage.{Stage}
 use Rattle.judge_follow.specs.declared.Judgement.{Judgement}
 use Rattle.judge_follow.proofs.Tracking.{Expects, Tracking, Tracks}
@@ -37,7 +38,7 @@ dueBy (reached σ n) = dueAt σ
 dueBy (closed n) = nothing
 dueBy (broken k) = nothing
 
-means-due : (es : List Entry) (m : Progress) → Means m es → dueBy m ≡ dueAfter es
+means-due : (es : List Entry) (m : Progress) → Means rules m es → dueBy m ≡ dueAfter es
 unfolding dueBy dueAfter dueIn Means
 means-due es (reached σ n) h = sym (ap dueIn (h .0))
 means-due es (closed n) h = sym (none-due es (λ b. not-begun kept es b (h .0)))
@@ -87,4 +88,4 @@ module _ (j : Judgement) (out : List ℕ) where
 pub tracks-due : {k z : ℕ} (j : Judgement) (es : List Entry) (out : List ℕ) → Tracks k z j (progressOf es)
     → stageDue (j .stage) j out ≡ told (dueAfter es) out
 tracks-due {k} j es out t =
-    tracked j out k (progressOf es) (t .tracking) ∙ ap (λ (d : Rule). told d out) (means-due es (progressOf es) (progress-means es))
+    tracked j out k (progressOf es) (t .tracking) ∙ ap (λ (d : Rule). told d out) (means-due es (progressOf es) (progress-means kept es))

@@ -25,6 +25,9 @@ use Rattle.rulebook.specs.Turn.{turn, allowed, after}
 use Rattle.rulebook.specs.Machine.{Machine, at, owes, done}
 use Rattle.dol_fill.specs.Filled.{summed}
 use Rattle.rulebook_zeros.specs.Zeros.{unsuppliedIn}
+use Rattle.rulebook.specs.Session.{rules}
+use Rattle.verdict_under.specs.Progress as Any
+use Rattle.verdict_under.specs.Summing as Sums
 use Rattle.rulebook_zeros.specs.Summing.{newIn}
 use Rattle.session_phase.specs.Waiting.{kindOf, outcomeOf, reasonOf}
 use Rattle.session_phase.specs.declared.Waiting.{Waiting}
@@ -41,9 +44,9 @@ use Rattle.session_laws.proofs.Stepping.{fresh-stands, answer-step, word-step}
 use Rattle.verdict.specs.Saying.{says}
 use Rattle.verdict.specs.declared.Verdict.the-variants.{Pass, Inconclusive}
 use Rattle.verdict_judged.specs.Progress.{Progress, reached, closed, broken, reads, newBy, concluded}
-use Rattle.verdict_judged.proofs.Taking.{reads-heard, heard-invalid, heard-missing, reads-command, command-wrong, command-missing}
-use Rattle.verdict_judged.proofs.Taking.{reads-answer, reads-silence, silence-wrong, answer-missing, reads-decision}
-use Rattle.verdict_judged.proofs.Taking.{decision-wrong, decision-missing, reads-after-end, reads-after-silence, reads-after-break}
+use Rattle.verdict_under.proofs.Taking.{reads-heard, heard-invalid, heard-missing, reads-command, command-wrong, command-missing}
+use Rattle.verdict_under.proofs.Taking.{reads-answer, reads-silence, silence-wrong, answer-missing, reads-decision}
+use Rattle.verdict_under.proofs.Taking.{decision-wrong, decision-missing, reads-after-end, reads-after-silence, reads-after-break}
 use Rattle.judge_stages.specs.declared.Stage.{Stage}
 use Rattle.judge_stages.specs.declared.Stage.the-variants.{Word, Command, Answer, Decision, Done, Closed, Broken}
 use Rattle.judge_stages.specs.Stages.{saidAt}
@@ -121,7 +124,7 @@ module _ (k total : ℕ) (j : Judgement) (kind : ℕ) (p : List ℕ) (ok : isPay
   as-before = counted ∙ ap (λ (n : ℕ). n % 2 ^ 64) (sym (add-zero total))
 
   breaks : Goes (staged (Broken k) j) (broken k)
-  unfolding Tracking staged newBy
+  unfolding Tracking staged Any.newBy
   breaks = record { room = room; counted = as-before; tracking = refl }
 
   -- an entry of the kind that is due, under that kind's name
@@ -129,15 +132,15 @@ module _ (k total : ℕ) (j : Judgement) (kind : ℕ) (p : List ℕ) (ok : isPay
   as-kind due e m = ap (λ (q : ℕ). reads m (entry q p)) e
 
   answering : (w : Asked) → StandsAt (j .state) (asks w) → Goes (staged Answer j) (reached (owes w) (k + 1))
-  unfolding Tracking Expects staged newBy newIn
+  unfolding Tracking Expects staged Any.newBy Sums.newIn
   answering w s = record { room = room; counted = as-before; tracking = (refl, (refl, s)) }
 
   closing : Goes (staged Closed j) (closed (k + 1))
-  unfolding Tracking staged newBy
+  unfolding Tracking staged Any.newBy
   closing = record { room = room; counted = as-before; tracking = (refl, refl) }
 
   ending : Goes (staged Done j) (reached done (k + 1))
-  unfolding Tracking Expects staged newBy newIn
+  unfolding Tracking Expects staged Any.newBy Sums.newIn
   ending = record { room = room; counted = as-before; tracking = (refl, refl) }
 
   decision-due : (outcome reason : ℕ) (z : Situation) → StandsAt (j .state) (decides outcome reason z)
@@ -149,7 +152,7 @@ module _ (k total : ℕ) (j : Judgement) (kind : ℕ) (p : List ℕ) (ok : isPay
 
   moves : (σ : Machine) (e : Entry) (q : Phase) (m : Moved) → Follows σ e q (j .command) m
       → Goes (moving (j .zeros) m) (reached (at q) (k + 1))
-  unfolding Tracking moving summed newBy newIn
+  unfolding Tracking moving summed Any.newBy Sums.newIn
   moves σ e q m f =
       record {
         room = ap length (f .buffer) ∙ (buffer-length q (j .command) ∙ room);
@@ -168,15 +171,16 @@ module _ (k total : ℕ) (j : Judgement) (kind : ℕ) (p : List ℕ) (ok : isPay
       either test
       (λ v.
       carried (k + 1) total (test-holds kind command test (staged Answer j) (staged (Broken k) j) e v)
-      (as-kind command e (reached (at (asks w)) k) ∙ reads-command k w p (alike-same p (take n (j .command)) v ∙ c))
+      (as-kind command e (reached (at (asks w)) k) ∙ reads-command rules k w p (alike-same p (take n (j .command)) v ∙ c))
       (answering w s))
       (λ v.
       carried (k + 1) total (test-fails kind command test (staged Answer j) (staged (Broken k) j) e v)
-      (command-wrong k w p kind (λ q. different p (take n (j .command)) v (q ∙ sym c)))
+      (command-wrong rules k w p kind (λ q. different p (take n (j .command)) v (q ∙ sym c)))
       breaks))
       (λ n.
       let h = eqb-false kind command n in
-      carried (k + 1) total (other-kind kind command test (staged Answer j) (staged (Broken k) j) h) (command-missing k w p kind h) breaks)
+      carried (k + 1) total (other-kind kind command test (staged Answer j) (staged (Broken k) j) h)
+      (command-missing rules k w p kind h) breaks)
 
   silence-tracks : (w : Asked) → (kind ≡ answer → ⊥) → Goes (atSilence j k kind p) (reads (reached (owes w) k) (entry kind p))
   unfolding atSilence
@@ -187,16 +191,16 @@ module _ (k total : ℕ) (j : Judgement) (kind : ℕ) (p : List ℕ) (ok : isPay
       either (eqb (length p) 0)
       (λ v.
       carried (k + 1) total (test-holds kind silence (eqb (length p) 0) (staged Closed j) (staged (Broken k) j) e v)
-      (as-kind silence e (reached (owes w) k) ∙ reads-silence k w p (none-left p (eqb-true (length p) 0 v)))
+      (as-kind silence e (reached (owes w) k) ∙ reads-silence rules k w p (none-left p (eqb-true (length p) 0 v)))
       closing)
       (λ v.
       carried (k + 1) total (test-fails kind silence (eqb (length p) 0) (staged Closed j) (staged (Broken k) j) e v)
-      (as-kind silence e (reached (owes w) k) ∙ silence-wrong k w p (λ q. eqb-false (length p) 0 v (ap length q)))
+      (as-kind silence e (reached (owes w) k) ∙ silence-wrong rules k w p (λ q. eqb-false (length p) 0 v (ap length q)))
       breaks))
       (λ n.
       let h = eqb-false kind silence n in
       carried (k + 1) total (other-kind kind silence (eqb (length p) 0) (staged Closed j) (staged (Broken k) j) h)
-      (answer-missing k w p kind a h) breaks)
+      (answer-missing rules k w p kind a h) breaks)
 
   answer-tracks : (w : Asked) → StandsAt (j .state) (asks w) → Goes (atAnswer j k kind p) (reads (reached (owes w) k) (entry kind p))
   unfolding atAnswer advanced
@@ -205,7 +209,7 @@ module _ (k total : ℕ) (j : Judgement) (kind : ℕ) (p : List ℕ) (ok : isPay
       (λ y.
       let e = eqb-true kind answer y in
       carried (k + 1) total (sym (pick-yes _ _ _ y))
-      (as-kind answer e (reached (owes w) k) ∙ reads-answer k w p ok)
+      (as-kind answer e (reached (owes w) k) ∙ reads-answer rules k w p ok)
       (moves (owes w) (entry answer p) (turn w p) (step (j .state) p (j .command)) (answer-step (j .state) w p (j .command) s ok)))
       (λ n. carried (k + 1) total (sym (pick-no _ _ _ n)) refl (silence-tracks w (eqb-false kind answer n)))
 
@@ -230,16 +234,16 @@ module _ (k total : ℕ) (j : Judgement) (kind : ℕ) (p : List ℕ) (ok : isPay
         either test
         (λ v.
         let fits = sym may-say ∙ v in
-        carried (k + 1) total (test-holds kind due test on (staged (Broken k) j) e v) (named ∙ reads-heard k h p fits ok)
+        carried (k + 1) total (test-holds kind due test on (staged (Broken k) j) e v) (named ∙ reads-heard rules k h p fits ok)
         (moves (at (hears h)) (entry (dueKind h) p) (after h p) (step (j .state) p (j .command))
         (word-step (j .state) h p (j .command) s fits ok)))
         (λ v.
         carried (k + 1) total (test-fails kind due test on (staged (Broken k) j) e v) (named
-        ∙ heard-invalid k h p (sym may-say ∙ v)) breaks))
+        ∙ heard-invalid rules k h p (sym may-say ∙ v)) breaks))
         (λ n.
         let other = eqb-false kind due n in
         carried (k + 1) total (other-kind kind due test on (staged (Broken k) j) other)
-        (heard-missing k h p kind (λ e. other (e ∙ sym (kind-due h))))
+        (heard-missing rules k h p kind (λ e. other (e ∙ sym (kind-due h))))
         breaks)
 
     word-tracks : Goes (wordAt (j .state .waiting) j k kind p) (reads standing (entry kind p))
@@ -259,21 +263,21 @@ module _ (k total : ℕ) (j : Judgement) (kind : ℕ) (p : List ℕ) (ok : isPay
       (λ v.
       carried (k + 1) total (test-holds kind decision test (staged Done j) (staged (Broken k) j) e v)
       (as-kind decision e (reached (at (decides outcome reason z)) k)
-      ∙ reads-decision k outcome reason z p (alike-same p (decisionIn (j .state)) v ∙ due))
+      ∙ reads-decision rules k outcome reason z p (alike-same p (decisionIn (j .state)) v ∙ due))
       ending)
       (λ v.
       carried (k + 1) total (test-fails kind decision test (staged Done j) (staged (Broken k) j) e v)
-      (decision-wrong k outcome reason z p kind (λ q. different p (decisionIn (j .state)) v (q ∙ sym due)))
+      (decision-wrong rules k outcome reason z p kind (λ q. different p (decisionIn (j .state)) v (q ∙ sym due)))
       breaks))
       (λ n.
       let h = eqb-false kind decision n in
       carried (k + 1) total (other-kind kind decision test (staged Done j) (staged (Broken k) j) h)
-      (decision-missing k outcome reason z p kind h) breaks)
+      (decision-missing rules k outcome reason z p kind h) breaks)
 
 -- every entry
 pub fed-tracks : (k total : ℕ) (j : Judgement) (m : Progress) (kind : ℕ) (p : List ℕ) → isPayload p ≡ true → Tracks k total j m
     → Tracks (k + 1) (total + newBy (reads m (entry kind p))) (fed j k kind p) (reads m (entry kind p))
-unfolding fed fedAt Tracking Expects newBy
+unfolding fed fedAt Tracking Expects Any.newBy
 fed-tracks k total j (reached (at (asks w)) n) kind p ok t =
     let c = t .tracking .1 in
     carried (k + 1) total (sym (ap (λ (x : Stage). fedAt x j k kind p) (c .1 .0)))
@@ -295,15 +299,15 @@ fed-tracks k total j (reached (owes w) n) kind p ok t =
     (ap (λ (q : ℕ). reads (reached (owes w) q) (entry kind p)) (t .tracking .0))
     (answer-tracks k total j kind p ok (t .room) (t .counted) w (c .1))
 fed-tracks k total j (reached done n) kind p ok t =
-    carried (k + 1) total (sym (ap (λ (x : Stage). fedAt x j k kind p) (t .tracking .1))) (reads-after-end n (entry kind p)
+    carried (k + 1) total (sym (ap (λ (x : Stage). fedAt x j k kind p) (t .tracking .1))) (reads-after-end rules n (entry kind p)
     ∙ ap broken (t .tracking .0))
     (breaks k total j kind p ok (t .room) (t .counted))
 fed-tracks k total j (closed n) kind p ok t =
-    carried (k + 1) total (sym (ap (λ (x : Stage). fedAt x j k kind p) (t .tracking .1))) (reads-after-silence n (entry kind p)
+    carried (k + 1) total (sym (ap (λ (x : Stage). fedAt x j k kind p) (t .tracking .1))) (reads-after-silence rules n (entry kind p)
     ∙ ap broken (t .tracking .0))
     (breaks k total j kind p ok (t .room) (t .counted))
 fed-tracks k total j (broken place) kind p ok t =
-    carried (k + 1) total (sym (ap (λ (x : Stage). fedAt x j k kind p) (t .tracking))) (reads-after-break place (entry kind p))
+    carried (k + 1) total (sym (ap (λ (x : Stage). fedAt x j k kind p) (t .tracking))) (reads-after-break rules place (entry kind p))
     (record { room = t .room; counted = t .counted ∙ ap (λ (n : ℕ). n % 2 ^ 64) (sym (add-zero total)); tracking = t .tracking })
 
 -- what is said at the end

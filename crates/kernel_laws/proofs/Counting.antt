@@ -23,8 +23,9 @@ use Rattle.sessions.proofs.Reading.{awaits-run}
 use Rattle.rulebook.specs.Phase.{Phase, opens, asks, hears, decides}
 use Rattle.rulebook.specs.Machine.{Machine, at, owes}
 use Rattle.rulebook_zeros.specs.Zeros.{unsuppliedIn, Zeros}
+use Rattle.verdict_under.specs.Summing as Sums
 use Rattle.rulebook_zeros.specs.Summing.{newIn, countOn, zerosFrom, zerosOf}
-use Rattle.rulebook_zeros.proofs.Summing.{zeros-on, zeros-stop, silence-stops, zeros-found}
+use Rattle.verdict_under.proofs.Summing.{zeros-on, zeros-stop, silence-stops, zeros-found}
 use Rattle.rulebook_zeros.proofs.Most.{zeros-most}
 use Rattle.rulebook.specs.Session.{rules}
 use Rattle.rulebook.proofs.Kept.{kept}
@@ -41,7 +42,7 @@ use Rattle.kernel_laws.proofs.Lasting.{Stands, going, shut, not-closed,
 
 -- the command or the decision of a phase adds nothing
 own-zeros : (p : Phase) → zerosFrom (ruled p) (at p) ≡ 0
-unfolding ruled zerosFrom countOn newIn
+unfolding ruled Sums.zerosFrom Sums.countOn Sums.newIn
 own-zeros (asks w) = ap (countOn (zerosFrom [])) (takes-command rules w)
 own-zeros (hears h) = refl
 own-zeros (decides outcome reason z) = ap (countOn (zerosFrom [])) (takes-decision rules outcome reason z)
@@ -49,7 +50,7 @@ own-zeros (decides outcome reason z) = ap (countOn (zerosFrom [])) (takes-decisi
 -- an event that the machine takes, and what the phase puts on the tape
 event-zeros : (σ : Machine) (e : Entry) (p : Phase) → next rules σ e ≡ some (at p)
     → zerosFrom (e ∷ ruled p) σ ≡ unsuppliedIn p
-unfolding zerosFrom countOn newIn
+unfolding Sums.zerosFrom Sums.countOn Sums.newIn
 event-zeros σ e p h =
     ap (countOn (zerosFrom (ruled p))) h ∙ (ap (λ (n : ℕ). unsuppliedIn p + n) (own-zeros p) ∙ add-zero (unsuppliedIn p))
 
@@ -65,7 +66,8 @@ module _ (s : Session) (es : List Entry) (buf : List ℕ) (e : Entry) (counted :
   -- the log grows by an event that the machine takes, and by what the phase puts on the tape
   longer : (σ : Machine) (p : Phase) → run rules es (at opens) ≡ some σ → next rules σ e ≡ some (at p)
       → zerosOf (es ++ (e ∷ ruled p)) ≡ zerosOf es + unsuppliedIn p
-  longer σ p read taken = zeros-on es (e ∷ ruled p) (at opens) σ read ∙ ap (λ (n : ℕ). zerosOf es + n) (event-zeros σ e p taken)
+  longer σ p read taken =
+      zeros-on rules unsuppliedIn es (e ∷ ruled p) (at opens) σ read ∙ ap (λ (n : ℕ). zerosOf es + n) (event-zeros σ e p taken)
 
   counts-step : (r : Called) (t : Taken es e buf (s .zeros) r) → loggedBy r e ≡ e ∷ ruled (t .to) → Counts r
   unfolding accepted summed
@@ -87,7 +89,8 @@ module _ (s : Session) (es : List Entry) (buf : List ℕ) (e : Entry) (counted :
         let same = snoc-same (silent .before) es (entry silence []) (entry silence []) (sym (silent .ends)) in
         let owed = awaits-run kept (silent .before) (silent .awaits) in
         let read = ap (λ (l : List Entry). run rules l (at opens)) (sym (same .0)) ∙ owed .1 in
-        let stops = zeros-stop es (entry silence []) [] (at opens) (owes (owed .0)) read (silence-stops (owed .0)) in
+        let stops = zeros-stop rules unsuppliedIn es (entry silence []) [] (at opens) (owes (owed .0)) read
+        (silence-stops rules (owed .0)) in
         let alone = silence-alone s es buf there e p k in
         subst Counts (sym (call-taken s e buf h ∙ taken-silence s e buf k))
         (counted ∙ (sym stops ∙ ap (λ (x : Entry). zerosOf (es ++ (x ∷ []))) (sym alone)))
@@ -121,7 +124,7 @@ counts-from (c ∷ cs) p bytes st counted =
     (counts-call (p .session) (p .log) (c .buffer) (c .event) counted first st)
 
 pub plays-zeros : (cs : List Call) → allBytes cs ≡ true → Zeros (plays cs .log) (plays cs .session .zeros)
-unfolding plays freshSession zerosFrom
+unfolding plays freshSession Sums.zerosFrom
 plays-zeros cs bytes =
     subst (Zeros (plays cs .log)) (sym (counts-from cs (record { session = freshSession; log = [] }) bytes (going reached-fresh) refl))
-    (zeros-found (plays cs .log))
+    (zeros-found kept unsuppliedIn (plays cs .log))

@@ -26,7 +26,8 @@ use Rattle.verdict_judged.specs.Judged.{Judges, passes, undecided, Judged, read
 use Rattle.verdict_judged.specs.Zeroed.{Zeroed, readable as counted}
 use Rattle.verdict.specs.declared.Ruling.{Ruling}
 use Rattle.verdict.specs.declared.Verdict.the-variants.{Pass, Fail, Inconclusive}
-use Rattle.verdict_judged.proofs.Stored.{session-fits, written-judged}
+use Rattle.verdict_under.proofs.Stored.{written-judged}
+use Rattle.verdict_judged.proofs.Stored.{session-fits}
 use Rattle.verdict_storable.proofs.Theorem.{lawful-storable}
 use Rattle.verdict_storable.proofs.Recorded.{session-exceeded}
 use Rattle.kernel_laws.specs.Log.{Call, plays, allBytes}

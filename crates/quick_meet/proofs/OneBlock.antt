@@ -26,7 +26,7 @@ use Rattle.verdict.specs.Saying.{says, finds}
 use Rattle.verdict.specs.declared.Verdict.the-variants.{Fail, Inconclusive}
 use Rattle.verdict.specs.declared.Finding.{Finding}
 use Rattle.verdict_judged.specs.Progress.{Progress, reached, closed, broken, reads}
-use Rattle.verdict_judged.proofs.Blockwise.{block-payload}
+use Rattle.verdict_under.proofs.Blockwise.{block-payload}
 use Rattle.quick_said.specs.Said.{entriesFrom, saidFrom}
 use Rattle.quick_said.proofs.Reading.{sum-none, sum-small, said-one, closed-end, closed-more, broken-on}
 use Rattle.quick_said.proofs.Blocks.{from-end, from-more}

@@ -15,6 +15,8 @@ use Rattle.rulebook.specs.Phase.{Asked, Phase}
 use Rattle.rulebook.specs.Machine.{Machine, at, owes, done}
 use Rattle.rulebook.specs.Session.{rules}
 use Rattle.rulebook_zeros.specs.Zeros.{unsuppliedIn}
+use Rattle.verdict_under.specs.Progress as Any
+use Rattle.verdict_under.specs.Summing as Sums
 use Rattle.rulebook_zeros.specs.Summing.{newIn, countOn, zerosFrom}
 use Rattle.verdict.specs.Saying.{says, finds}
 use Rattle.verdict.specs.declared.Verdict.the-variants.{Pass, Fail, Inconclusive}
@@ -39,12 +41,12 @@ sum-small z a = omega arith
 
 module _ (σ : Machine) (n z : ℕ) (e : Entry) (es : List Entry) where
   adds : (o : Option Machine) → countOn (zerosFrom es) o ≡ zerosAfter (onward σ n e o) es
-  unfolding countOn zerosAfter onward
+  unfolding Sums.countOn zerosAfter onward
   adds (some τ) = refl
   adds none = picked (λ (m : Progress). 0 ≡ zerosAfter m es) (closes σ e) _ _ (λ y. refl) (λ f. refl)
 
   pub said-one : saidFrom (reached σ n) z (e ∷ es) ≡ saidFrom (reads (reached σ n) e) (summed z (newIn σ)) es
-  unfolding saidFrom readsAll zerosAfter zerosFrom reads
+  unfolding saidFrom Any.readsAll zerosAfter Sums.zerosFrom Any.reads
   said-one =
       let on = onward σ n e (next rules σ e) in
       ap (λ (x : ℕ). finds (concluded (readsAll on es)) x)
@@ -54,23 +56,23 @@ module _ (σ : Machine) (n z : ℕ) (e : Entry) (es : List Entry) where
 
 module _ (n z : ℕ) where
   pub phase-end : (p : Phase) → saidFrom (reached (at p) n) z [] ≡ finds (says Inconclusive n 0) (summed z (unsuppliedIn p))
-  unfolding saidFrom readsAll zerosAfter zerosFrom concluded newIn
+  unfolding saidFrom Any.readsAll zerosAfter Sums.zerosFrom concluded Sums.newIn
   phase-end p = ap (λ (x : ℕ). finds (says Inconclusive n 0) (summed z x)) (add-zero (unsuppliedIn p))
 
   pub owes-end : (w : Asked) → saidFrom (reached (owes w) n) z [] ≡ finds (says Inconclusive n 0) (summed z 0)
-  unfolding saidFrom readsAll zerosAfter zerosFrom concluded newIn
+  unfolding saidFrom Any.readsAll zerosAfter Sums.zerosFrom concluded Sums.newIn
   owes-end w = refl
 
   pub done-end : saidFrom (reached done n) z [] ≡ finds (says Pass n 0) (summed z 0)
-  unfolding saidFrom readsAll zerosAfter zerosFrom concluded newIn
+  unfolding saidFrom Any.readsAll zerosAfter Sums.zerosFrom concluded Sums.newIn
   done-end = refl
 
   pub closed-end : saidFrom (closed n) z [] ≡ finds (says Inconclusive n 0) (summed z 0)
-  unfolding saidFrom readsAll zerosAfter concluded
+  unfolding saidFrom Any.readsAll zerosAfter concluded
   closed-end = refl
 
   broken-all : (es : List Entry) → readsAll (broken n) es ≡ broken n
-  unfolding readsAll reads
+  unfolding Any.readsAll Any.reads
   broken-all [] = refl
   broken-all (e ∷ es) = broken-all es
 
@@ -79,5 +81,5 @@ module _ (n z : ℕ) where
   broken-on es = ap (λ (m : Progress). finds (concluded m) (summed z 0)) (broken-all es)
 
   pub closed-more : (e : Entry) (es : List Entry) → saidFrom (closed n) z (e ∷ es) ≡ finds (says Fail n 0) (summed z 0)
-  unfolding saidFrom readsAll reads zerosAfter concluded
+  unfolding saidFrom Any.readsAll Any.reads zerosAfter concluded
   closed-more e es = ap (λ (m : Progress). finds (concluded m) (summed z 0)) (broken-all es)

@@ -15,13 +15,15 @@ use Rattle.tape_read.specs.Tapes.{Reading, entries, unreadable, preceded, cut, 
 use Rattle.dol_fill.specs.Filled.{summed}
 use Rattle.rulebook.specs.Phase.{opens}
 use Rattle.rulebook_zeros.specs.Zeros.{unsuppliedIn}
+use Rattle.verdict_under.specs.Progress as Any
+use Rattle.verdict_under.specs.Summing as Sums
+use Rattle.verdict_under.proofs.Zeroing as Numbers
 use Rattle.rulebook_zeros.specs.Summing.{newIn, zerosOf}
 use Rattle.rulebook_zeros.proofs.Most.{zeros-most}
 use Rattle.verdict_judged.specs.Judged.{Judged}
 use Rattle.verdict_judged.specs.Zeroed.{Zeroed}
 use Rattle.verdict_judged.specs.Progress.{begun, readsAll, concluded, finally, verdictOf}
-use Rattle.verdict_judged.proofs.Meaning.{verdict-right}
-use Rattle.verdict_judged.proofs.Zeroing.{zerosIn, zeroed-right}
+use Rattle.verdict_judged.proofs.Meaning.{verdict-right, zerosIn, zeroed-right}
 use Rattle.quick_said.specs.Said.{entriesFrom, zerosAfter, saidFrom, foundFrom}
 
 -- ---- what a tape reads as: the entries of its blocks, or a code that is not 0
@@ -63,7 +65,7 @@ module _ (t : List ℕ) where
 
     -- the finding of the tape
     pub found-right : Judged t (foundFrom opens 0 0 t .ruling) × Zeroed t (foundFrom opens 0 0 t .zeros)
-    unfolding foundFrom saidFrom zerosAfter newIn unsuppliedIn summed finally verdictOf zerosIn
+    unfolding foundFrom saidFrom zerosAfter Sums.newIn unsuppliedIn summed Any.finally Any.verdictOf Numbers.zerosIn
     found-right =
         let most = zeros-most es in
         let counted : (0 + (0 + zerosOf es)) % 2 ^ 64 ≡ zerosOf es = omega arith in (

@@ -13,7 +13,8 @@ use Rattle.select_list.specs.Kept.{candidateAt}
 use Rattle.select_search.specs.declared.Step.the-variants.{Final}
 use Rattle.select_laws.specs.Repeated.{missing}
 use Rattle.verdict.specs.declared.Ruling.{Ruling}
-use Rattle.verdict_judged.specs.Judged.{JudgedUnder, Judged}
+use Rattle.verdict_under.specs.Judged.{JudgedUnder}
+use Rattle.verdict_judged.specs.Judged.{Judged}
 use Rattle.sessions.specs.Session as Under
 use Rattle.sessions.specs.Stated.{Finished, Sort, InRow}
 use Rattle.sessions.proofs.Bound as Any

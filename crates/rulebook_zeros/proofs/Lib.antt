@@ -1,4 +1,3 @@
-pub mod Summing
 pub mod Most
 pub mod Supplied
 pub mod Worked

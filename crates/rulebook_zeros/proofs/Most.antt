@@ -46,6 +46,7 @@ use Rattle.decide_requests.specs.declared.reply.HostReply.{HostReply}
 use Rattle.decide_requests.specs.declared.reply.HostReply.the-variants.{Unable}
 use Rattle.decide_requests.specs.Replies.{codeIn, replyOf, responseCode}
 use Rattle.rulebook.specs.Phase.{situationOf, ended, decided}
+use Rattle.verdict_under.specs.Summing as Under
 use Rattle.rulebook_zeros.specs.Zeros.{mostEntries, unsuppliedAsking, unsuppliedIn}
 use Rattle.rulebook_zeros.specs.Summing.{newIn, countOn, zerosFrom, zerosOf}
 use Rattle.rulebook.specs.Session.{rules}
@@ -231,7 +232,7 @@ moved-to : (σ τ ρ : Machine) → some τ ≡ some ρ → Moves σ τ → Move
 moved-to σ τ ρ e h = let same : τ ≡ ρ = cc e in subst (Moves σ) same h
 
 next-within : (σ ρ : Machine) (e : Entry) → ShortAt σ → next rules σ e ≡ some ρ → Moves σ ρ
-unfolding next newIn leftAt leftIn
+unfolding next Under.newIn leftAt leftIn
 next-within (at (asks w)) ρ e short h = moved-to (at (asks w)) (owes w) ρ (chosen _ _ ρ h .1) (short, omega arith)
 next-within (at (hears x)) ρ e short h =
     moved-to (at (hears x)) (at (after x (e .payload))) ρ (chosen _ _ ρ h .1) (after-within x (e .payload) short)
@@ -241,12 +242,12 @@ next-within (owes w) ρ e short h = moved-to (owes w) (at (turn w (e .payload)))
 next-within done ρ e short h = no-state ρ h
 
 counted-within : (f : Machine → ℕ) (n : ℕ) (o : Option Machine) → ((τ : Machine) → o ≡ some τ → newIn τ + f τ ≤ n) → countOn f o ≤ n
-unfolding countOn
+unfolding Under.countOn
 counted-within f n none h = omega arith
 counted-within f n (some τ) h = h τ refl
 
 zeros-within : (es : List Entry) (σ : Machine) → ShortAt σ → zerosFrom es σ ≤ leftAt σ
-unfolding zerosFrom
+unfolding Under.zerosFrom
 zeros-within [] σ short = omega arith
 zeros-within (e ∷ es) σ short =
     counted-within (zerosFrom es) (leftAt σ) (next rules σ e) (λ τ h.

@@ -1,4 +1,3 @@
 -- What was filled with zeros, over whole sessions (02, R-6).
-pub mod Counted
 pub mod Zeros
 pub mod Summing

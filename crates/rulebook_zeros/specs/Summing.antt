@@ -1,30 +1,24 @@
--- The sum entry by entry, beside the rulebook's machine: each entry that the machine takes adds what the command that is due then lacks,
--- and an entry that it does not take ends the counting. Nobody need believe it: that it is the fourth number of any entries is proved
--- (proofs/Summing).
+-- The sum entry by entry (Summing of verdict_under) under our rules: each entry that the machine takes adds what the command that is due
+-- then lacks. Nobody need believe it: that it is the fourth number of any entries is proved there.
 -- Assumes nothing.
-use mathlib.Core.List.{List, [], _∷_}
-use mathlib.Core.Option.{Option, none, some}
-use Prim.Native.Nat.{ℕ, _+_}
+use mathlib.Core.List.{List}
+use mathlib.Core.Option.{Option}
+use Prim.Native.Nat.{ℕ}
 use Rattle.tape_read.specs.Entries.{Entry}
-use Rattle.sessions.specs.Machine.{next}
-use Rattle.rulebook.specs.Phase.{opens}
-use Rattle.rulebook.specs.Machine.{Machine, at, owes, done}
-use Rattle.rulebook_zeros.specs.Zeros.{unsuppliedIn}
+use Rattle.rulebook.specs.Machine.{Machine}
 use Rattle.rulebook.specs.Session.{rules}
+use Rattle.verdict_under.specs.Summing as Under
+use Rattle.rulebook_zeros.specs.Zeros.{unsuppliedIn}
 
 -- what the entry that led to a state added
-unfoldable pub newIn : Machine → ℕ
-newIn (at p) = unsuppliedIn p
-newIn (owes w) = 0
-newIn done = 0
+abbrev pub newIn : Machine → ℕ
+newIn = Under.newIn unsuppliedIn
 
-unfoldable pub countOn : (Machine → ℕ) → Option Machine → ℕ
-countOn f none = 0
-countOn f (some σ) = newIn σ + f σ
+abbrev pub countOn : (Machine → ℕ) → Option Machine → ℕ
+countOn = Under.countOn unsuppliedIn
 
-unfoldable pub zerosFrom : List Entry → Machine → ℕ
-zerosFrom [] σ = 0
-zerosFrom (e ∷ es) σ = countOn (zerosFrom es) (next rules σ e)
+abbrev pub zerosFrom : List Entry → Machine → ℕ
+zerosFrom = Under.zerosFrom rules unsuppliedIn
 
 abbrev pub zerosOf : List Entry → ℕ
-zerosOf es = zerosFrom es (at opens)
+zerosOf = Under.zerosOf rules unsuppliedIn

@@ -9,8 +9,8 @@ use Rattle.dol_fill.specs.Filled.{unsupplied}
 use Rattle.rulebook.specs.Situation.{knownIn, listIn}
 use Rattle.rulebook.specs.Phase.{Asked, selecting, optioning, reading, first, second, Phase, asks, hears, decides}
 use Rattle.rulebook.specs.Session.{rules, Plays}
-use Rattle.rulebook_zeros.specs.Counted as Under
-pub use Rattle.rulebook_zeros.specs.Counted.{lawful, broken}
+use Rattle.verdict_under.specs.Counted as Under
+pub use Rattle.verdict_under.specs.Counted.{lawful, broken}
 
 -- no list has more entries: it has at most 252 bytes, and a tag and a length take two or more
 abbrev pub mostEntries : ℕ

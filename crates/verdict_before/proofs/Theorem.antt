@@ -15,8 +15,10 @@ use Rattle.rulebook_zeros.specs.Zeros.{unsuppliedIn}
 use Rattle.verdict.specs.Saying.{says}
 use Rattle.verdict.specs.declared.Verdict.the-variants.{Fail}
 use Rattle.verdict.specs.declared.Ruling.{Ruling}
-use Rattle.verdict_judged.specs.Judged.{fails, JudgedUnder, readable, Judged}
-use Rattle.verdict_judged.specs.Zeroed.{ZeroedUnder, Zeroed}
+use Rattle.verdict_under.specs.Judged.{fails, JudgedUnder, readable}
+use Rattle.verdict_under.specs.Zeroed.{ZeroedUnder}
+use Rattle.verdict_judged.specs.Judged.{Judged}
+use Rattle.verdict_judged.specs.Zeroed.{Zeroed}
 use Rattle.verdict_editions.specs.Editions.{Same, First, FirstOf, itself}
 use Rattle.verdict_editions.proofs.Tapes.{judged-same, zeroed-same}
 use Rattle.verdict_editions.proofs.Agreeing.{agree-goes, itself-counts}

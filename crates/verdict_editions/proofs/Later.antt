@@ -14,8 +14,10 @@ use Rattle.rulebook.specs.Session.{rules}
 use Rattle.rulebook.proofs.Said.{other-kinds}
 use Rattle.rulebook.proofs.Passing.{Holds, anything-lasts, turn-holds, after-holds}
 use Rattle.rulebook_zeros.specs.Zeros.{unsuppliedIn}
-use Rattle.verdict_judged.specs.Judged.{JudgedUnder, Judged}
-use Rattle.verdict_judged.specs.Zeroed.{ZeroedUnder, Zeroed}
+use Rattle.verdict_under.specs.Judged.{JudgedUnder}
+use Rattle.verdict_under.specs.Zeroed.{ZeroedUnder}
+use Rattle.verdict_judged.specs.Judged.{Judged}
+use Rattle.verdict_judged.specs.Zeroed.{Zeroed}
 use Rattle.verdict_editions.specs.Editions.{Same, FirstOf, Pairing, Alike, GoAlike, OpenAlike, CountAlike, Some}
 use Rattle.verdict_editions.specs.Later.{AskedLater, HeardLater, PhaseLater, Added, asWas, commandLater, turnLater}
 use Rattle.verdict_editions.specs.Later.{kindLater, allowedLater, afterLater, later, Earlier}

@@ -8,7 +8,7 @@ use Rattle.tape_read.specs.Entries.{Entry}
 use Rattle.sessions.specs.Rules.{Phase, asks, hears, decides, Rules}
 use Rattle.sessions.specs.Session.{Plays, exchanged, heard, decided}
 use Rattle.sessions.specs.Kept.{OtherKind}
-use Rattle.rulebook_zeros.specs.Counted.{addedBy}
+use Rattle.verdict_under.specs.Counted.{addedBy}
 use Rattle.verdict_editions.specs.Editions.{First, Pairing, Alike, GoAlike, OpenAlike, CountAlike}
 
 one-more : {n m : ℕ} {ns ms : List ℕ} → n ≡ m → ns ≡ ms → n ∷ ns ≡ m ∷ ms

@@ -8,10 +8,10 @@ use lib.ListN.{length, take}
 use Rattle.tape_read.specs.Entries.{Entry}
 use Rattle.sessions.specs.Rules.{Phase, Rules}
 use Rattle.sessions.specs.Session.{Session}
-use Rattle.rulebook_zeros.specs.Counted.{sum, Summed, SummedClosed, SumOf, Counts, lawful, broken}
+use Rattle.verdict_under.specs.Counted.{sum, Summed, SummedClosed, SumOf, Counts, lawful, broken}
 use Rattle.verdict.specs.declared.Ruling.{Ruling}
-use Rattle.verdict_judged.specs.Judged.{JudgesUnder, passes, undecided, fails, JudgedUnder, readable, damaged}
-use Rattle.verdict_judged.specs.Zeroed.{ZeroedUnder, readable as counted, damaged as uncounted}
+use Rattle.verdict_under.specs.Judged.{JudgesUnder, passes, undecided, fails, JudgedUnder, readable, damaged}
+use Rattle.verdict_under.specs.Zeroed.{ZeroedUnder, readable as counted, damaged as uncounted}
 use Rattle.verdict_editions.specs.Editions.{Same, First, FirstOf, Pairing, GoAlike, OpenAlike, CountAlike, Some}
 use Rattle.verdict_editions.proofs.Playing.{around, counts-around, goes-around, opens-around, session-over}
 use Rattle.verdict_editions.proofs.Sessions.{first-front, first-longer, first-part, either-same, session-same, some-old}

@@ -1,10 +1,5 @@
 pub mod Once
 pub mod Exactly
 pub mod Meaning
-pub mod Taking
-pub mod Blockwise
-pub mod Endings
-pub mod Silence
 pub mod Stored
 pub mod ShutOut
-pub mod Zeroing

@@ -25,7 +25,8 @@ use Rattle.verdict.specs.declared.Ruling.{Ruling}
 use Rattle.verdict_judged.proofs.Once.{judged-once}
 use Rattle.verdict_judged.specs.Progress.{verdictOf}
 use Rattle.verdict_judged.proofs.Meaning.{verdict-judged}
-use Rattle.verdict_judged.proofs.Stored.{written-judged, session-judged}
+use Rattle.verdict_under.proofs.Stored.{written-judged, session-judged}
+use Rattle.verdict_judged.proofs.Stored.{session-fits}
 
 -- ---- named tapes
 
@@ -45,7 +46,7 @@ approved = written 0 7 (offline 2 tc 1)
 
 pub approved-judged : Judged approved (says Pass 10 0)
 unfolding allStorable storable isKind
-approved-judged = session-judged 7 (omega arith) (offline 2 tc 1) refl (approved-offline .0)
+approved-judged = session-judged kept session-fits 7 (omega arith) (offline 2 tc 1) refl (approved-offline .0)
 
 -- a tape that begins with a command, and one with two STARTs: FAIL 0 0 and FAIL 1 0
 abbrev pub unstarted : List Entry

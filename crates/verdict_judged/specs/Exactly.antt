@@ -1,24 +1,11 @@
--- What an answer tells of the entries of a readable tape, and they of it, verdict by verdict. Demand 3.
+-- What an answer tells of the entries of a readable tape, and they of it, verdict by verdict (Exactly of verdict_under), by the rules
+-- of 01. Demand 3.
 -- Assumes nothing.
-use mathlib.Core.Path.{_≡_}
 use mathlib.Core.List.{List}
-use lib.ListN.{length}
 use Rattle.tape_read.specs.Entries.{Entry}
-use Rattle.rulebook.specs.Session.{Session, Open, BreaksAt}
-use Rattle.verdict.specs.Saying.{says}
-use Rattle.verdict.specs.declared.Verdict.the-variants.{Pass, Fail, Inconclusive, Unreadable}
+use Rattle.rulebook.specs.Session.{rules}
 use Rattle.verdict.specs.declared.Ruling.{Ruling}
+use Rattle.verdict_under.specs.Exactly as Under
 
-pub record Exactly (es : List Entry) (a : Ruling) : Type 0 where
-  -- PASS exactly when the entries are a finished session, with their number
-  pub pass : a .verdict ≡ Pass → Session es
-  pub passed : Session es → a ≡ says Pass (length es) 0
-  -- INCONCLUSIVE exactly when they are open, with their number
-  pub inconclusive : a .verdict ≡ Inconclusive → Open es
-  pub left-open : Open es → a ≡ says Inconclusive (length es) 0
-  -- otherwise FAIL, naming the entry at which the rules are first broken
-  pub fail : a .verdict ≡ Fail → BreaksAt es (a .place)
-  pub failed : (Session es → ⊥) → (Open es → ⊥) → a .verdict ≡ Fail
-  -- and never UNREADABLE
-  pub read : a .verdict ≡ Unreadable → ⊥
-  pub code : a .code ≡ 0
+abbrev pub Exactly : List Entry → Ruling → Type 0
+Exactly = Under.Exactly rules

@@ -1,4 +1,4 @@
--- The verdict of a tape, and how it is found entry by entry.
+-- The verdict of a tape by the rules of 01, and how it is found entry by entry.
 pub mod Judged
 pub mod Zeroed
 pub mod Exactly

@@ -1,83 +1,43 @@
--- How the verdict is found: the entries of a tape read one by one by the rulebook's machine. What a verdict is stands in Judged, without
--- it; that this finds the verdict of every tape is proved (Meaning), so nobody need believe it.
+-- How the verdict is found by the rules of 01: the entries of a tape read one by one (Progress of verdict_under). Nobody need believe it.
 -- Assumes nothing.
-use mathlib.Core.Bool.{Bool, true, false, _&&_}
-use mathlib.Core.List.{List, [], _∷_}
-use mathlib.Core.Option.{Option, none, some}
-use Prim.Native.Nat.{ℕ, _+_}
-use lib.Dec.{eqb}
-use Rattle.slices.specs.Choice.{pick}
-use Rattle.numbers.specs.Tables.{silence}
+use mathlib.Core.List.{List}
+use Prim.Native.Nat.{ℕ}
 use Rattle.tape_read.specs.Entries.{Entry}
-use Rattle.tape_read.specs.Tapes.{Reading, entries, unreadable, readTape}
-use Rattle.sessions.specs.Machine.{next}
-use Rattle.rulebook.specs.Phase.{opens}
-use Rattle.rulebook.specs.Machine.{Machine, at, owes, done}
-use Rattle.rulebook_zeros.specs.Summing.{newIn}
+use Rattle.tape_read.specs.Tapes.{Reading}
+use Rattle.rulebook.specs.Situation.{Situation}
+use Rattle.rulebook.specs.Phase.{Asked, Heard}
 use Rattle.rulebook.specs.Session.{rules}
-use Rattle.verdict.specs.Saying.{says}
-use Rattle.verdict.specs.declared.Verdict.the-variants.{Pass, Fail, Inconclusive, Unreadable}
+use Rattle.rulebook_zeros.specs.Zeros.{unsuppliedIn}
 use Rattle.verdict.specs.declared.Ruling.{Ruling}
+use Rattle.verdict_under.specs.Progress as Under
+pub use Rattle.verdict_under.specs.Progress.{reached, closed, broken}
+unfoldable pub use Rattle.verdict_under.specs.Progress.{empty, closes, onward, concluded}
 
-pub data Progress : Type 0 where
-  -- no rule is broken: where the machine stands, and how many entries were read
-  reached : Machine → ℕ → Progress
-  -- the last of so many entries was a closing silence
-  closed : ℕ → Progress
-  -- the entry at which the rules were first broken
-  broken : ℕ → Progress
+abbrev pub Progress : Type 0
+Progress = Under.Progress Asked Heard Situation
 
 -- before any entry
 abbrev pub begun : Progress
-begun = reached (at opens) 0
+begun = Under.begun rules
 
-unfoldable pub empty : List ℕ → Bool
-empty [] = true
-empty (b ∷ bs) = false
+-- one entry further, and several
+abbrev pub reads : Progress → Entry → Progress
+reads = Under.reads rules
 
--- a silence with no payload, where the card owes an answer
-unfoldable pub closes : Machine → Entry → Bool
-closes (at p) e = false
-closes (owes w) e = eqb (e .kind) silence && empty (e .payload)
-closes done e = false
-
--- after an entry that the machine takes, or refuses
-unfoldable pub onward : Machine → ℕ → Entry → Option Machine → Progress
-onward σ n e (some τ) = reached τ (n + 1)
-onward σ n e none = pick (closes σ e) (closed (n + 1)) (broken n)
-
--- one entry further: nothing may follow a closing silence, and what is broken stays broken
-unfoldable pub reads : Progress → Entry → Progress
-reads (reached σ n) e = onward σ n e (next rules σ e)
-reads (closed n) e = broken n
-reads (broken k) e = broken k
-
-unfoldable pub readsAll : Progress → List Entry → Progress
-readsAll m [] = m
-readsAll m (e ∷ es) = readsAll (reads m e) es
+abbrev pub readsAll : Progress → List Entry → Progress
+readsAll = Under.readsAll rules
 
 abbrev pub progressOf : List Entry → Progress
-progressOf es = readsAll begun es
+progressOf = Under.progressOf rules
 
--- what the last entry added to the number of list entries filled with zeros: nothing, where it was not taken
-unfoldable pub newBy : Progress → ℕ
-newBy (reached σ n) = newIn σ
-newBy (closed n) = 0
-newBy (broken k) = 0
-
--- what is said where the entries end
-unfoldable pub concluded : Progress → Ruling
-concluded (reached (at p) n) = says Inconclusive n 0
-concluded (reached (owes w) n) = says Inconclusive n 0
-concluded (reached done n) = says Pass n 0
-concluded (closed n) = says Inconclusive n 0
-concluded (broken k) = says Fail k 0
+-- what the last entry added to the number of list entries filled with zeros
+abbrev pub newBy : Progress → ℕ
+newBy = Under.newBy unsuppliedIn
 
 -- what is said in the end, where the rest of a tape reads as this
-unfoldable pub finally : Progress → Reading → Ruling
-finally m (entries es) = concluded (readsAll m es)
-finally m (unreadable place code) = says Unreadable place code
+abbrev pub finally : Progress → Reading → Ruling
+finally = Under.finally rules
 
 -- the verdict of a tape
-unfoldable pub verdictOf : List ℕ → Ruling
-verdictOf t = finally begun (readTape t)
+abbrev pub verdictOf : List ℕ → Ruling
+verdictOf = Under.verdictOf rules

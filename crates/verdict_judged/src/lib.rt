@@ -1,1 +1,1 @@
-// Verdicts of tapes: what they mean, and laws over them. There is no code here.
+// Verdicts of tapes by the rules of 01, and laws over them. There is no code here.

@@ -14,7 +14,7 @@ use Rattle.sessions.specs.Session as Under
 use Rattle.sessions.proofs.Payloads.{payload-bytes}
 use Rattle.rulebook.specs.Phase.{Phase}
 use Rattle.rulebook.specs.Session.{Plays, exchanged, heard, decided, Session, Beginning, AwaitsCard, Closed, Open, Lawful}
-use Rattle.verdict_judged.proofs.Stored.{storable-append}
+use Rattle.verdict_under.proofs.Stored.{storable-append}
 use Rattle.verdict_storable.proofs.Staying.{Stays, after-stays, turn-stays}
 use Rattle.verdict_storable.proofs.Payloads.{asked-payload, decision-payload}
 use Rattle.rulebook.proofs.Said.{kinds-readable}

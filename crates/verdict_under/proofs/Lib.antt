@@ -1,0 +1,10 @@
+pub mod Once
+pub mod Exactly
+pub mod Meaning
+pub mod Taking
+pub mod Blockwise
+pub mod Endings
+pub mod Silence
+pub mod Stored
+pub mod Summing
+pub mod Zeroing
