@@ -7,6 +7,7 @@ pub mod Kept
 pub mod Bound
 pub mod Named
 pub mod Roles
+pub mod Later
 pub mod Opening
 pub mod Made
 pub mod Offline

@@ -104,16 +104,18 @@ use Rattle.answer_gpo.specs.Options.{optionsReason as o316}
 use Rattle.answer_cryptogram.specs.Cryptogram.{informationOf as o317, cryptogramOf as o318, cryptogramWrong as o319}
 use Rattle.answer_cryptogram.specs.Cryptogram.{cryptogramLines as o320, cryptogramReason as o321}
 use Rattle.words.specs.Words.{wordKind as o322, wordAllowed as o323, wordRefusal as o324}
-use Rattle.rulebook.specs.Phase.{situationOf as o325, commandOf as o326, dueKind as o327, decisionOf as o328}
-use Rattle.rulebook.specs.Phase.{decided as o329, ended as o330, tvrOf as o331, tsiOf as o332}
-use Rattle.rulebook.specs.Roles.{given as o333, begins as o334}
-use Rattle.rulebook.specs.Situation.{begun as o335, knownIn as o336, listIn as o337}
-use Rattle.rulebook.specs.Turn.{goesOn as o338, opened as o339, selected as o340, managed as o341, requested as o342}
-use Rattle.rulebook.specs.Turn.{verifying as o343, allRead as o344, readOn as o345, withProfile as o346, optioned as o347}
-use Rattle.rulebook.specs.Turn.{withRecord as o348, recorded as o349, answered as o350, replied as o351, online as o352}
-use Rattle.rulebook.specs.Turn.{byFirst as o353, firstAnswered as o354, bySecond as o355, secondAnswered as o356}
-use Rattle.rulebook.specs.Turn.{turn as o357, wantedIn as o358, allowed as o359, replyMade as o360, issuerReplied as o361}
-use Rattle.rulebook.specs.Turn.{verifiedBy as o362, after as o363}
+use Rattle.rulebook.specs.Later.{asWas as o325, commandLater as o326, turnLater as o327, kindLater as o328}
+use Rattle.rulebook.specs.Later.{allowedLater as o329, afterLater as o330}
+use Rattle.rulebook.specs.Phase.{situationOf as o331, commandOf as o332, dueKind as o333, decisionOf as o334}
+use Rattle.rulebook.specs.Phase.{decided as o335, ended as o336, tvrOf as o337, tsiOf as o338}
+use Rattle.rulebook.specs.Roles.{given as o339, begins as o340}
+use Rattle.rulebook.specs.Situation.{begun as o341, knownIn as o342, listIn as o343}
+use Rattle.rulebook.specs.Turn.{goesOn as o344, opened as o345, selected as o346, managed as o347, requested as o348}
+use Rattle.rulebook.specs.Turn.{verifying as o349, allRead as o350, readOn as o351, withProfile as o352, optioned as o353}
+use Rattle.rulebook.specs.Turn.{withRecord as o354, recorded as o355, answered as o356, replied as o357, online as o358}
+use Rattle.rulebook.specs.Turn.{byFirst as o359, firstAnswered as o360, bySecond as o361, secondAnswered as o362}
+use Rattle.rulebook.specs.Turn.{turn as o363, wantedIn as o364, allowed as o365, replyMade as o366, issuerReplied as o367}
+use Rattle.rulebook.specs.Turn.{verifiedBy as o368, after as o369}
 
 -- the state that a session's entries lead to
 unfoldable pub reached : List Entry → Option Machine
@@ -130,5 +132,6 @@ unfolding o0 o1 o2 o3 o4 o5 o6 o7 o8 o9 o10 o11 o12 o13 o14 o15 o16 o17 o18 o19 
     o270 o271 o272 o273 o274 o275 o276 o277 o278 o279 o280 o281 o282 o283 o284 o285 o286 o287 o288 o289 o290 o291 o292 o293 o294
     o295 o296 o297 o298 o299 o300 o301 o302 o303 o304 o305 o306 o307 o308 o309 o310 o311 o312 o313 o314 o315 o316 o317 o318 o319
     o320 o321 o322 o323 o324 o325 o326 o327 o328 o329 o330 o331 o332 o333 o334 o335 o336 o337 o338 o339 o340 o341 o342 o343 o344
-    o345 o346 o347 o348 o349 o350 o351 o352 o353 o354 o355 o356 o357 o358 o359 o360 o361 o362 o363 run
+    o345 o346 o347 o348 o349 o350 o351 o352 o353 o354 o355 o356 o357 o358 o359 o360 o361 o362 o363 o364 o365 o366 o367 o368 o369
+    run
 reached es = run rules es (at opens)

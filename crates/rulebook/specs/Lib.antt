@@ -6,3 +6,4 @@ pub mod Session
 pub mod Stated
 pub mod Machine
 pub mod Roles
+pub mod Later

@@ -23,7 +23,7 @@ use Rattle.select_laws.proofs.WithoutEnd.{more, good-turn}
 use Rattle.sessions.specs.Rules.{asks}
 use Rattle.sessions.specs.Session as Under
 use Rattle.sessions.specs.Session.{exchanged, heard}
-use Rattle.verdict_editions.specs.Later.{AskedLater, turnLater, afterLater}
+use Rattle.rulebook.specs.Later.{AskedLater, turnLater, afterLater}
 use Rattle.start_choosing.specs.Start.{isListing}
 use Rattle.rulebook_choosing.specs.Choosing.{Choosing, ChoosingPhase, further, following, listed}
 use Rattle.rulebook_choosing.specs.Session.{Plays, Session}

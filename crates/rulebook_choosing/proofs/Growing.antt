@@ -15,7 +15,7 @@ use Rattle.rulebook.specs.Phase.{terminal, says, Phase, situationOf, tvrOf, tsi
 use Rattle.rulebook.specs.Turn.{turn, after}
 use Rattle.rulebook.specs.Stated as today
 use Rattle.rulebook.proofs.Growing as grown
-use Rattle.verdict_editions.specs.Later.{AskedLater, HeardLater, asWas, turnLater, afterLater}
+use Rattle.rulebook.specs.Later.{AskedLater, HeardLater, asWas, turnLater, afterLater}
 use Rattle.start_choosing.specs.Start.{isListing}
 use Rattle.rulebook_choosing.specs.Choosing.{Choosing, ChoosingPhase, further, listed}
 use Rattle.rulebook_choosing.specs.Session.{rules, Reads}

@@ -11,7 +11,7 @@ use Rattle.sessions.specs.Rules.{asks}
 use Rattle.sessions.specs.Session.{exchanged, heard, decided}
 use Rattle.rulebook.specs.Phase.{terminal}
 use Rattle.rulebook.specs.Turn.{after, opened}
-use Rattle.verdict_editions.specs.Later.{AskedLater, HeardLater, asWas, turnLater, afterLater}
+use Rattle.rulebook.specs.Later.{AskedLater, HeardLater, asWas, turnLater, afterLater}
 use Rattle.start_choosing.specs.Start.{isListing}
 use Rattle.rulebook_choosing.specs.Choosing.{Choosing, ChoosingPhase, further, listed}
 use Rattle.rulebook_choosing.specs.Session.{rules, Plays}

@@ -33,7 +33,7 @@ use Rattle.rulebook.specs.Turn.{turn, allowed, after, opened}
 use Rattle.rulebook.proofs.Said.{other-kinds, sample, sample-valid, sample-payload, can-say}
 use Rattle.rulebook.proofs.Coming as today
 use Rattle.rulebook.proofs.Passing.{Holds, anything-lasts, turn-holds, after-holds}
-use Rattle.verdict_editions.specs.Later.{AskedLater, HeardLater, asWas, turnLater, kindLater, allowedLater, afterLater}
+use Rattle.rulebook.specs.Later.{AskedLater, HeardLater, asWas, turnLater, kindLater, allowedLater, afterLater}
 use Rattle.start_choosing.specs.Start.{isListing}
 use Rattle.rulebook_choosing.specs.Choosing.{Choosing, ChoosingPhase, further, following, searched, mayChoose, isChoice, chose, listed}
 use Rattle.rulebook_choosing.specs.Session.{rules, longest}

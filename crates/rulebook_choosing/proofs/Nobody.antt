@@ -20,7 +20,7 @@ use Rattle.sessions.specs.Rules.{asks}
 use Rattle.sessions.specs.Session as Under
 use Rattle.sessions.specs.Session.{exchanged, heard, decided}
 use Rattle.rulebook.specs.Turn.{after}
-use Rattle.verdict_editions.specs.Later.{AskedLater, turnLater, allowedLater, afterLater}
+use Rattle.rulebook.specs.Later.{AskedLater, turnLater, allowedLater, afterLater}
 use Rattle.start_choosing.specs.Start.{isListing}
 use Rattle.rulebook_choosing.specs.Choosing.{Choosing, ChoosingPhase, further, following, listed}
 use Rattle.rulebook_choosing.specs.Session.{Plays, Session}

@@ -35,7 +35,7 @@ use Rattle.sessions.specs.Stated.{InRow}
 use Rattle.sessions.proofs.Rows.{reading-in-row}
 use Rattle.rulebook.specs.Phase.{Phase, terminal, says}
 use Rattle.rulebook.specs.Turn.{turn, after}
-use Rattle.verdict_editions.specs.Later.{AskedLater, HeardLater, asWas, turnLater, allowedLater, afterLater}
+use Rattle.rulebook.specs.Later.{AskedLater, HeardLater, asWas, turnLater, allowedLater, afterLater}
 use Rattle.start_choosing.specs.Start.{isListing, validListing}
 use Rattle.rulebook_choosing.specs.Choosing.{Choosing, ChoosingPhase, further, following, searched}
 use Rattle.rulebook_choosing.specs.Choosing.{isChoice, mayChoose, chose, listed}

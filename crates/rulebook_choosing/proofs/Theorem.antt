@@ -1,7 +1,7 @@
--- What holds of the rules with choosing, in one place. 02, R-12: all that holds of today's rules, and that a tape whose START has an
--- earlier length is judged by its own.
+-- What holds of the rules with choosing, in one place. 02, R-12: all that holds of today's rules. That a tape whose START has an earlier
+-- length is judged by its own is shown above, where verdicts are (verdict_choosing).
 -- Assumes nothing.
-use mathlib.Core.Path.{_≡_, refl}
+use mathlib.Core.Path.{_≡_}
 use mathlib.Core.Bool.{Bool, true}
 use mathlib.Core.List.{List, [], _∷_, _++_}
 use Prim.Native.Nat.{ℕ, _≤_}
@@ -12,9 +12,6 @@ use Rattle.select_names.specs.Names.{supported}
 use Rattle.select_list.specs.Kept.{candidateAt}
 use Rattle.select_search.specs.declared.Step.the-variants.{Final}
 use Rattle.select_laws.specs.Repeated.{missing}
-use Rattle.verdict.specs.declared.Ruling.{Ruling}
-use Rattle.verdict_under.specs.Judged.{JudgedUnder}
-use Rattle.verdict_judged.specs.Judged.{Judged}
 use Rattle.sessions.specs.Session as Under
 use Rattle.sessions.specs.Stated.{Finished, Sort, InRow}
 use Rattle.sessions.proofs.Bound as Any
@@ -22,13 +19,8 @@ use Rattle.sessions.proofs.Single.{prefix-free, reads-once, session-reads, begi
 use Rattle.sessions.proofs.Ends.{finishes}
 use Rattle.sessions.proofs.Trichotomy.{sorted, one-sort}
 use Rattle.sessions.proofs.Breaks.{one-break, break-unlawful, break-found}
-use Rattle.verdict_editions.specs.Editions.{Same, First, FirstOf}
-use Rattle.verdict_editions.specs.Later.{Earlier}
-use Rattle.verdict_editions.proofs.Later.{judged-as-it-was}
-use Rattle.rulebook.proofs.Said.{sample}
-use Rattle.rulebook.proofs.Kept.{sample-session}
 use Rattle.start_choosing.specs.Start.{isListing}
-use Rattle.rulebook_choosing.specs.Choosing.{Choosing, ChoosingPhase, searched, chose, choosing}
+use Rattle.rulebook_choosing.specs.Choosing.{Choosing, ChoosingPhase, searched, chose}
 use Rattle.rulebook_choosing.specs.Session.{rules, longest, Plays, Session, Beginning, Open, Lawful, BreaksAt, Reads}
 use Rattle.rulebook_choosing.specs.Stated.{GoesOn, Takes, actsOf, Hundred, Growing}
 use Rattle.rulebook_choosing.specs.Sent.{Each, Sound, SoundAt, Worded}
@@ -79,11 +71,9 @@ pub record Rulebook : Type 0 where
   pub untouched : (es : List Entry) (ps : List ChoosingPhase) → Reads es ps → Each Untouched ps
   -- a directory without end
   pub exhausted : (p : List ℕ) (es : List Entry) → isListing p ≡ true → Session (entry start p ∷ es) → Endless es → Exhausted p es
-  -- a tape whose START has another length is judged as today
-  pub earlier : (t : List ℕ) (a : Ruling) → FirstOf (Earlier choosing) t → Same (JudgedUnder rules t a) (Judged t a)
 
 pub rulebook : Rulebook
-unfolding Under.Session isListing kept toCome First
+unfolding Under.Session isListing kept toCome
 rulebook =
     record {
       inhabited = finishes kept (rules .opens);
@@ -110,5 +100,4 @@ rulebook =
       nobody-found = nobody;
       untouched = reading-untouched;
       exhausted = endless;
-      earlier = judged-as-it-was choosing (entry start sample ∷ sample-session .0, (refl, sample-session .1));
     }

@@ -25,7 +25,7 @@ use Rattle.rulebook.specs.Phase.{Asked, selecting, optioning, reading, first, s
 use Rattle.rulebook.specs.Turn.{goesOn, opened, selected, managed, requested, verifying, allRead, readOn, withProfile, optioned}
 use Rattle.rulebook.specs.Turn.{withRecord, recorded, answered, replied, online, byFirst, firstAnswered, secondAnswered}
 use Rattle.rulebook.specs.Turn.{turn, replyMade, issuerReplied, verifiedBy, after}
-use Rattle.verdict_editions.specs.Later.{AskedLater, HeardLater, asWas, turnLater, afterLater}
+use Rattle.rulebook.specs.Later.{AskedLater, HeardLater, asWas, turnLater, afterLater}
 use Rattle.start_choosing.specs.Start.{isListing}
 use Rattle.rulebook_choosing.specs.Choosing.{Choosing, ChoosingPhase, further, listed}
 use Rattle.rulebook_choosing.specs.Session.{rules, Reads}

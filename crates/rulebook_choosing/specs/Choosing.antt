@@ -18,7 +18,7 @@ use Rattle.select_search.specs.Heard.{heard}
 use Rattle.sessions.specs.Rules.{asks, hears, decides}
 use Rattle.rulebook.specs.Situation.{Situation, begun}
 use Rattle.rulebook.specs.Phase.{optioning}
-use Rattle.verdict_editions.specs.Later.{AskedLater, HeardLater, PhaseLater, Added}
+use Rattle.rulebook.specs.Later.{AskedLater, HeardLater, PhaseLater, Added}
 use Rattle.start_choosing.specs.Start.{isListing, validListing, withFirstAlone}
 
 -- a selection under way: what is known, which stays as it is until GPO; the applications of START; where the search stands. A command of

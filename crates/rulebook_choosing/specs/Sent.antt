@@ -13,7 +13,7 @@ use Rattle.select_search.specs.declared.Step.the-variants.{Environment, Directo
 use Rattle.select_laws.specs.Supported.{AllSupported, OneOfStart}
 use Rattle.select_laws.specs.Unasked.{TakenAt}
 use Rattle.sessions.specs.Rules.{asks, hears, decides}
-use Rattle.verdict_editions.specs.Later.{AskedLater, HeardLater}
+use Rattle.rulebook.specs.Later.{AskedLater, HeardLater}
 use Rattle.rulebook_choosing.specs.Choosing.{Choosing, ChoosingPhase}
 
 -- each of some phases is so

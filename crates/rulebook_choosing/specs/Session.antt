@@ -9,7 +9,7 @@ use Rattle.select_search.specs.Search.{mostExchanges}
 use Rattle.sessions.specs.Rules.{Rules}
 use Rattle.sessions.specs.Session as Under
 use Rattle.rulebook.specs.Situation.{Situation}
-use Rattle.verdict_editions.specs.Later.{AskedLater, HeardLater, later}
+use Rattle.rulebook.specs.Later.{AskedLater, HeardLater, later}
 use Rattle.rulebook_choosing.specs.Choosing.{Choosing, ChoosingPhase, choosing}
 
 abbrev pub rules : Rules (AskedLater Choosing) (HeardLater Choosing) Situation

@@ -15,7 +15,7 @@ use Rattle.sessions.specs.Rules.{asks, hears, decides}
 use Rattle.sessions.specs.Session.{exchanged, heard, decided}
 use Rattle.sessions.specs.Stated.{InRow}
 use Rattle.rulebook.specs.Phase.{optioning, situationOf, tvrOf, tsiOf}
-use Rattle.verdict_editions.specs.Later.{AskedLater, HeardLater}
+use Rattle.rulebook.specs.Later.{AskedLater, HeardLater}
 use Rattle.rulebook_choosing.specs.Choosing.{Choosing, ChoosingPhase, further}
 use Rattle.rulebook_choosing.specs.Session.{Plays}
 

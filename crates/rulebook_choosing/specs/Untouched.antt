@@ -6,7 +6,7 @@ use Rattle.slices.specs.Writing.{zeros}
 use Rattle.sessions.specs.Rules.{asks, hears, decides}
 use Rattle.rulebook.specs.Situation.{Situation}
 use Rattle.rulebook.specs.Phase.{selecting, optioning, reading, first, second}
-use Rattle.verdict_editions.specs.Later.{AskedLater, HeardLater}
+use Rattle.rulebook.specs.Later.{AskedLater, HeardLater}
 use Rattle.rulebook_choosing.specs.Choosing.{ChoosingPhase}
 
 abbrev pub Zeros : Situation → Type 0

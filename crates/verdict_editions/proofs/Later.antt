@@ -4,13 +4,15 @@
 use mathlib.Core.Path.{_≡_, refl, sym, ap, _∙_, subst}
 use mathlib.Core.List.{List}
 use Prim.Native.Nat.{ℕ}
-use Rattle.slices.proofs.Choice.{pick-no}
 use Rattle.sessions.specs.Rules.{asks, hears, decides}
 use Rattle.verdict.specs.declared.Ruling.{Ruling}
 use Rattle.rulebook.specs.Situation.{Situation}
 use Rattle.rulebook.specs.Phase.{Asked, Heard, terminal, says, Phase}
 use Rattle.rulebook.specs.Turn.{after, opened}
 use Rattle.rulebook.specs.Session.{rules}
+use Rattle.rulebook.specs.Later.{AskedLater, HeardLater, PhaseLater, Added, asWas, commandLater, turnLater, kindLater, allowedLater}
+use Rattle.rulebook.specs.Later.{afterLater, later, Earlier}
+use Rattle.rulebook.proofs.Later.{said-allows, start-allows, start-after}
 use Rattle.rulebook.proofs.Said.{other-kinds}
 use Rattle.rulebook.proofs.Passing.{Holds, anything-lasts, turn-holds, after-holds}
 use Rattle.rulebook_zeros.specs.Zeros.{unsuppliedIn}
@@ -19,8 +21,6 @@ use Rattle.verdict_under.specs.Zeroed.{ZeroedUnder}
 use Rattle.verdict_judged.specs.Judged.{Judged}
 use Rattle.verdict_judged.specs.Zeroed.{Zeroed}
 use Rattle.verdict_editions.specs.Editions.{Same, FirstOf, Pairing, Alike, GoAlike, OpenAlike, CountAlike, Some}
-use Rattle.verdict_editions.specs.Later.{AskedLater, HeardLater, PhaseLater, Added, asWas, commandLater, turnLater}
-use Rattle.verdict_editions.specs.Later.{kindLater, allowedLater, afterLater, later, Earlier}
 use Rattle.verdict_editions.proofs.Sessions.{session-same}
 use Rattle.verdict_editions.proofs.Tapes.{judged-same, zeroed-same}
 
@@ -73,10 +73,10 @@ module _ {A H : Type 0} (added : Added A H) where
   said-on terminal p never = absurd never
   said-on (says word s) p spoken = alike-was A H (rules .after (says word s) p) (after-holds (λ t. Unit {0}) word s p tt)
 
-  said-allows : (h : Heard) (p : List ℕ) → Spoken h → allowedLater added (HeardLater.was h) p ≡ rules .allowed h p
-  unfolding allowedLater Holds
-  said-allows terminal p never = absurd never
-  said-allows (says word s) p spoken = refl
+  spoken-allows : (h : Heard) (p : List ℕ) → Spoken h → allowedLater added (HeardLater.was h) p ≡ rules .allowed h p
+  unfolding Holds
+  spoken-allows terminal p never = absurd never
+  spoken-allows (says word s) p spoken = said-allows added word s p
 
   goes : GoAlike (forerunner A H) (later added) rules
   unfolding commandLater kindLater
@@ -87,7 +87,7 @@ module _ {A H : Type 0} (added : Added A H) where
             λ q w a e.
             subst (λ (x : AskedLater A). Alike (forerunner A H) (turnLater added x a) (rules .turn w a)) (sym e) (asked-on w a);
         kinds = λ x h e. ap (kindLater added) (e .0);
-        allows = λ x h p e. ap (λ (y : HeardLater H). allowedLater added y p) (e .0) ∙ said-allows h p (e .1);
+        allows = λ x h p e. ap (λ (y : HeardLater H). allowedLater added y p) (e .0) ∙ spoken-allows h p (e .1);
         afters =
             λ x h p e.
             subst (λ (y : HeardLater H). Alike (forerunner A H) (afterLater added y p) (rules .after h p)) (sym (e .0))
@@ -100,15 +100,11 @@ module _ {A H : Type 0} (added : Added A H) where
 
   -- ---- a START of an earlier edition
 
-  start-allows : (p : List ℕ) → Earlier added p → allowedLater added (HeardLater.was terminal) p ≡ rules .allowed terminal p
-  unfolding allowedLater
-  start-allows p e = pick-no _ _ _ e
-
   start-on : (p : List ℕ) → Earlier added p
       → Alike (forerunner A H) (afterLater added (HeardLater.was terminal) p) (rules .after terminal p)
-  unfolding afterLater after opened Holds
+  unfolding after opened Holds
   start-on p e =
-      subst (λ (q : PhaseLater A H). Alike (forerunner A H) q (rules .after terminal p)) (sym (pick-no _ _ _ e))
+      subst (λ (q : PhaseLater A H). Alike (forerunner A H) q (rules .after terminal p)) (sym (start-after added p e))
       (alike-was A H (rules .after terminal p) tt)
 
   opens : OpenAlike (forerunner A H) (later added) rules (Earlier added)
@@ -121,7 +117,7 @@ module _ {A H : Type 0} (added : Added A H) where
         old-opens = refl;
         kind = refl;
         other = other-kinds terminal;
-        allows = start-allows;
+        allows = start-allows added;
         afters = λ p e fits. start-on p e;
       }
 

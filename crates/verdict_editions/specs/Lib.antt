@@ -1,3 +1,2 @@
--- Two editions of the rules: where both go alike, and an edition that adds to today's.
+-- Two editions of the rules: where both go alike.
 pub mod Editions
-pub mod Later
