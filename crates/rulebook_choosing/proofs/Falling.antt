@@ -41,7 +41,7 @@ use Rattle.rulebook.specs.Session as today
 use Rattle.rulebook.proofs.Opening.{reached}
 use Rattle.rulebook.proofs.Made.{startOf, withList}
 use Rattle.rulebook.proofs.Longest.{optionsAsked}
-use Rattle.verdict_editions.specs.Later.{AskedLater, HeardLater, asWas, allowedLater, afterLater}
+use Rattle.rulebook.specs.Later.{AskedLater, HeardLater, asWas, allowedLater, afterLater}
 use Rattle.rulebook_choosing.specs.Choosing.{Choosing, ChoosingPhase, further, following, searched, chose, listed}
 
 -- ---- the terminal and the card

@@ -34,7 +34,7 @@ use Rattle.rulebook.proofs.Passing.{Holds, anything-lasts, turn-holds, after-ho
 use Rattle.rulebook.proofs.Opening.{reached}
 use Rattle.rulebook.proofs.Made.{select, withList}
 use Rattle.rulebook.proofs.Longest.{optionsAsked, fromOptions, options-played, options-long}
-use Rattle.verdict_editions.specs.Later.{AskedLater, HeardLater, asWas, commandLater, turnLater, kindLater, allowedLater, afterLater}
+use Rattle.rulebook.specs.Later.{AskedLater, HeardLater, asWas, commandLater, turnLater, kindLater, allowedLater, afterLater}
 use Rattle.rulebook_choosing.specs.Choosing.{ChoosingPhase, searched, isChoice, mayChoose}
 use Rattle.rulebook_choosing.specs.Session.{rules, Plays, Session, longest}
 use Rattle.rulebook_choosing.proofs.Falling.{listing, directory, record28, noRecord, missing, computed, listing-valid, one, at}
