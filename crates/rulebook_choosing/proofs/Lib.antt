@@ -8,6 +8,9 @@ pub mod Ends
 pub mod Nobody
 pub mod Endless
 pub mod Untouched
+pub mod OtherAid
+pub mod OtherTurns
+pub mod Unlooked
 pub mod Falling
 pub mod Longest
 pub mod Worked

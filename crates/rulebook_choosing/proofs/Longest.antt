@@ -20,35 +20,25 @@ use Rattle.commands.specs.Commands.{recordCommand}
 use Rattle.select_answers.specs.Files.{environment}
 use Rattle.select_list.specs.Order.{mostShown, shownOf}
 use Rattle.select_search.specs.Search as search
-use Rattle.select_search.specs.Search.{selectBy, commandAt, asked, goes}
+use Rattle.select_search.specs.Search.{selectBy, commandAt, asked}
 use Rattle.select_search.specs.Directory.{nextRecord}
 use Rattle.select_search.specs.declared.Step.{Step}
 use Rattle.select_search.specs.declared.Step.the-variants.{Environment, Directory, Final}
 use Rattle.sessions.specs.Rules.{asks, hears}
 use Rattle.sessions.specs.Session as Under
-use Rattle.sessions.specs.Session.{isPayload, exchanged, heard as said, decided}
+use Rattle.sessions.specs.Session.{isPayload, exchanged, heard as said}
 use Rattle.rulebook.specs.Situation.{begun}
-use Rattle.rulebook.specs.Phase.{Phase, terminal, says}
+use Rattle.rulebook.specs.Phase.{terminal}
 use Rattle.rulebook.specs.Session as today
-use Rattle.rulebook.proofs.Passing.{Holds, anything-lasts, turn-holds, after-holds}
 use Rattle.rulebook.proofs.Opening.{reached}
 use Rattle.rulebook.proofs.Made.{select, withList}
-use Rattle.rulebook.proofs.Longest.{optionsAsked, fromOptions, options-played, options-long}
-use Rattle.rulebook.specs.Later.{AskedLater, HeardLater, asWas, commandLater, turnLater, kindLater, allowedLater, afterLater}
+use Rattle.rulebook.proofs.Longest.{fromOptions, options-played, options-long}
+use Rattle.rulebook.specs.Later.{AskedLater, HeardLater, commandLater, turnLater, kindLater, allowedLater, afterLater}
 use Rattle.rulebook_choosing.specs.Choosing.{ChoosingPhase, searched, isChoice, mayChoose}
 use Rattle.rulebook_choosing.specs.Session.{rules, Plays, Session, longest}
+use Rattle.rulebook_choosing.proofs.Unlooked.{from-today}
 use Rattle.rulebook_choosing.proofs.Falling.{listing, directory, record28, noRecord, missing, computed, listing-valid, one, at}
 use Rattle.rulebook_choosing.proofs.Falling.{environment-found, record-read, complete, sent, falls-out, runs}
-
--- ---- where today's rules go on
-
--- what is played under today's rules from a phase other than the opening is played under these
-as-today : {p : Phase} {es : List Entry} → Holds (λ s. Unit {0}) p → today.Plays p es → Plays (asWas p) es
-unfolding asWas commandLater turnLater kindLater allowedLater afterLater Holds
-as-today h (exchanged {w} {a = a} same ok play) = exchanged same ok (as-today (turn-holds (λ s. Unit {0}) anything-lasts w a tt) play)
-as-today h (said {h = terminal} same fits ok play) = absurd h
-as-today h (said {h = says word s} {p = p} same fits ok play) = said same fits ok (as-today (after-holds (λ t. Unit {0}) word s p tt) play)
-as-today h (decided same) = decided same
 
 -- ---- the entries
 
@@ -112,10 +102,6 @@ withList-payload : isPayload withList ≡ true
 unfolding computed
 withList-payload = refl
 
-today-goes-on : Plays (asWas optionsAsked) fromOptions
-unfolding Holds
-today-goes-on = as-today {p = optionsAsked} tt options-played
-
 -- as often in vain as there are exchanges before the hundredth
 taken-often : (k m e : ℕ) (step : Step) (fallen : Bool) → e + k ≡ 99 → k < m → Plays (hears (HeardLater.new (at e step fallen m))) (rounds k)
 taken-often k zero e step fallen left there = absurd (omega arith)
@@ -123,7 +109,7 @@ taken-often zero (suc m) e step fallen left there =
     takes e step fallen m (omega arith) withList withList-payload
     (subst (λ (n : ℕ). Plays (searched (at n (Final 0 true) fallen (suc m)) withList) fromOptions)
     (let hundred : 100 ≡ e + 1 = omega arith in hundred)
-    (subst (λ (p : ChoosingPhase). Plays p fromOptions) (sym (runs fallen m)) today-goes-on))
+    (subst (λ (p : ChoosingPhase). Plays p fromOptions) (sym (runs fallen m)) (from-today tt options-played)))
 taken-often (suc k) (suc zero) e step fallen left there = absurd (omega arith)
 taken-often (suc k) (suc (suc m)) e step fallen left there =
     takes e step fallen (suc m) (omega arith) missing missing-payload

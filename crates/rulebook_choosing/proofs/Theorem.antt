@@ -20,6 +20,9 @@ use Rattle.sessions.proofs.Ends.{finishes}
 use Rattle.sessions.proofs.Trichotomy.{sorted, one-sort}
 use Rattle.sessions.proofs.Breaks.{one-break, break-unlawful, break-found}
 use Rattle.start_choosing.specs.Start.{isListing}
+use Rattle.rulebook.specs.Phase.{Phase}
+use Rattle.rulebook.specs.Later.{asWas}
+use Rattle.rulebook.specs.Session as today
 use Rattle.rulebook_choosing.specs.Choosing.{Choosing, ChoosingPhase, searched, chose}
 use Rattle.rulebook_choosing.specs.Session.{rules, longest, Plays, Session, Beginning, Open, Lawful, BreaksAt, Reads}
 use Rattle.rulebook_choosing.specs.Stated.{GoesOn, Takes, actsOf, Hundred, Growing}
@@ -27,6 +30,7 @@ use Rattle.rulebook_choosing.specs.Sent.{Each, Sound, SoundAt, Worded}
 use Rattle.rulebook_choosing.specs.Nobody.{AnswersAll, NobodyFound}
 use Rattle.rulebook_choosing.specs.Endless.{Endless, Exhausted}
 use Rattle.rulebook_choosing.specs.Untouched.{Untouched}
+use Rattle.rulebook_choosing.specs.Unlooked.{phaseWith, FromOptions, Unlooked}
 use Rattle.rulebook_choosing.proofs.Selecting.{searched-on, chose-on}
 use Rattle.rulebook_choosing.proofs.Kept.{toCome, kept}
 use Rattle.rulebook_choosing.proofs.Growing.{reading-grows}
@@ -36,6 +40,7 @@ use Rattle.rulebook_choosing.proofs.Sent.{reading-sound, sent-supported
 use Rattle.rulebook_choosing.proofs.Nobody.{nobody}
 use Rattle.rulebook_choosing.proofs.Endless.{endless}
 use Rattle.rulebook_choosing.proofs.Untouched.{reading-untouched}
+use Rattle.rulebook_choosing.proofs.Unlooked.{unlooked, unlooked-on}
 
 pub record Rulebook : Type 0 where
   pub inhabited : (es : List Entry) × Session es
@@ -69,6 +74,9 @@ pub record Rulebook : Type 0 where
       → NobodyFound p es
   -- TVR and TSI are zeros at every phase of a selection, at GPO and at every record
   pub untouched : (es : List Entry) (ps : List ChoosingPhase) → Reads es ps → Each Untouched ps
+  -- from GPO on neither the AID nor the list of START is looked at
+  pub unlooked : (aid : List ℕ) {p : Phase} {es : List Entry} → FromOptions p → (play : today.Plays p es) → Unlooked aid play
+  pub unlooked-on : (aid : List ℕ) (p : Phase) (es : List Entry) → FromOptions p → Plays (asWas p) es → Plays (asWas (phaseWith aid p)) es
   -- a directory without end
   pub exhausted : (p : List ℕ) (es : List Entry) → isListing p ≡ true → Session (entry start p ∷ es) → Endless es → Exhausted p es
 
@@ -99,5 +107,7 @@ rulebook =
       worded = reading-worded;
       nobody-found = nobody;
       untouched = reading-untouched;
+      unlooked = unlooked;
+      unlooked-on = unlooked-on;
       exhausted = endless;
     }

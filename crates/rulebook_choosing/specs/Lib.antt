@@ -6,3 +6,4 @@ pub mod Sent
 pub mod Nobody
 pub mod Endless
 pub mod Untouched
+pub mod Unlooked
