@@ -228,24 +228,13 @@ second-list-counts = record {
   another = readsAll _ refl;
 }
 
+-- one name after the other
+also : {A B : Type 0} → A → B → A × B
+also a b = (a, b)
+
 -- a pair for each, in their order
 pub each-counts : Each (λ (name : ℕ). Matters name 0) recordNames
-each-counts = (
-  number-counts,
-  (
-    expiry-counts,
-    (
-      effective-counts,
-      (
-        version-counts,
-        (
-          first-list-counts,
-          (
-            second-list-counts,
-            (default-counts, (denial-counts, (online-counts, (verification-counts, (currency-counts, tt))))),
-          ),
-        ),
-      ),
-    ),
-  ),
-)
+each-counts =
+    also number-counts (also expiry-counts (also effective-counts (also version-counts (also first-list-counts (also
+    second-list-counts (also default-counts (also denial-counts (also online-counts (also verification-counts (also
+    currency-counts tt))))))))))

@@ -8,11 +8,9 @@ use Prim.Native.Nat.{ℕ, _+_}
 use Rattle.slices.specs.Choice.{pick, unlessEmpty}
 use Rattle.slices.specs.Tests.{isSome}
 use Rattle.facts.specs.Facts.{Facts}
-use Rattle.start_fields.specs.Reading.{Terminal, bytesOf}
-use Rattle.start_fields.specs.declared.fields.Field.{Field}
-use Rattle.start_fields.specs.declared.fields.Field.the-variants.{Amount, OtherAmount, Country, Currency, Date, TransactionType}
-use Rattle.start_fields.specs.declared.fields.Field.the-variants.{Unpredictable, FloorLimit, Threshold, Version, Denial, Online, Default}
-use Rattle.start_fields.specs.declared.fields.Field.the-variants.{Capabilities}
+use Rattle.start_fields.specs.Reading.{Terminal}
+use Rattle.start_fields.specs.Bare.{terminalWith}
+use Rattle.start_fields.proofs.Reading.{other-aid-read}
 use Rattle.decide_requests.specs.Requests.{firstRequest, secondRequest}
 use Rattle.decide_requests.specs.declared.reply.HostReply.{HostReply}
 use Rattle.decide_requests.specs.declared.reply.HostReply.the-variants.{Approve, Decline, Unable}
@@ -33,7 +31,6 @@ use Rattle.rulebook.specs.Turn.{managed}
 use Rattle.rulebook.proofs.Opening.{reached}
 use Rattle.verdict_under.specs.Counted as Under
 use Rattle.rulebook_choosing.specs.Session as Later
-use Rattle.rulebook_choosing.specs.Unlooked.{terminalWith}
 
 -- ---- object lists
 
@@ -41,26 +38,9 @@ module _ (aid : List ℕ) (t : Terminal) (k : Facts) where
   abbrev t′ : Terminal
   t′ = terminalWith aid t
 
-  field-same : (f : Field) → bytesOf f t′ ≡ bytesOf f t
-  unfolding terminalWith
-  field-same Amount = refl
-  field-same OtherAmount = refl
-  field-same Country = refl
-  field-same Currency = refl
-  field-same Date = refl
-  field-same TransactionType = refl
-  field-same Unpredictable = refl
-  field-same FloorLimit = refl
-  field-same Threshold = refl
-  field-same Version = refl
-  field-same Denial = refl
-  field-same Online = refl
-  field-same Default = refl
-  field-same Capabilities = refl
-
   value-same : (other : Option (List ℕ)) (own : Own) → valueBy t′ other own ≡ valueBy t other own
   unfolding valueBy
-  value-same other (Of f) = ap unlessEmpty (field-same f)
+  value-same other (Of f) = ap unlessEmpty (other-aid-read aid t f)
   value-same other Nothing = refl
 
   supplied-same : (tag : ℕ) → supplied t′ k tag ≡ supplied t k tag

@@ -42,7 +42,8 @@ use Rattle.rulebook.specs.Turn.{replyMade, issuerReplied, verifiedBy, after}
 use Rattle.verdict_under.specs.Counted as Under
 use Rattle.rulebook_zeros.specs.Zeros.{unsuppliedAsking, unsuppliedIn}
 use Rattle.rulebook_choosing.specs.Session as Later
-use Rattle.rulebook_choosing.specs.Unlooked.{terminalWith, situationWith, askedWith, heardWith, phaseWith, FromOptions}
+use Rattle.start_fields.specs.Bare.{terminalWith}
+use Rattle.rulebook_choosing.specs.Unlooked.{situationWith, askedWith, heardWith, phaseWith, FromOptions}
 use Rattle.rulebook_choosing.proofs.OtherAid.{filling-same, unsupplied-same, due-same, managed-bits, verified-bits, request-same}
 use Rattle.rulebook_choosing.proofs.OtherAid.{second-same, names-same}
 

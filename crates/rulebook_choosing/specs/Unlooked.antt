@@ -6,7 +6,7 @@ use mathlib.Core.Path.{_≡_}
 use mathlib.Core.List.{List, map}
 use Prim.Native.Nat.{ℕ}
 use Rattle.tape_read.specs.Entries.{Entry}
-use Rattle.start_fields.specs.Reading.{Terminal}
+use Rattle.start_fields.specs.Bare.{terminalWith}
 use Rattle.sessions.specs.Rules.{asks, hears, decides}
 use Rattle.sessions.specs.Session.{phasesOf}
 use Rattle.rulebook.specs.Situation.{Situation}
@@ -15,30 +15,6 @@ use Rattle.rulebook.specs.Session.{rules, Plays}
 use Rattle.rulebook_zeros.specs.Zeros.{addedBy}
 
 -- the same with another AID
-unfoldable pub terminalWith : List ℕ → Terminal → Terminal
-terminalWith aid t =
-    record {
-      kind = t .kind;
-      amount = t .amount;
-      otherAmount = t .otherAmount;
-      country = t .country;
-      currency = t .currency;
-      date = t .date;
-      transactionType = t .transactionType;
-      unpredictable = t .unpredictable;
-      floorLimit = t .floorLimit;
-      random = t .random;
-      target = t .target;
-      threshold = t .threshold;
-      maximum = t .maximum;
-      version = t .version;
-      denial = t .denial;
-      online = t .online;
-      default = t .default;
-      aid = aid;
-      capabilities = t .capabilities;
-    }
-
 unfoldable pub situationWith : List ℕ → Situation → Situation
 situationWith aid s =
     record { terminal = terminalWith aid (s .terminal); profile = s .profile; facts = s .facts; tvr = s .tvr; tsi = s .tsi }

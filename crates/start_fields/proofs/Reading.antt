@@ -18,7 +18,8 @@ use Rattle.start_fields.specs.declared.fields.Field.the-variants.{Versio
 use Rattle.start_fields.specs.declared.fields.Octet.{Octet}
 use Rattle.start_fields.specs.declared.fields.Octet.the-variants.{Kind, Random, Target, Maximum}
 use Rattle.start_fields.specs.Layout.{beginOf, sizeOf, startLength, fullLength, isLength}
-use Rattle.start_fields.specs.Reading.{readingOf, bytesOf, octetOf, runIn, octetIn}
+use Rattle.start_fields.specs.Bare.{terminalWith}
+use Rattle.start_fields.specs.Reading.{Terminal, readingOf, bytesOf, octetOf, runIn, octetIn}
 
 pub bytes-read : (f : Field) (s : List ℕ) → bytesOf f (readingOf s) ≡ runIn f s
 unfolding readingOf
@@ -43,6 +44,24 @@ octet-read Kind s = refl
 octet-read Random s = refl
 octet-read Target s = refl
 octet-read Maximum s = refl
+
+-- with another AID all other fields are what they were
+pub other-aid-read : (aid : List ℕ) (t : Terminal) (f : Field) → bytesOf f (terminalWith aid t) ≡ bytesOf f t
+unfolding terminalWith
+other-aid-read aid t Amount = refl
+other-aid-read aid t OtherAmount = refl
+other-aid-read aid t Country = refl
+other-aid-read aid t Currency = refl
+other-aid-read aid t Date = refl
+other-aid-read aid t TransactionType = refl
+other-aid-read aid t Unpredictable = refl
+other-aid-read aid t FloorLimit = refl
+other-aid-read aid t Threshold = refl
+other-aid-read aid t Version = refl
+other-aid-read aid t Denial = refl
+other-aid-read aid t Online = refl
+other-aid-read aid t Default = refl
+other-aid-read aid t Capabilities = refl
 
 -- every run of bytes has at most six bytes
 few : (f : Field) → sizeOf f ≤ 6

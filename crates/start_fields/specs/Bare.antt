@@ -1,4 +1,4 @@
--- Terminals for worked cases, of which only what a case turns on is given. Their STARTs have 74 bytes.
+-- Terminals for worked cases, of which only what a case turns on is given (their STARTs have 74 bytes); and any terminal with another AID.
 -- Assumes nothing.
 use mathlib.Core.List.{List, []}
 use mathlib.Core.Option.{none}
@@ -77,5 +77,30 @@ telling t date version unpredictable =
       online = t .online;
       default = t .default;
       aid = t .aid;
+      capabilities = t .capabilities;
+    }
+
+-- a terminal with another AID and nothing else changed
+unfoldable pub terminalWith : List ℕ → Terminal → Terminal
+terminalWith aid t =
+    record {
+      kind = t .kind;
+      amount = t .amount;
+      otherAmount = t .otherAmount;
+      country = t .country;
+      currency = t .currency;
+      date = t .date;
+      transactionType = t .transactionType;
+      unpredictable = t .unpredictable;
+      floorLimit = t .floorLimit;
+      random = t .random;
+      target = t .target;
+      threshold = t .threshold;
+      maximum = t .maximum;
+      version = t .version;
+      denial = t .denial;
+      online = t .online;
+      default = t .default;
+      aid = aid;
       capabilities = t .capabilities;
     }
