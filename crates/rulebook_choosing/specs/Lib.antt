@@ -1,6 +1,7 @@
 -- The rules with choosing the application: document 02, R-12.
 pub mod Choosing
 pub mod Session
+pub mod Machine
 pub mod Stated
 pub mod Sent
 pub mod Nobody

@@ -8,6 +8,7 @@ use Rattle.answer_afl.specs.Entries.{mostRecords}
 use Rattle.select_search.specs.Search.{mostExchanges}
 use Rattle.sessions.specs.Rules.{Rules}
 use Rattle.sessions.specs.Session as Under
+pub use Rattle.sessions.specs.Session.{exchanged, heard, decided}
 use Rattle.rulebook.specs.Situation.{Situation}
 use Rattle.rulebook.specs.Later.{AskedLater, HeardLater, later}
 use Rattle.rulebook_choosing.specs.Choosing.{Choosing, ChoosingPhase, choosing}
@@ -25,6 +26,12 @@ Session = Under.Session rules
 abbrev pub Beginning : List Entry → Type 0
 Beginning = Under.Beginning rules
 
+abbrev pub AwaitsCard : List Entry → Type 0
+AwaitsCard = Under.AwaitsCard rules
+
+abbrev pub Closed : List Entry → Type 0
+Closed = Under.Closed rules
+
 abbrev pub Open : List Entry → Type 0
 Open = Under.Open rules
 
@@ -36,6 +43,9 @@ BreaksAt = Under.BreaksAt rules
 
 abbrev pub Reads : List Entry → List ChoosingPhase → Type 0
 Reads = Under.Reads rules
+
+abbrev pub LeadsTo : List Entry → ChoosingPhase → Type 0
+LeadsTo = Under.LeadsTo rules
 
 -- the most choices of a selection. Each is followed by an exchange, which has one application less to offer when it fails; and by the time
 -- that enough of them stand in the list, four records of the directory were read

@@ -1,1 +1,4 @@
+pub mod Once
+pub mod Exactly
+pub mod Meaning
 pub mod Earlier

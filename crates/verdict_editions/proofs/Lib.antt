@@ -3,3 +3,4 @@ pub mod Sessions
 pub mod Tapes
 pub mod Agreeing
 pub mod Later
+pub mod Was
