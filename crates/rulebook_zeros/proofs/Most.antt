@@ -1,7 +1,6 @@
 -- The sum stays small: each of the three lists has at most 252 bytes, for it is a part of an answer, and each of its entries takes two or
 -- more. So no more than 126 entries of a list are ever counted, and what is still to be counted falls with each list that is.
 -- Assumes nothing.
-use mathlib.Core.Path.{_≡_, refl, subst}
 use mathlib.Core.List.{List, [], _∷_}
 use mathlib.Core.Option.{Option, none, some, Option·getD}
 use Prim.Native.Nat.{ℕ, _+_, _*_, _≤_}
@@ -21,17 +20,14 @@ use Rattle.facts.specs.Facts.{Facts, orElse}
 use Rattle.start_fields.specs.Reading.{Terminal}
 use Rattle.dol_fill.specs.Filled.{unsupplied}
 use Rattle.dol_fill.proofs.Missing.{unsupplied-half}
-use Rattle.sessions.specs.Machine.{next}
-use Rattle.sessions.proofs.Running.{chosen, no-state}
 use Rattle.rulebook.specs.Situation.{Situation, begun, knownIn, listIn}
 use Rattle.rulebook.specs.Phase.{Asked, selecting, optioning, reading, first, second, Heard}
 use Rattle.words.specs.declared.Word.{Word}
 use Rattle.words.specs.declared.Word.the-variants.{Host, Results}
-use Rattle.rulebook.specs.Phase.{terminal, says, Phase, opens, asks, hears, decides}
+use Rattle.rulebook.specs.Phase.{terminal, says, Phase, asks, hears, decides}
 use Rattle.rulebook.specs.Turn.{goesOn, opened, selected, managed, requested, verifying, allRead, readOn}
 use Rattle.rulebook.specs.Turn.{withProfile, optioned, withRecord, recorded, answered, replied, online, byFirst}
 use Rattle.rulebook.specs.Turn.{firstAnswered, secondAnswered, turn, replyMade, issuerReplied, verifiedBy, after}
-use Rattle.rulebook.specs.Machine.{Machine, at, owes, done}
 use Rattle.dol_wanted.specs.Wanted.{fillable}
 use Rattle.answer_gpo.specs.Options.{profileOf, locatorOf}
 use Rattle.answer_cryptogram.specs.Cryptogram.{cryptogramOf}
@@ -46,48 +42,48 @@ use Rattle.decide_requests.specs.declared.reply.HostReply.{HostReply}
 use Rattle.decide_requests.specs.declared.reply.HostReply.the-variants.{Unable}
 use Rattle.decide_requests.specs.Replies.{codeIn, replyOf, responseCode}
 use Rattle.rulebook.specs.Phase.{situationOf, ended, decided}
-use Rattle.verdict_under.specs.Summing as Under
+use Rattle.verdict_under.proofs.Bounding.{sum-most}
 use Rattle.rulebook_zeros.specs.Zeros.{mostEntries, unsuppliedAsking, unsuppliedIn}
-use Rattle.rulebook_zeros.specs.Summing.{newIn, countOn, zerosFrom, zerosOf}
+use Rattle.rulebook_zeros.specs.Summing.{zerosOf}
 use Rattle.rulebook.specs.Session.{rules}
 
 -- what was told of any tag is no longer than an answer has room for
-abbrev Short : Situation → Type 0
+abbrev pub Short : Situation → Type 0
 Short s = (tag : ℕ) → length (listIn s tag) ≤ valueMost
 
 -- the situation of a phase is so, where a list may still be filled from it
-abbrev ShortIn : Phase → Type 0
+abbrev pub ShortIn : Phase → Type 0
 ShortIn (asks w) = Short (situationOf w)
 ShortIn (hears terminal) = Unit {0}
 ShortIn (hears (says word s)) = Short s
 ShortIn (decides outcome reason s) = Unit {0}
 
 -- the most that the lists still to come can add
-unfoldable leftAsking : Asked → ℕ
+unfoldable pub leftAsking : Asked → ℕ
 leftAsking (selecting s) = 3 * mostEntries
 leftAsking (optioning s list) = 2 * mostEntries
 leftAsking (reading s number file rest) = 2 * mostEntries
 leftAsking (first s request) = mostEntries
 leftAsking (second s request code) = 0
 
-unfoldable leftBefore : Word → ℕ
+unfoldable pub leftBefore : Word → ℕ
 leftBefore Host = mostEntries
 leftBefore Results = 2 * mostEntries
 
-unfoldable leftIn : Phase → ℕ
+unfoldable pub leftIn : Phase → ℕ
 leftIn (asks w) = leftAsking w
 leftIn (hears terminal) = 3 * mostEntries
 leftIn (hears (says word s)) = leftBefore word
 leftIn (decides outcome reason s) = 0
 
 -- a phase adds and leaves no more than n
-abbrev Within : ℕ → Phase → Type 0
+abbrev pub Within : ℕ → Phase → Type 0
 Within n p = ShortIn p × (unsuppliedIn p + leftIn p ≤ n)
 
 few : (t : Terminal) (k : Facts) (list : List ℕ) → length list ≤ valueMost → unsupplied t k list ≤ mostEntries
 few t k list h = let two = unsupplied-half t k list in omega arith
 
-options-few : (s : Situation) (list : List ℕ) → length list ≤ valueMost → unsuppliedIn (asks (optioning s list)) ≤ mostEntries
+pub options-few : (s : Situation) (list : List ℕ) → length list ≤ valueMost → unsuppliedIn (asks (optioning s list)) ≤ mostEntries
 unfolding unsuppliedIn unsuppliedAsking
 options-few s list h = few (s .terminal) (knownIn s none) list h
 
@@ -194,7 +190,7 @@ unfolding readOn unsuppliedIn unsuppliedAsking leftIn leftAsking situationOf
 read-within s short [] = all-read-within s short
 read-within s short (r ∷ rest) = (short, omega arith)
 
-turn-within : (w : Asked) (a : List ℕ) → Short (situationOf w) → Within (leftAsking w) (turn w a)
+pub turn-within : (w : Asked) (a : List ℕ) → Short (situationOf w) → Within (leftAsking w) (turn w a)
 unfolding turn leftAsking selected optioned recorded firstAnswered secondAnswered situationOf leftIn
 turn-within (selecting s) a short =
     let size = list-size a in
@@ -206,57 +202,13 @@ turn-within (reading s number file rest) a short = goes-within _ _ s _ (read-wit
 turn-within (first s request) a short = goes-within _ _ s _ (by-first-within (answered s) (answered-short s short) (cryptogramOf a))
 turn-within (second s request code) a short = goes-within _ _ s _ (decided-within 0 _ s)
 
-after-within : (h : Heard) (p : List ℕ) → ShortIn (hears h) → Within (leftIn (hears h)) (after h p)
+pub after-within : (h : Heard) (p : List ℕ) → ShortIn (hears h) → Within (leftIn (hears h)) (after h p)
 unfolding after opened issuerReplied leftIn leftAsking leftBefore unsuppliedIn unsuppliedAsking situationOf begun listIn
 after-within terminal p short = ((λ tag. omega arith), omega arith)
 after-within (says Host s) p short = replied-within s short (replyMade (replyOf p)) (codeIn p)
 after-within (says Results s) p short = requested-within (verifiedBy s p) (verified-short s short p) (afterRecords (s .facts))
 
--- ---- and so does the machine
-
--- what is short, and what is left, in a state of the machine
-abbrev ShortAt : Machine → Type 0
-ShortAt (at p) = ShortIn p
-ShortAt (owes w) = Short (situationOf w)
-ShortAt done = Unit {0}
-
-unfoldable leftAt : Machine → ℕ
-leftAt (at p) = leftIn p
-leftAt (owes w) = leftAsking w
-leftAt done = 0
-
-abbrev Moves : Machine → Machine → Type 0
-Moves σ τ = ShortAt τ × (newIn τ + leftAt τ ≤ leftAt σ)
-
-moved-to : (σ τ ρ : Machine) → some τ ≡ some ρ → Moves σ τ → Moves σ ρ
-moved-to σ τ ρ e h = let same : τ ≡ ρ = cc e in subst (Moves σ) same h
-
-next-within : (σ ρ : Machine) (e : Entry) → ShortAt σ → next rules σ e ≡ some ρ → Moves σ ρ
-unfolding next Under.newIn leftAt leftIn
-next-within (at (asks w)) ρ e short h = moved-to (at (asks w)) (owes w) ρ (chosen _ _ ρ h .1) (short, omega arith)
-next-within (at (hears x)) ρ e short h =
-    moved-to (at (hears x)) (at (after x (e .payload))) ρ (chosen _ _ ρ h .1) (after-within x (e .payload) short)
-next-within (at (decides outcome reason s)) ρ e short h =
-    moved-to (at (decides outcome reason s)) done ρ (chosen _ _ ρ h .1) (tt, omega arith)
-next-within (owes w) ρ e short h = moved-to (owes w) (at (turn w (e .payload))) ρ (chosen _ _ ρ h .1) (turn-within w (e .payload) short)
-next-within done ρ e short h = no-state ρ h
-
-counted-within : (f : Machine → ℕ) (n : ℕ) (o : Option Machine) → ((τ : Machine) → o ≡ some τ → newIn τ + f τ ≤ n) → countOn f o ≤ n
-unfolding Under.countOn
-counted-within f n none h = omega arith
-counted-within f n (some τ) h = h τ refl
-
-zeros-within : (es : List Entry) (σ : Machine) → ShortAt σ → zerosFrom es σ ≤ leftAt σ
-unfolding Under.zerosFrom
-zeros-within [] σ short = omega arith
-zeros-within (e ∷ es) σ short =
-    counted-within (zerosFrom es) (leftAt σ) (next rules σ e) (λ τ h.
-    let m = next-within σ τ e short h in
-    let rest = zeros-within es τ (m .0) in
-    let here = m .1 in
-    omega arith)
-
 -- the fourth number of any entries is at most three lists' entries
 pub zeros-most : (es : List Entry) → zerosOf es ≤ 3 * mostEntries
-unfolding leftAt leftIn
-zeros-most es = zeros-within es (at opens) tt
+unfolding leftIn
+zeros-most es = sum-most rules unsuppliedIn ShortIn leftIn turn-within after-within tt es

@@ -9,3 +9,4 @@ pub mod WithoutEnd
 pub mod Numbers
 pub mod Packed
 pub mod Choices
+pub mod Runs

@@ -8,3 +8,4 @@ pub mod Free
 pub mod Endless
 pub mod Numbered
 pub mod Choices
+pub mod Runs

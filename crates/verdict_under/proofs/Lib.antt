@@ -8,3 +8,4 @@ pub mod Silence
 pub mod Stored
 pub mod Summing
 pub mod Zeroing
+pub mod Bounding
