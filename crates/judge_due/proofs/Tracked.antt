@@ -13,7 +13,8 @@ use Rattle.rulebook.specs.Phase.{Heard, terminal, says, asks, hears, decides, d
 use Rattle.rulebook.specs.Machine.{Machine, at, owes, done}
 use Rattle.rulebook_due.specs.Due.{Due as Rule, nothing, countIn}
 use Rattle.rulebook_due.specs.After.{dueAt, dueIn, dueAfter}
-use Rattle.rulebook_due.proofs.After.{none-due, unlawful-due}
+use Rattle.due_under.specs.After as Under
+use Rattle.due_under.proofs.After.{none-due, unlawful-due}
 use Rattle.rulebook.specs.Session.{rules}
 use Rattle.rulebook.proofs.Kept.{kept}
 use Rattle.session_phase.specs.Waiting.{wantedOf, awaited, countDue, outcomeOf, reasonOf}
@@ -39,10 +40,10 @@ dueBy (closed n) = nothing
 dueBy (broken k) = nothing
 
 means-due : (es : List Entry) (m : Progress) → Means rules m es → dueBy m ≡ dueAfter es
-unfolding dueBy dueAfter dueIn Means
+unfolding dueBy Under.dueAfter Under.dueIn Means
 means-due es (reached σ n) h = sym (ap dueIn (h .0))
-means-due es (closed n) h = sym (none-due es (λ b. not-begun kept es b (h .0)))
-means-due es (broken k) h = sym (unlawful-due es (break-unlawful kept es k h))
+means-due es (closed n) h = sym (none-due kept es (λ b. not-begun kept es b (h .0)))
+means-due es (broken k) h = sym (unlawful-due kept es (break-unlawful kept es k h))
 
 -- ---- by what the judgement expects
 
@@ -70,7 +71,7 @@ module _ (j : Judgement) (out : List ℕ) where
       ∙ sym (stands-decision (j .state) outcome reason z s)
 
   expected : (σ : Machine) → Expects j σ → stageDue (j .stage) j out ≡ told (dueAt σ) out
-  unfolding Expects stageDue commandDue decisionDue dueAt told
+  unfolding Expects stageDue commandDue decisionDue Under.dueAt told
   expected (at (asks w)) x = staged _ (x .1 .0) ∙ ap (λ (c : List ℕ). withBytes command c out) (x .1 .1)
   expected (at (hears h)) x = staged _ (x .0) ∙ ap (λ (d : DueNext). handed d out) (word-due h (x .1))
   expected (at (decides outcome reason z)) x =

@@ -1,3 +1,1 @@
-pub mod After
-pub mod Following
 pub mod Theorem

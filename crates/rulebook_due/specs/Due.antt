@@ -1,27 +1,16 @@
--- What can be due on a tape, and which entries fit it. 01, "What the kernel plays and who decides" and "The tape"; 02, R-7.
+-- What can be due on a tape by the rules of 01, and which entries fit it (Due of due_under). 01, "What the kernel plays and who decides"
+-- and "The tape"; 02, R-7.
 -- Assumes nothing.
-use mathlib.Core.Path.{_≡_}
-use mathlib.Core.Bool.{true}
-use mathlib.Core.List.{List, []}
-use mathlib.Core.Logic.{_⊎_}
 use Prim.Native.Nat.{ℕ}
-use Rattle.numbers.specs.Tables.{command, answer, silence, decision}
-use Rattle.tape_read.specs.Entries.{Entry, entry}
-use Rattle.sessions.specs.Session.{isPayload}
-use Rattle.rulebook.specs.Phase.{Heard, terminal, says, dueKind}
-use Rattle.rulebook.specs.Turn.{wantedIn, allowed}
+use Rattle.tape_read.specs.Entries.{Entry}
+use Rattle.rulebook.specs.Phase.{Heard, terminal, says}
+use Rattle.rulebook.specs.Turn.{wantedIn}
+use Rattle.rulebook.specs.Session.{rules}
+use Rattle.due_under.specs.Due as Under
+pub use Rattle.due_under.specs.Due.{asking, answering, saying, deciding, nothing}
 
-pub data Due : Type 0 where
-  -- the command with these bytes
-  asking : List ℕ → Due
-  -- the card's answer
-  answering : Due
-  -- what somebody other than the card says: START, or a word
-  saying : Heard → Due
-  -- the decision with these bytes
-  deciding : List ℕ → Due
-  -- nothing: after a decision, after a closing silence, and where the rules were broken
-  nothing : Due
+abbrev pub Due : Type 0
+Due = Under.Due Heard
 
 -- how many are wanted of what is counted in what somebody says; 0 where nothing is (02, R-7)
 unfoldable pub countIn : Heard → ℕ
@@ -29,9 +18,5 @@ countIn terminal = 0
 countIn (says word s) = wantedIn word s
 
 -- the entries that fit. Where the card owes an answer a silence with no payload fits too, and closes the session
-unfoldable pub Fits : Due → Entry → Type 0
-Fits (asking c) e = e ≡ entry command c
-Fits answering e = ((e .kind ≡ answer) × (isPayload (e .payload) ≡ true)) ⊎ (e ≡ entry silence [])
-Fits (saying h) e = (e .kind ≡ dueKind h) × ((allowed h (e .payload) ≡ true) × (isPayload (e .payload) ≡ true))
-Fits (deciding d) e = e ≡ entry decision d
-Fits nothing e = ⊥
+abbrev pub Fits : Due → Entry → Type 0
+Fits = Under.Fits rules

@@ -12,7 +12,7 @@ use Rattle.slices.proofs.Choice.{picked, pick-ap}
 use Rattle.tape_read.specs.Entries.{Entry}
 use Rattle.tape_read.specs.Tapes.{Reading, entries, unreadable, readTape}
 use Rattle.sessions.specs.Session.{isPayload}
-use Rattle.sessions.specs.Machine.{due, sayable, next}
+use Rattle.sessions.specs.Machine.{due, sayable, next, andOn, run}
 use Rattle.sessions.proofs.Running.{chosen, no-state}
 use Rattle.rulebook.specs.Phase.{terminal, says, Phase, opens, asks, hears, decides}
 use Rattle.rulebook.specs.Turn.{turn, after, opened}
@@ -98,6 +98,30 @@ module _ {A H : Type 0} (added : Added A H) where
   next-was (at (decides outcome reason s)) e h = sym (pick-ap wasNext _ _ _)
   next-was (owes w) e h = sym (pick-ap wasNext _ _ _)
   next-was done e h = refl
+
+  -- and the states after it, as far as there are any
+  and-on-was : (es : List Entry) (o : Option Machine)
+      → ((τ : Machine) → o ≡ some τ → run (later added) es (wasState τ) ≡ wasNext (run rules es τ))
+      → andOn (run (later added) es) (wasNext o) ≡ wasNext (andOn (run rules es) o)
+  unfolding andOn wasNext
+  and-on-was es none h = refl
+  and-on-was es (some τ) h = h τ refl
+
+  run-rest : (es : List Entry) (σ : Machine) → Started σ → run (later added) es (wasState σ) ≡ wasNext (run rules es σ)
+  unfolding run wasNext
+  run-rest [] σ h = refl
+  run-rest (e ∷ es) σ h =
+      ap (andOn (run (later added) es)) (next-was σ e (of-today σ e h))
+      ∙ and-on-was es (next rules σ e) (λ τ n. run-rest es τ (next-starts σ τ e n))
+
+  -- from the opening on, where START is of an earlier edition
+  pub run-was : (es : List Entry) → First (Earlier added) es
+      → run (later added) es (at (later added .opens)) ≡ wasNext (run rules es (at opens))
+  unfolding run wasNext wasState asWas First
+  run-was [] first = refl
+  run-was (e ∷ es) first =
+      ap (andOn (run (later added) es)) (next-was (at opens) e first)
+      ∙ and-on-was es (next rules (at opens) e) (λ τ n. run-rest es τ (next-starts (at opens) τ e n))
 
   closes-was : (σ : Machine) (e : Entry) → closes (wasState {A = A} {H = H} σ) e ≡ closes σ e
   unfolding closes wasState
