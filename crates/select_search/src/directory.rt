@@ -7,6 +7,7 @@ use crate::going::go;
 use crate::status::has_status;
 use answer_common::answer::inside;
 use answer_common::content::RECORD;
+use numbers::FOR_NOBODY;
 use select_answers::directory::ENTRY;
 use select_answers::directory::entry_indicator;
 use select_answers::directory::entry_name;
@@ -48,7 +49,7 @@ pub fn after_environment(stand: Stand, answer: &[u8]) -> Turn
     ensures { λ r. ⌜ r ≡ turnOf (afterEnvironment (searchOf stand []) (now (answer .entry))) ⌝ }
 {
     if has_status(answer, 0x6A81) {
-        return Turn::Over(12);
+        return Turn::Over(FOR_NOBODY);
     }
     let file = directory_file(answer);
     if is_environment(answer, file) {

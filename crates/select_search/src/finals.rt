@@ -7,6 +7,8 @@ use crate::going::offer;
 use crate::status::has_status;
 use answer_select::pdol;
 use dol_wanted::is_fillable;
+use numbers::FOR_LIST;
+use numbers::FOR_NOBODY;
 use select_answers::files::application_name;
 use select_answers::files::is_application;
 use select_list::joining::remove;
@@ -60,7 +62,7 @@ fn unattended(stand: Stand, list: &[u8]) -> Turn
     ensures { λ r. ⌜ r ≡ turnOf (unattendedOf (searchOf stand (listIn (now (list .entry))))) ⌝ }
 {
     if confirms_at(list, 0) {
-        return Turn::Over(12);
+        return Turn::Over(FOR_NOBODY);
     }
     go(
         stand,
@@ -75,7 +77,7 @@ pub fn final_turn(stand: Stand, start: &[u8], list: &[u8]) -> Turn
     ensures { λ r. ⌜ r ≡ turnOf (finalSelection (applicationsIn (now (start .entry))) (searchOf stand (listIn (now (list .entry))))) ⌝ }
 {
     if count(list) == 0 {
-        return Turn::Over(12);
+        return Turn::Over(FOR_NOBODY);
     }
     if can_choose(start) {
         return attended(stand, list);
@@ -128,7 +130,7 @@ pub fn after_final(
         if is_fillable(pdol(answer)) {
             return Turn::Runs;
         }
-        return Turn::Over(9);
+        return Turn::Over(FOR_LIST);
     }
     remove(list, at);
     final_turn(less_one(stand, taken), start, list)

@@ -2,6 +2,7 @@
 use crate::Stand;
 use crate::Step;
 use crate::Turn;
+use numbers::FOR_EXCHANGES;
 ghost use mathlib.Core.Path.{_≡_};
 ghost use mathlib.Core.List.{[]};
 ghost use Rattle.select_search.specs.Search.{goes, offers};
@@ -22,7 +23,7 @@ pub fn go(stand: Stand, step: Step) -> Turn
             fallen: stand.fallen,
         });
     }
-    Turn::Over(11)
+    Turn::Over(FOR_EXCHANGES)
 }
 
 pub fn offer(stand: Stand) -> Turn
@@ -31,5 +32,5 @@ pub fn offer(stand: Stand) -> Turn
     if stand.exchanges < MOST {
         return Turn::Shows(stand);
     }
-    Turn::Over(11)
+    Turn::Over(FOR_EXCHANGES)
 }

@@ -28,5 +28,5 @@ pub enum Turn {
     Asks(Stand),
     Shows(Stand),
     Runs,
-    Over(u8),
+    Over(usize),
 }

@@ -5,6 +5,7 @@ use crate::Turn;
 use crate::finals::final_turn;
 use crate::going::go;
 use crate::status::has_status;
+use numbers::FOR_NOBODY;
 use select_answers::files::application_indicator;
 use select_answers::files::application_name;
 use select_answers::files::is_application;
@@ -133,7 +134,7 @@ pub fn after_listed(
         (now (answer .entry))) ⌝ }
 {
     if is_refused(aid, again, answer) {
-        return Turn::Over(12);
+        return Turn::Over(FOR_NOBODY);
     }
     if is_found(answer) {
         return compared(stand, aid, start, answer, list);

@@ -8,6 +8,8 @@ use crate::finals::after_final;
 use crate::going::go;
 use crate::listing::after_listed;
 use crate::status::is_size_bad;
+use numbers::FOR_NOBODY;
+use numbers::FOR_SIZE;
 use select_list::joining::clear;
 use select_list::reading::SIZE;
 ghost use mathlib.Core.Path.{_≡_};
@@ -36,7 +38,7 @@ pub fn chosen(stand: Stand, place: u8) -> Turn
     ensures { λ r. ⌜ r ≡ turnOf (chosenOf (searchOf stand []) place) ⌝ }
 {
     if place == 0xFF {
-        return Turn::Over(12);
+        return Turn::Over(FOR_NOBODY);
     }
     go(stand, Step::Final { place, taken: true })
 }
@@ -76,7 +78,7 @@ pub fn heard(stand: Stand, start: &[u8], answer: &[u8], list: &mut [u8; SIZE]) -
 {
     if is_size_bad(answer) {
         clear(list);
-        return Turn::Over(1);
+        return Turn::Over(FOR_SIZE);
     }
     let step = stand.step;
     let turn = heard_at(stand, step, start, answer, list);
