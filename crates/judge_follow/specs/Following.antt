@@ -14,7 +14,7 @@ use Rattle.commands.specs.Commands.{longest}
 use Rattle.session_phase.specs.Waiting.{kindOf}
 use Rattle.session_phase.specs.declared.Speaker.{Speaker}
 use Rattle.session_phase.specs.declared.Waiting.{Waiting}
-use Rattle.session_phase.specs.declared.Waiting.the-variants.{ForCard, ForWord, Decided as DecidedKept, Closed as ClosedKept}
+use Rattle.session_phase.specs.declared.Waiting.the-variants.{Searching, ForCard, ForWord, Decided as DecidedKept, Closed as ClosedKept}
 use Rattle.session_phase.specs.declared.Reply.{Reply}
 use Rattle.session_phase.specs.declared.Reply.the-variants.{Command as CommandReply, Due, Decided, Closed as ClosedReply, Refused}
 use Rattle.session_state.specs.Results.{decisionIn}
@@ -69,6 +69,7 @@ spoken speaker j index kind p =
 
 unfoldable pub wordAt : Waiting → Judgement → ℕ → ℕ → List ℕ → Judgement
 wordAt (ForWord speaker) j index kind p = spoken speaker j index kind p
+wordAt Searching j index kind p = staged (Broken index) j
 wordAt (ForCard question) j index kind p = staged (Broken index) j
 wordAt (DecidedKept outcome reason) j index kind p = staged (Broken index) j
 wordAt ClosedKept j index kind p = staged (Broken index) j

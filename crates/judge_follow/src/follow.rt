@@ -154,6 +154,7 @@ fn at_word(j: Judgement, index: usize, kind: u8, payload: &[u8]) -> Judgement
     let waiting = state.waiting;
     match waiting {
         Waiting::ForWord(speaker) => by_speaker(j, speaker, index, kind, payload),
+        Waiting::Searching => stage(j, Stage::Broken(index)),
         Waiting::ForCard(_) => stage(j, Stage::Broken(index)),
         Waiting::Decided(_, _) => stage(j, Stage::Broken(index)),
         Waiting::Closed => stage(j, Stage::Broken(index)),

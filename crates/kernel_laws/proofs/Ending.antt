@@ -19,7 +19,7 @@ use Rattle.rulebook.specs.Session.{Session as WholeSession, Open, Closed as Clo
 use Rattle.rulebook.proofs.Kept.{kept}
 use Rattle.session_phase.specs.Waiting.{awaited, isOver, isDecided, isClosed}
 use Rattle.session_phase.specs.declared.Waiting.{Waiting}
-use Rattle.session_phase.specs.declared.Waiting.the-variants.{ForCard, ForWord, Decided, Closed}
+use Rattle.session_phase.specs.declared.Waiting.the-variants.{Searching, ForCard, ForWord, Decided, Closed}
 use Rattle.session_laws.proofs.Reaching.{reached-open}
 use Rattle.kernel_refusals.specs.Refusals.{refusalLines, callRefusal}
 use Rattle.kernel.specs.declared.Session.{Session}
@@ -68,6 +68,7 @@ plays-append cs ds = from-append cs ds _
 -- ---- the two ends
 decided-over : (x : Waiting) → isDecided x ≡ true → isOver x ≡ true
 unfolding isDecided isOver awaited
+decided-over Searching e = absurd (false≢true e)
 decided-over (ForCard question) e = absurd (false≢true e)
 decided-over (ForWord speaker) e = absurd (false≢true e)
 decided-over (Decided outcome reason) e = refl
@@ -75,6 +76,7 @@ decided-over Closed e = refl
 
 is-closed : (x : Waiting) → isClosed x ≡ true → x ≡ Closed
 unfolding isClosed
+is-closed Searching e = absurd (false≢true e)
 is-closed (ForCard question) e = absurd (false≢true e)
 is-closed (ForWord speaker) e = absurd (false≢true e)
 is-closed (Decided outcome reason) e = absurd (false≢true e)

@@ -13,6 +13,7 @@ use Rattle.slices.proofs.Choice.{either, and-left, and-right}
 use Rattle.numbers.specs.Tables.{silence}
 use Rattle.tape_read.specs.Entries.{Entry}
 use Rattle.decide_tvr.proofs.Rows.{joined-self, kept-on}
+use Rattle.session_phase.specs.declared.Speaker.the-variants.{Terminal}
 use Rattle.session_phase.specs.declared.Waiting.the-variants.{ForWord, Closed}
 use Rattle.session_state.specs.Keeping.{changed}
 use Rattle.session_state.specs.declared.State.{State}
@@ -55,7 +56,7 @@ module _ (s : Session) (even : Even (s .state)) (c : Call) where
 stands-even : (s : Session) (es : List Entry) → Stands s es → Even (s .state)
 stands-even s es (going there) = reached-even (s .state) es there
 stands-even s es (shut c) =
-    λ speaker e. absurd (let same : Closed ≡ ForWord speaker = sym (c .closed) ∙ e in let z : _≡_ {A = ℕ} 0 1 = cc same in omega arith)
+    λ e. absurd (let same : Closed ≡ ForWord Terminal = sym (c .closed) ∙ e in let z : _≡_ {A = ℕ} 0 1 = cc same in omega arith)
 
 keeps-on : (s t u : State) → Keeps s t → Keeps t u → Keeps s u
 keeps-on s t u h k =

@@ -21,7 +21,7 @@ use Rattle.rulebook.specs.Machine.{done}
 use Rattle.rulebook.proofs.Kept.{kept}
 use Rattle.session_phase.specs.Waiting.{isDecided}
 use Rattle.session_phase.specs.declared.Waiting.{Waiting}
-use Rattle.session_phase.specs.declared.Waiting.the-variants.{ForCard, ForWord, Decided, Closed}
+use Rattle.session_phase.specs.declared.Waiting.the-variants.{Searching, ForCard, ForWord, Decided, Closed}
 use Rattle.session_state.specs.declared.State.{State}
 use Rattle.session_moves.specs.Moves.{keptAs}
 use Rattle.session_laws.specs.Agreeing.{StandsAt}
@@ -34,6 +34,7 @@ use Rattle.kernel_laws.proofs.Lasting.{Stands, going, shut, silenced-lo
 
 is-decided : (x : Waiting) → isDecided x ≡ true → (outcome : ℕ) × ((reason : ℕ) × (x ≡ Decided outcome reason))
 unfolding isDecided
+is-decided Searching e = absurd (false≢true e)
 is-decided (ForCard question) e = absurd (false≢true e)
 is-decided (ForWord speaker) e = absurd (false≢true e)
 is-decided (Decided outcome reason) e = (outcome, (reason, refl))

@@ -18,7 +18,7 @@ use Rattle.kernel.specs.declared.Session.{Session}
 use Rattle.session_phase.specs.Saying.{refusalBy}
 use Rattle.session_phase.specs.declared.Reply.the-variants.{Refused}
 use Rattle.session_phase.specs.declared.Waiting.{Waiting}
-use Rattle.session_phase.specs.declared.Waiting.the-variants.{ForCard, ForWord, Decided, Closed}
+use Rattle.session_phase.specs.declared.Waiting.the-variants.{Searching, ForCard, ForWord, Decided, Closed}
 use Rattle.kernel_refusals.specs.Refusals.{wordLines, refusalLines, callRefusal}
 use Rattle.kernel.specs.Calls.{Called, refused}
 use Rattle.kernel_laws.specs.Log.{Call, made}
@@ -82,6 +82,7 @@ none-number (l ∷ lines) h = pick-no _ _ _ (h 0) ∙ none-number lines (λ n. h
 words-numbered : (waiting : Waiting) (p : List ℕ) → numbered (wordLines waiting p) ≡ true
 unfolding wordLines every
 words-numbered (ForWord speaker) p = pick-yes _ _ _ (ap not (ne-eqb (refusalBy speaker) 0 (word-number speaker)))
+words-numbered Searching p = refl
 words-numbered (ForCard question) p = refl
 words-numbered (Decided outcome reason) p = refl
 words-numbered Closed p = refl

@@ -12,14 +12,15 @@ use borrow.Author.Tests.{eqb-true, eqb-false}
 use Rattle.slices.proofs.Choice.{either}
 use Rattle.numbers.specs.Tables.{silence}
 use Rattle.tape_read.specs.Entries.{Entry}
-use Rattle.rulebook.specs.Phase.{Phase, asks, hears, decides}
+use Rattle.rulebook.specs.Phase.{Phase, asks, hears, decides, terminal, says}
 use Rattle.rulebook.specs.Turn.{turn, after as afterWord}
 use Rattle.session_phase.specs.Waiting.{awaited, isOver}
+use Rattle.session_phase.specs.declared.Speaker.the-variants.{Terminal, Says, Shopper}
 use Rattle.session_phase.specs.declared.Waiting.{Waiting}
-use Rattle.session_phase.specs.declared.Waiting.the-variants.{ForCard, ForWord, Decided, Closed}
-use Rattle.session_phase.specs.declared.Reply.the-variants.{Refused}
-use Rattle.session_state.specs.Reading.{askedBy, heardBy}
-use Rattle.session_moves.specs.Moves.{replyIn, moved}
+use Rattle.session_phase.specs.declared.Waiting.the-variants.{Searching, ForCard, ForWord, Decided, Closed}
+use Rattle.session_phase.specs.declared.Reply.the-variants.{Closed as ClosedReply, Refused}
+use Rattle.session_state.specs.Reading.{late, askedBy}
+use Rattle.session_moves.specs.Moves.{replyIn, moved, shut}
 use Rattle.session_events.specs.Events.{answerStep, wordStep, stepAt, step}
 use Rattle.kernel_refusals.specs.Refusals.{callRefusal}
 use Rattle.kernel.specs.declared.Session.{Session}
@@ -35,11 +36,18 @@ no-number (asks w) room n e = let z : _≡_ {A = ℕ} 0 1 = cc e in omega arith
 no-number (hears h) room n e = let z : _≡_ {A = ℕ} 0 1 = cc e in omega arith
 no-number (decides outcome reason z) room n e = let z : _≡_ {A = ℕ} 0 1 = cc e in omega arith
 
+-- nor is a session that is closed
+no-refusal : (n : ℕ) → ClosedReply ≡ Refused n → ⊥
+no-refusal n e = let z : _≡_ {A = ℕ} 0 1 = cc e in omega arith
+
 module _ (s : Session) (e : Entry) (buf : List ℕ) where
   step-reply : (x : Waiting) → isOver x ≡ false → (n : ℕ) → stepAt x (s .state) (e .payload) buf .reply ≡ Refused n → ⊥
-  unfolding stepAt answerStep wordStep moved isOver awaited
+  unfolding stepAt answerStep wordStep moved shut isOver awaited
+  step-reply Searching g n h = no-refusal n h
   step-reply (ForCard question) g n h = no-number (turn (askedBy question (s .state)) (e .payload)) (length buf) n h
-  step-reply (ForWord speaker) g n h = no-number (afterWord (heardBy speaker (s .state)) (e .payload)) (length buf) n h
+  step-reply (ForWord Terminal) g n h = no-number (afterWord terminal (e .payload)) (length buf) n h
+  step-reply (ForWord (Says word count)) g n h = no-number (afterWord (says word (late (s .state))) (e .payload)) (length buf) n h
+  step-reply (ForWord (Shopper shown)) g n h = no-refusal n h
   step-reply (Decided outcome reason) g n h = false≢true (sym g)
   step-reply Closed g n h = false≢true (sym g)
 

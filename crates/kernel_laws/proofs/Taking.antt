@@ -31,7 +31,7 @@ use Rattle.session_phase.specs.Waiting.{kindOf, awaited, isOver}
 use Rattle.session_phase.specs.declared.Question.{Question}
 use Rattle.session_phase.specs.declared.Speaker.{Speaker}
 use Rattle.session_phase.specs.declared.Waiting.{Waiting}
-use Rattle.session_phase.specs.declared.Waiting.the-variants.{ForCard, ForWord, Decided, Closed}
+use Rattle.session_phase.specs.declared.Waiting.the-variants.{Searching, ForCard, ForWord, Decided, Closed}
 use Rattle.session_state.specs.Keeping.{changed}
 use Rattle.session_moves.specs.Moves.{Moved}
 use Rattle.session_phase.specs.Saying.{allowedBy}
@@ -40,7 +40,7 @@ use Rattle.session_laws.specs.Agreeing.{StandsAt}
 use Rattle.session_laws.specs.Logging.{logged as ruled, Follows as Steps, Reached}
 use Rattle.session_laws.proofs.Words.{no-answer, kind-due, allowed-by, allowed-short}
 use Rattle.session_laws.proofs.Stepping.{answer-step, word-step}
-use Rattle.session_laws.proofs.Reaching.{reached-on, reached-asked, reached-word}
+use Rattle.session_laws.proofs.Reaching.{reached-on, reached-asked, reached-word, reached-no-search}
 use Rattle.kernel_refusals.specs.Refusals.{isDue, startBad, answerBad, wordLines}
 use Rattle.kernel_refusals.proofs.OwnTests.{of-kind}
 use Rattle.kernel.specs.declared.Session.{Session}
@@ -72,12 +72,13 @@ module _ (x : Waiting) (e : Entry) (d : isDue x e ≡ true) (k : e .kind ≡ sil
       as-entry e silence k
       ∙ ap (entry silence) (none-left (e .payload) (eqb-true (length (e .payload)) 0 (and-right (eqb (awaited x) answer) _ silent-due)))
 
-waits-card : (x : Waiting) → awaited x ≡ answer → (question : Question) × (x ≡ ForCard question)
+waits-card : (x : Waiting) → (x ≡ Searching → ⊥) → awaited x ≡ answer → (question : Question) × (x ≡ ForCard question)
 unfolding awaited
-waits-card (ForCard question) e = (question, refl)
-waits-card (ForWord speaker) e = absurd (no-answer speaker e)
-waits-card (Decided outcome reason) e = absurd (omega arith)
-waits-card Closed e = absurd (omega arith)
+waits-card Searching never e = absurd (never refl)
+waits-card (ForCard question) never e = (question, refl)
+waits-card (ForWord speaker) never e = absurd (no-answer speaker e)
+waits-card (Decided outcome reason) never e = absurd (omega arith)
+waits-card Closed never e = absurd (omega arith)
 
 -- ---- an event that is taken, and is no silence: the machine stands where it is due, and the call is a step of the session's
 pub record Taken (es : List Entry) (e : Entry) (buf : List ℕ) (before : ℕ) (r : Called) : Type 0 where
@@ -142,6 +143,7 @@ module _ (s : Session) (es : List Entry) (buf : List ℕ) (there : Reached (s .s
 
     by-waiting : (x : Waiting) → s .state .waiting ≡ x → Taken es e buf (s .zeros) (accepted (s .zeros) stepped)
     unfolding isOver awaited
+    by-waiting Searching k = absurd (reached-no-search (s .state) es there k)
     by-waiting (ForCard question) k = on-card question k
     by-waiting (ForWord speaker) k = on-word speaker k
     by-waiting (Decided outcome reason) k = over (Decided outcome reason) k refl
@@ -158,7 +160,7 @@ module _ (s : Session) (es : List Entry) (buf : List ℕ) (there : Reached (s .s
     pub silence-taken : Silenced (closedAfter s buf .session) (es ++ (entry silence [] ∷ []))
     unfolding closedAfter closedState changed tvrOf tsiOf
     silence-taken =
-        let q = waits-card (s .state .waiting) (silent-waits (s .state .waiting) e (passed .due) k) in
+        let q = waits-card (s .state .waiting) (reached-no-search (s .state) es there) (silent-waits (s .state .waiting) e (passed .due) k) in
         let w = reached-asked (s .state) es there (q .0) (q .1) in
         record {
           before = es;

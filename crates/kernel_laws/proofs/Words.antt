@@ -12,15 +12,16 @@ use Rattle.slices.specs.Choice.{firstOf}
 use Rattle.slices.proofs.Lines.{line-clear, last-no}
 use Rattle.start_valid.specs.Start.{beginsSession}
 use Rattle.start_valid.proofs.Laws.{begins-valid}
-use Rattle.numbers.specs.Tables.{start, answer}
+use Rattle.numbers.specs.Tables.{start, answer, choice}
 use Rattle.tape_read.specs.Entries.{entry}
 use Rattle.words.specs.Words.{wordKind, wordAllowed}
+use Rattle.words.specs.Choice.{isChoice}
 use Rattle.words.proofs.Laws.{other-kind as word-kind, no-start, some-refusal}
 use Rattle.session_phase.specs.Waiting.{kindOf}
 use Rattle.session_phase.specs.Saying.{allowedBy, refusalBy}
 use Rattle.session_phase.specs.declared.Question.{Question}
 use Rattle.session_phase.specs.declared.Speaker.{Speaker}
-use Rattle.session_phase.specs.declared.Speaker.the-variants.{Terminal, Says}
+use Rattle.session_phase.specs.declared.Speaker.the-variants.{Terminal, Says, Shopper}
 use Rattle.session_phase.specs.declared.Waiting.the-variants.{ForCard, ForWord}
 use Rattle.kernel_refusals.specs.Refusals.{startBad, answerBad, wordLines}
 use Rattle.kernel_refusals.proofs.OwnTests.{other-kind}
@@ -29,17 +30,20 @@ use Rattle.kernel_refusals.proofs.OwnTests.{other-kind}
 unfoldable pub takenBy : Speaker → List ℕ → Bool
 takenBy Terminal p = beginsSession p
 takenBy (Says word count) p = wordAllowed word count p
+takenBy (Shopper shown) p = isChoice shown p
 
 pub taken-allowed : (p : List ℕ) (speaker : Speaker) → takenBy speaker p ≡ true → allowedBy speaker p ≡ true
 unfolding takenBy allowedBy
 taken-allowed p Terminal fits = begins-valid p fits
 taken-allowed p (Says word count) fits = fits
+taken-allowed p (Shopper shown) fits = fits
 
 -- every word has a number
 pub word-number : (speaker : Speaker) → refusalBy speaker ≡ 0 → ⊥
 unfolding refusalBy
 word-number Terminal e = omega arith
 word-number (Says word count) e = some-refusal word e
+word-number (Shopper shown) e = omega arith
 
 -- an answer is no word, and passes them all
 pub answer-passes : (question : Question) (a : List ℕ) → firstOf (wordLines (ForCard question) a) ≡ 0
@@ -66,9 +70,15 @@ module _ (p : List ℕ) where
     no-answer-line (wordKind word) p (word-kind word .no-answer),
     last-no refl _ (ap not (taken-allowed p (Says word count) fits)),
   )
+  word-passes (Shopper shown) fits = (
+    own-line choice p refl,
+    no-answer-line choice p refl,
+    last-no refl _ (ap not (taken-allowed p (Shopper shown) fits)),
+  )
 
   pub passed-word : (speaker : Speaker) → startBad (entry (kindOf speaker) p) ≡ false
       → firstOf (wordLines (ForWord speaker) p) ≡ 0 → takenBy speaker p ≡ true
   unfolding kindOf takenBy allowedBy startBad wordLines
   passed-word Terminal s w = not-false _ s
   passed-word (Says word count) s w = not-false _ (line-clear _ _ [] (word-number (Says word count)) w .0)
+  passed-word (Shopper shown) s w = not-false _ (line-clear _ _ [] (word-number (Shopper shown)) w .0)

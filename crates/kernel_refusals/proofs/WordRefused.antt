@@ -11,7 +11,7 @@ use lib.ListN.{length}
 use borrow.Author.Tests.{eqb-true, eqb-false, ne-eqb, not-true, not-false}
 use Rattle.slices.specs.Choice.{pick, firstOf}
 use Rattle.slices.proofs.Choice.{pick-yes, pick-no, picked, either}
-use Rattle.numbers.specs.Tables.{answer, silence}
+use Rattle.numbers.specs.Tables.{answer, silence, refusedChoice}
 use Rattle.tape_read.specs.Entries.{Entry}
 use Rattle.words.specs.Words.{wordKind, wordRefusal}
 use Rattle.words.specs.declared.Word.{Word}
@@ -19,9 +19,9 @@ use Rattle.words.specs.declared.Word.the-variants.{Host, Results}
 use Rattle.words.proofs.Laws.{other-kind}
 use Rattle.session_phase.specs.Waiting.{kindOf, awaited}
 use Rattle.session_phase.specs.Saying.{allowedBy, refusalBy}
-use Rattle.session_phase.specs.declared.Speaker.the-variants.{Terminal, Says}
+use Rattle.session_phase.specs.declared.Speaker.the-variants.{Terminal, Says, Shopper}
 use Rattle.session_phase.specs.declared.Waiting.{Waiting}
-use Rattle.session_phase.specs.declared.Waiting.the-variants.{ForCard, ForWord, Decided, Closed}
+use Rattle.session_phase.specs.declared.Waiting.the-variants.{Searching, ForCard, ForWord, Decided, Closed}
 use Rattle.kernel_refusals.specs.Refusals.{isDue, wordLines, refusalLines, callRefusal}
 use Rattle.kernel_refusals.specs.WrongWord.{WrongWord}
 
@@ -37,6 +37,12 @@ own-number Host Host e = refl
 own-number Host Results e = absurd (omega arith)
 own-number Results Host e = absurd (omega arith)
 own-number Results Results e = refl
+
+-- nor is it the choice's
+not-choice : (w : Word) → refusedChoice ≡ wordRefusal w → ⊥
+unfolding wordRefusal
+not-choice Host e = omega arith
+not-choice Results e = omega arith
 
 not-answer : (word : Word) → eqb (wordKind word) answer ≡ false
 not-answer word = ne-eqb (wordKind word) answer (λ h. eqb-false answer (wordKind word) (other-kind word .no-answer) (sym h))
@@ -70,6 +76,7 @@ module _ (word : Word) (e : Entry) where
 
   last-line : (waiting : Waiting) → isDue waiting e ≡ true → Wrong waiting (firstOf (wordLines waiting (e .payload)))
   unfolding wordLines firstOf refusalBy
+  last-line Searching d = other Searching 0 (omega arith)
   last-line (ForCard question) d = other (ForCard question) 0 (omega arith)
   last-line (ForWord Terminal) d =
       picked (Wrong (ForWord Terminal)) (not (allowedBy Terminal (e .payload))) 3 0
@@ -77,6 +84,9 @@ module _ (word : Word) (e : Entry) where
   last-line (ForWord (Says said count)) d =
       picked (Wrong (ForWord (Says said count))) (not (allowedBy (Says said count) (e .payload))) (wordRefusal said) 0
       (λ t. spoken said count d (not-true _ t)) (λ t. other (ForWord (Says said count)) 0 (omega arith))
+  last-line (ForWord (Shopper shown)) d =
+      picked (Wrong (ForWord (Shopper shown))) (not (allowedBy (Shopper shown) (e .payload))) refusedChoice 0
+      (λ t same. absurd (not-choice word same)) (λ t. other (ForWord (Shopper shown)) 0 (omega arith))
   last-line (Decided outcome reason) d = other (Decided outcome reason) 0 (omega arith)
   last-line Closed d = other Closed 0 (omega arith)
 

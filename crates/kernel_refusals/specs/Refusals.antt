@@ -1,4 +1,4 @@
--- When a call is turned away: 01, the table of that name, lines 1 to 6, and 02, R-7. What is handed in is an entry, by its kind and
+-- When a call is turned away: 01, the table of that name, lines 1 to 6, and 02, R-7 and R-12. What is handed in is an entry, by its kind and
 -- payload, and the first line that applies gives the number.
 -- Assumes nothing.
 use mathlib.Core.Bool.{Bool, not, _&&_}
@@ -14,7 +14,7 @@ use Rattle.commands.specs.Commands.{longest}
 use Rattle.session_phase.specs.Waiting.{awaited, isOver}
 use Rattle.session_phase.specs.Saying.{allowedBy, refusalBy}
 use Rattle.session_phase.specs.declared.Waiting.{Waiting}
-use Rattle.session_phase.specs.declared.Waiting.the-variants.{ForCard, ForWord, Decided, Closed}
+use Rattle.session_phase.specs.declared.Waiting.the-variants.{Searching, ForCard, ForWord, Decided, Closed}
 
 -- the event is the one due; a silence, which has no payload, is accepted only where an answer is due
 unfoldable pub isDue : Waiting → Entry → Bool
@@ -29,9 +29,10 @@ unfoldable pub answerBad : Entry → Bool
 answerBad e = eqb (e .kind) answer && ltb payloadMost (length (e .payload))
 
 -- the line of the word that is waited for, if one is: START invalid; HOST not 3 bytes, or not one of the replies; the results of cardholder
--- verification not one for each rule, or not 0 to 4. Each has its own number
+-- verification not one for each rule, or not 0 to 4; a choice that is none of those shown. Each has its own number
 unfoldable pub wordLines : Waiting → List ℕ → List (Bool × ℕ)
 wordLines (ForWord speaker) p = (not (allowedBy speaker p), refusalBy speaker) ∷ []
+wordLines Searching p = []
 wordLines (ForCard question) p = []
 wordLines (Decided outcome reason) p = []
 wordLines Closed p = []
@@ -49,7 +50,7 @@ refusalLines waiting e buf =
     ∷ (not (isDue waiting e), refusedEvent)
     -- answer over 496 bytes
     ∷ (answerBad e, refusedAnswer)
-    -- 6 for HOST, 12 for the results
+    -- 6 for HOST, 12 for the results, 13 for the choice
     ∷ wordLines waiting (e .payload)
 
 -- the number; 0 where no line applies, and the call is taken

@@ -59,6 +59,7 @@ fn word_refusal(waiting: Waiting, p: &[u8]) -> usize
 {
     match waiting {
         Waiting::ForWord(speaker) => spoken_refusal(speaker, p),
+        Waiting::Searching => 0,
         Waiting::ForCard(_) => 0,
         Waiting::Decided(_, _) => 0,
         Waiting::Closed => 0,

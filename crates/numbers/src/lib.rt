@@ -14,7 +14,9 @@ pub const DECISION: u8 = 6;
 
 pub const RESULTS: u8 = 7;
 
-// The last of them.
+pub const CHOICE: u8 = 8;
+
+// The last that a tape can hold.
 pub const LAST_KIND: u8 = RESULTS;
 
 // When a call is turned away; 0 stands for a call that is taken.
@@ -44,6 +46,8 @@ pub const REFUSED_SPACE: usize = 11;
 
 // A session's again.
 pub const REFUSED_RESULTS: usize = 12;
+
+pub const REFUSED_CHOICE: usize = 13;
 
 // Why a tape is unreadable; 0 stands for one that reads.
 // Of the whole, beside a place.

@@ -35,7 +35,8 @@ use Rattle.rulebook.proofs.Coming as today
 use Rattle.rulebook.proofs.Passing.{Holds, anything-lasts, turn-holds, after-holds}
 use Rattle.rulebook.specs.Later.{AskedLater, HeardLater, asWas, turnLater, kindLater, allowedLater, afterLater}
 use Rattle.start_choosing.specs.Start.{isListing}
-use Rattle.rulebook_choosing.specs.Choosing.{Choosing, ChoosingPhase, further, following, searched, mayChoose, isChoice, chose, listed}
+use Rattle.words.specs.Choice.{isChoice}
+use Rattle.rulebook_choosing.specs.Choosing.{Choosing, ChoosingPhase, further, following, searched, mayChoose, chose, listed}
 use Rattle.rulebook_choosing.specs.Session.{rules, longest}
 use Rattle.rulebook_choosing.specs.Stated.{exchangesOf}
 

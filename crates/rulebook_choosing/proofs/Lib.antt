@@ -13,5 +13,4 @@ pub mod OtherTurns
 pub mod Unlooked
 pub mod Falling
 pub mod Longest
-pub mod Worked
 pub mod Theorem

@@ -30,6 +30,7 @@ use Rattle.select_laws.specs.Supported.{AllSupported, Known}
 use Rattle.select_laws.specs.Unasked.{TakenAt, Unasked}
 use Rattle.select_laws.proofs.Matching.{heard-known, chosen-known}
 use Rattle.select_laws.proofs.Words.{heard-unasked}
+use Rattle.words.specs.Choice.{isChoice}
 use Rattle.sessions.specs.Rules.{asks, hears, decides}
 use Rattle.sessions.specs.Stated.{InRow}
 use Rattle.sessions.proofs.Rows.{reading-in-row}
@@ -38,7 +39,7 @@ use Rattle.rulebook.specs.Turn.{turn, after}
 use Rattle.rulebook.specs.Later.{AskedLater, HeardLater, asWas, turnLater, allowedLater, afterLater}
 use Rattle.start_choosing.specs.Start.{isListing, validListing}
 use Rattle.rulebook_choosing.specs.Choosing.{Choosing, ChoosingPhase, further, following, searched}
-use Rattle.rulebook_choosing.specs.Choosing.{isChoice, mayChoose, chose, listed}
+use Rattle.rulebook_choosing.specs.Choosing.{mayChoose, chose, listed}
 use Rattle.rulebook_choosing.specs.Session.{rules, Reads}
 use Rattle.rulebook_choosing.specs.Sent.{Each, SentWell, Sound, Offered, SoundAt}
 use Rattle.rulebook_choosing.specs.Sent.{ByItself, Worded, same, chosen as behind-choice, unasked}

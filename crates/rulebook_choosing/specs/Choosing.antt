@@ -1,12 +1,10 @@
 -- Choosing the application, as questions and words that come before GET PROCESSING OPTIONS: 02, R-12; 001, 12.3 and 12.4. From there on the
 -- rules are today's.
 -- Assumes nothing.
-use mathlib.Core.Bool.{Bool, _||_}
-use mathlib.Core.List.{List, [], _∷_}
+use mathlib.Core.Bool.{Bool}
+use mathlib.Core.List.{List}
 use Prim.Native.Nat.{ℕ}
-use lib.Dec.{eqb, ltb}
-use lib.ListN.{length, getD}
-use Rattle.slices.specs.Tests.{every}
+use lib.ListN.{getD}
 use Rattle.numbers.specs.Tables.{choice, terminated}
 use Rattle.start_fields.specs.Reading.{readingOf}
 use Rattle.start_list.specs.Listing.{Applications, applicationsIn}
@@ -15,6 +13,7 @@ use Rattle.select_search.specs.Search as search
 use Rattle.select_search.specs.Search.{Search, Found, runs, over}
 use Rattle.select_search.specs.Final.{chosen}
 use Rattle.select_search.specs.Heard.{heard}
+use Rattle.words.specs.Choice.{isChoice}
 use Rattle.sessions.specs.Rules.{asks, hears, decides}
 use Rattle.rulebook.specs.Situation.{Situation, begun}
 use Rattle.rulebook.specs.Phase.{optioning}
@@ -47,10 +46,7 @@ following x (over reason) = decides terminated reason (x .situation)
 unfoldable pub searched : Choosing → List ℕ → ChoosingPhase
 searched x a = following x (heard (x .applications) (x .search) a)
 
--- the shopper's choice is one byte: a place, from 0, among those shown, or 'FF' for none of them
-unfoldable pub isChoice : ℕ → List ℕ → Bool
-isChoice shown p = every (eqb (length p) 1 ∷ (ltb (getD p 0 0) shown || eqb (getD p 0 0) 0xFF) ∷ [])
-
+-- the shopper's choice is among those shown
 unfoldable pub mayChoose : Choosing → List ℕ → Bool
 mayChoose x p = isChoice (shownOf (x .search .list)) p
 

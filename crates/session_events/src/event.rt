@@ -7,6 +7,7 @@ use decide_requests::reply::reply_of;
 use numbers::REFUSED_EVENT;
 use session_first::on_results;
 use session_moves::Step;
+use session_moves::ends::shut;
 use session_phase::Question;
 use session_phase::Reply;
 use session_phase::Speaker;
@@ -72,6 +73,7 @@ fn by_speaker(s: State, speaker: Speaker, p: &[u8], buf: &mut [u8]) -> Step
     match speaker {
         Speaker::Terminal => on_start(p, buf),
         Speaker::Says(word, _) => on_word(s, word, p, buf),
+        Speaker::Shopper(_) => shut(s),
     }
 }
 
@@ -97,12 +99,14 @@ fn stay(s: State) -> Step
     }
 }
 
-// What is waited for, an answer of the card's or somebody else's word; where the session is over, nothing changes.
+// What is waited for, an answer of the card's or somebody else's word; where the session is over, nothing changes. A selection is no part of
+// these rules.
 pub fn step(s: State, p: &[u8], buf: &mut [u8]) -> Step
     ensures { λ r. ⌜ played r (now (buf .exit)) ≡ stepOf s (now (p .entry)) (now (buf .entry)) ⌝ }
 {
     let waiting = s.waiting;
     match waiting {
+        Waiting::Searching => shut(s),
         Waiting::ForCard(question) => on_answer(s, question, p, buf),
         Waiting::ForWord(speaker) => by_speaker(s, speaker, p, buf),
         Waiting::Decided(_, _) => stay(s),

@@ -6,17 +6,18 @@ use mathlib.Core.List.{List}
 use Prim.Native.Nat.{ℕ}
 use Rattle.decide_tvr.specs.Bits.{joined}
 use Rattle.decide_tvr.proofs.Rows.{joined-self}
-use Rattle.rulebook.specs.Phase.{Phase, tvrOf, tsiOf}
+use Rattle.rulebook.specs.Phase.{Phase, Heard, hears, terminal, says, tvrOf, tsiOf}
 use Rattle.rulebook.specs.Turn.{turn, after}
 use Rattle.rulebook.proofs.Growing.{turn-kept, after-grows}
+use Rattle.session_phase.specs.declared.Speaker.the-variants.{Terminal, Says, Shopper}
 use Rattle.session_phase.specs.declared.Waiting.{Waiting}
-use Rattle.session_phase.specs.declared.Waiting.the-variants.{ForCard, ForWord, Decided, Closed}
-use Rattle.session_state.specs.Reading.{askedBy, heardBy}
-use Rattle.session_state.specs.Keeping.{changed}
+use Rattle.session_phase.specs.declared.Waiting.the-variants.{Searching, ForCard, ForWord, Decided, Closed}
+use Rattle.session_state.specs.Reading.{situationWith, late, askedBy}
+use Rattle.session_state.specs.Keeping.{changed, begun}
 use Rattle.session_state.specs.declared.State.{State}
-use Rattle.session_moves.specs.Moves.{standing, moved, unmoved}
+use Rattle.session_moves.specs.Moves.{standing, moved, unmoved, shut}
 use Rattle.session_answers.specs.Keeping.{keeping}
-use Rattle.session_events.specs.Events.{answerStep, keepingWord, wordStep, stepAt, step}
+use Rattle.session_events.specs.Events.{answerStep, wordStep, stepAt, step}
 use Rattle.session_laws.specs.Bits.{Keeps, Even}
 use Rattle.session_laws.proofs.Standing.{asked-tvr, asked-tsi}
 
@@ -28,22 +29,30 @@ moved-keeps : (s u : State) (p : Phase) (buf : List ℕ) → joined (s .tvr) (tv
 unfolding moved standing changed
 moved-keeps s u p buf t i = record { tvr = t; tsi = i }
 
+shut-keeps : (s : State) (buf : List ℕ) → Keeps s (shut s buf .state)
+unfolding shut changed
+shut-keeps s buf = record { tvr = joined-self (s .tvr); tsi = joined-self (s .tsi) }
+
 module _ (s : State) (p buf : List ℕ) (even : Even s) where
+  -- a word that is due with the state's TVR and TSI
+  word-keeps : (h : Heard) (u : State) → s .tvr ≡ tvrOf (hears h) → s .tsi ≡ tsiOf (hears h) → Keeps s (moved (after h p) u buf .state)
+  word-keeps h u t i =
+      let grows = after-grows h p in
+      moved-keeps s u (after h p) buf (ap (λ (x : List ℕ). joined x (tvrOf (after h p))) t ∙ grows .tvr)
+      (ap (λ (x : List ℕ). joined x (tsiOf (after h p))) i ∙ grows .tsi)
+
   by-waiting : (x : Waiting) → s .waiting ≡ x → Keeps s (stepAt x s p buf .state)
-  unfolding stepAt answerStep wordStep unmoved
+  unfolding stepAt answerStep wordStep unmoved tvrOf tsiOf late situationWith
+  by-waiting Searching e = shut-keeps s buf
   by-waiting (ForCard question) e =
       let w = askedBy question s in
       let kept = turn-kept w p in
       moved-keeps s (keeping w p s) (turn w p) buf
       (ap (λ (x : List ℕ). joined x (tvrOf (turn w p))) (asked-tvr question s) ∙ kept .tvr)
       (ap (λ (x : List ℕ). joined x (tsiOf (turn w p))) (asked-tsi question s) ∙ kept .tsi)
-  by-waiting (ForWord speaker) e =
-      let h = heardBy speaker s in
-      let grows = after-grows h p in
-      let bits = even speaker e in
-      moved-keeps s (keepingWord speaker p s) (after h p) buf
-      (ap (λ (x : List ℕ). joined x (tvrOf (after h p))) (bits .0) ∙ grows .tvr)
-      (ap (λ (x : List ℕ). joined x (tsiOf (after h p))) (bits .1) ∙ grows .tsi)
+  by-waiting (ForWord Terminal) e = word-keeps terminal (begun p) (even e .0) (even e .1)
+  by-waiting (ForWord (Says word count)) e = word-keeps (says word (late s)) s refl refl
+  by-waiting (ForWord (Shopper shown)) e = shut-keeps s buf
   by-waiting (Decided outcome reason) e = keeps-self s
   by-waiting Closed e = keeps-self s
 

@@ -26,16 +26,14 @@ use Rattle.decide_cryptogram.specs.declared.Cryptogram.{Cryptogram}
 use Rattle.decide_cryptogram.specs.declared.Request.the-variants.{First, Second}
 use Rattle.words.specs.declared.Word.{Word}
 use Rattle.rulebook.specs.Situation.{Situation, begun as situationBegun}
-use Rattle.rulebook.specs.Phase.{Asked, selecting, optioning, reading, first, second, says, Phase}
+use Rattle.rulebook.specs.Phase.{Asked, selecting, optioning, reading, first, second, Heard, terminal, says, Phase}
 use Rattle.rulebook.specs.Phase.{asks, hears, decides, situationOf, decided, ended, tvrOf, tsiOf}
 use Rattle.rulebook.specs.Turn.{goesOn, opened, selected, managed, allRead, readOn, optioned, recorded, answered}
 use Rattle.rulebook.specs.Turn.{firstAnswered, secondAnswered, turn, allowed, verifiedBy, after}
 use Rattle.rulebook.proofs.Passing.{past-all, left, Leads, first-leads, after-leads, all-read-leads}
-use Rattle.session_state.specs.Reading.{startIn, situationWith, early, late, recordsLeft, askedBy, heardBy}
+use Rattle.session_state.specs.Reading.{startIn, situationWith, early, late, recordsLeft, askedBy}
 use Rattle.session_phase.specs.declared.Question.{Question}
 use Rattle.session_phase.specs.declared.Question.the-variants.{Select, Options, Record, First, Second}
-use Rattle.session_phase.specs.declared.Speaker.{Speaker}
-use Rattle.session_phase.specs.declared.Speaker.the-variants.{Terminal, Says}
 use Rattle.session_records.specs.Slots.{told, withRecord}
 use Rattle.session_records.specs.Runs.{inRun}
 use Rattle.session_state.specs.Keeping.{withTold, withOptions, changed, stateAt, begun}
@@ -43,7 +41,6 @@ use Rattle.session_state.specs.declared.State.{State}
 use Rattle.session_state.proofs.Starting.{late-told, early-begun, late-options, left-options}
 use Rattle.session_moves.specs.Moves.{questionOf, speakerOf, keptAs, cursorAsking, cursorAfter, standing}
 use Rattle.session_answers.specs.Keeping.{keeping}
-use Rattle.session_events.specs.Events.{keepingWord}
 use Rattle.session_laws.specs.Agreeing.{forgets, Knows, StandsAt}
 
 -- a state that can wait for a phase: once what the phase overwrites is overwritten, it stands there
@@ -88,7 +85,7 @@ module _ (s : State) where
     asking-second request code = refl
 
     hearing-word : (word : Word) → Fits (hears (says word (lateWith tvr tsi))) s
-    unfolding Fits Knows standing changed keptAs speakerOf heardBy tvrOf tsiOf cursorAfter late situationWith
+    unfolding Fits Knows standing changed keptAs speakerOf tvrOf tsiOf cursorAfter late situationWith
     hearing-word word = refl
 
   -- so it is with any situation that is read off the state but for TVR and TSI
@@ -176,11 +173,20 @@ unfolding opened Fits Knows forgets standing changed keptAs questionOf tvrOf tsi
     situationWith begun stateAt situationBegun
 started-fits b e = ap (λ (z : Situation). selecting z) (early-begun b e)
 
--- somebody else's word that may be taken
-pub word-fits : (speaker : Speaker) (s : State) (p : List ℕ) → allowed (heardBy speaker s) p ≡ true
-    → Fits (after (heardBy speaker s) p) (keepingWord speaker p s)
-unfolding heardBy allowed after keepingWord verifiedBy late situationWith
-word-fits Terminal s p fits = started-fits p (valid-length p fits)
-word-fits (Says word count) s p fits =
+-- a word that is read off the state
+said-fits : (word : Word) (s : State) (p : List ℕ) → Fits (after (says word (late s)) p) s
+unfolding after verifiedBy late situationWith
+said-fits word s p =
     after-leads (onward s) word (late s) p (left (OfState s) word (late s) p refl (λ e. refl))
     (past-all (λ z. Unit {0}) (λ z. tt) word (late s))
+
+-- the state from which somebody else's word goes on: with START it begins anew
+unfoldable pub goesFrom : Heard → List ℕ → State → State
+goesFrom terminal p s = begun p
+goesFrom (says word z) p s = s
+
+-- a word that may be taken, where the state knows what the rulebook knows
+pub word-fits : (h : Heard) (s : State) (p : List ℕ) → Knows s (hears h) → allowed h p ≡ true → Fits (after h p) (goesFrom h p s)
+unfolding Knows allowed after goesFrom verifiedBy
+word-fits terminal s p knows fits = started-fits p (valid-length p fits)
+word-fits (says word z) s p knows fits = subst (λ (x : Situation). Fits (after (says word x) p) s) knows (said-fits word s p)

@@ -5,28 +5,29 @@ use mathlib.Core.Path.{_≡_, refl, sym, ap, _∙_, subst}
 use mathlib.Core.List.{List, [], _∷_, _++_, append-nil, append-assoc}
 use mathlib.Core.Option.{some}
 use Prim.Native.Nat.{ℕ}
+use native.Mathlib.Omega.{arith}
 use Rattle.numbers.specs.Tables.{command}
 use Rattle.tape_read.specs.Entries.{Entry, entry}
 use Rattle.sessions.specs.Machine.{run}
 use Rattle.sessions.proofs.Running.{takes-command, run-session}
 use Rattle.sessions.proofs.States.{state-next}
 use Rattle.sessions.proofs.Leading.{at-leads, owes-leads, decided-leads}
-use Rattle.rulebook.specs.Phase.{Asked, Heard, Phase, opens, asks, hears, decides, commandOf, tvrOf, tsiOf}
+use Rattle.rulebook.specs.Phase.{Asked, Heard, terminal, says, Phase, opens, asks, hears, decides, commandOf, tvrOf, tsiOf}
 use Rattle.rulebook.specs.Session.{rules, Session, LeadsTo}
 use Rattle.rulebook.specs.Machine.{Machine, at, owes}
 use Rattle.rulebook.proofs.Kept.{kept}
 use Rattle.session_phase.specs.declared.Question.{Question}
 use Rattle.session_phase.specs.declared.Speaker.{Speaker}
-use Rattle.session_phase.specs.declared.Waiting.the-variants.{ForCard, ForWord, Decided, Closed}
-use Rattle.session_state.specs.Reading.{heardBy}
+use Rattle.session_phase.specs.declared.Speaker.the-variants.{Terminal}
+use Rattle.session_phase.specs.declared.Waiting.the-variants.{Searching, ForCard, ForWord, Decided, Closed}
 use Rattle.session_state.specs.Keeping.{fresh}
 use Rattle.session_state.specs.declared.State.{State}
 use Rattle.session_moves.specs.Moves.{Moved, speakerOf}
-use Rattle.session_laws.specs.Agreeing.{Knows, StandsAt}
+use Rattle.session_laws.specs.Agreeing.{StandsAt}
 use Rattle.session_laws.specs.Logging.{logged, landing, Follows, Reached}
 use Rattle.session_laws.specs.Bits.{Even}
 use Rattle.session_laws.proofs.Stepping.{run-on, fresh-stands}
-use Rattle.session_laws.proofs.Telling.{asked-at, heard-at, decided-at, closed-never}
+use Rattle.session_laws.proofs.Telling.{asked-at, heard-at, decided-at, isPhase, never-at}
 
 pub reached-fresh : Reached fresh []
 unfolding run landing
@@ -53,6 +54,12 @@ reached-on es σ e p buf m h f =
           (logged-leads (es ++ (e ∷ [])) p (state-next kept es σ e h (at p) (f .taken)));
       stands = f .stands;
     }
+
+-- the terminal has no word but START
+only-terminal : (h : Heard) → speakerOf h ≡ Terminal → h ≡ terminal
+unfolding speakerOf
+only-terminal terminal e = refl
+only-terminal (says word z) e = absurd (let k : _≡_ {A = ℕ} 0 1 = cc e in omega arith)
 
 -- what the state says of the entries
 module _ (s : State) (es : List Entry) (reached : Reached s es) where
@@ -87,13 +94,17 @@ module _ (s : State) (es : List Entry) (reached : Reached s es) where
       run-session rules es (landed (decides outcome reason (there .0)) (there .1))
 
   pub reached-open : s .waiting ≡ Closed → ⊥
-  reached-open e = closed-never s (reached .phase) (reached .stands) e
+  unfolding isPhase
+  reached-open e = never-at s (reached .phase) Closed refl (reached .stands) e
 
-  -- TVR and TSI are those of the word that is due
+  pub reached-no-search : s .waiting ≡ Searching → ⊥
+  unfolding isPhase
+  reached-no-search e = never-at s (reached .phase) Searching refl (reached .stands) e
+
+  -- before START TVR and TSI are the rulebook's
   pub reached-even : Even s
-  unfolding Knows
-  reached-even speaker e =
-      let there = reached-word speaker e in
+  reached-even e =
+      let there = reached-word Terminal e in
       let stands = there .1 .1 .1 in
-      let same : there .0 ≡ heardBy speaker s = sym (ap (λ (x : Speaker). heardBy x s) (sym (there .1 .0)) ∙ stands .knows) in
+      let same = only-terminal (there .0) (there .1 .0) in
       (stands .tvr ∙ ap (λ (h : Heard). tvrOf (hears h)) same, stands .tsi ∙ ap (λ (h : Heard). tsiOf (hears h)) same)

@@ -12,22 +12,23 @@ use Rattle.sessions.specs.Session.{isPayload}
 use Rattle.sessions.specs.Machine.{next, run, andOn}
 use Rattle.sessions.proofs.Running.{takes-command, takes-answer, takes-heard, takes-decision}
 use Rattle.sessions.proofs.Reading.{run-append}
-use Rattle.rulebook.specs.Phase.{Asked, Heard, Phase, opens, asks, hears, decides, dueKind, tvrOf, tsiOf}
+use Rattle.rulebook.specs.Situation.{Situation}
+use Rattle.rulebook.specs.Phase.{Asked, Heard, terminal, says, Phase, opens, asks, hears, decides, dueKind, tvrOf, tsiOf}
 use Rattle.rulebook.specs.Turn.{turn, allowed, after}
 use Rattle.rulebook.specs.Machine.{Machine, at, owes}
 use Rattle.rulebook.specs.Session.{rules}
 use Rattle.session_phase.specs.Waiting.{isDecided}
 use Rattle.session_phase.specs.declared.Waiting.{Waiting}
-use Rattle.session_state.specs.Reading.{askedBy, heardBy}
+use Rattle.session_state.specs.Reading.{askedBy}
 use Rattle.session_state.specs.Keeping.{stateAt, fresh}
 use Rattle.session_state.specs.declared.State.{State}
 use Rattle.session_moves.specs.Moves.{Moved, questionOf, speakerOf, keptAs, moved}
 use Rattle.session_answers.specs.Keeping.{keeping}
-use Rattle.session_events.specs.Events.{answerStep, keepingWord, wordStep, stepAt, step}
+use Rattle.session_events.specs.Events.{answerStep, wordStep, stepAt, step}
 use Rattle.session_laws.specs.Agreeing.{forgets, Knows, StandsAt, Agrees}
 use Rattle.session_laws.specs.Logging.{logged, landing, Follows}
 use Rattle.session_laws.proofs.Standing.{turn-forgets, keeping-forgets}
-use Rattle.session_laws.proofs.Fitting.{Fits, fits-stands, turn-fits, word-fits}
+use Rattle.session_laws.proofs.Fitting.{Fits, fits-stands, turn-fits, goesFrom, word-fits}
 
 -- a state that stands at a phase agrees with the machine once the phase's entry is read
 pub lands-at : (s : State) (p : Phase) → StandsAt s p → Agrees s (landing p)
@@ -60,8 +61,8 @@ follows-as σ e p s buf m same n f =
     subst (Follows σ e p buf) (sym same) (record { taken = n; stands = fits-stands p s f; reply = refl; buffer = refl; zeros = refl })
 
 pub fresh-stands : StandsAt fresh opens
-unfolding Knows heardBy speakerOf keptAs tvrOf tsiOf fresh stateAt
-fresh-stands = record { waits = refl; tvr = refl; tsi = refl; knows = refl }
+unfolding Knows speakerOf keptAs tvrOf tsiOf fresh stateAt
+fresh-stands = record { waits = refl; tvr = refl; tsi = refl; knows = tt }
 
 -- ---- an answer of the card's
 module _ (s : State) (w : Asked) (a buf : List ℕ) (stands : StandsAt s (asks w)) where
@@ -88,20 +89,15 @@ module _ (s : State) (w : Asked) (a buf : List ℕ) (stands : StandsAt s (asks w
       (takes-answer rules w a ok) answer-fits
 
 -- ---- somebody else's word
+pub heard-moved : (s : State) (h : Heard) (p buf : List ℕ) → StandsAt s (hears h) → step s p buf ≡ moved (after h p) (goesFrom h p s) buf
+unfolding step stepAt wordStep keptAs speakerOf Knows goesFrom
+heard-moved s terminal p buf stands = ap (λ (x : Waiting). stepAt x s p buf) (stands .waits)
+heard-moved s (says word z) p buf stands =
+    ap (λ (x : Waiting). stepAt x s p buf) (stands .waits) ∙ ap (λ (x : Situation). moved (after (says word x) p) s buf) (stands .knows)
+
 module _ (s : State) (h : Heard) (p buf : List ℕ) (stands : StandsAt s (hears h)) where
-  speaker-known : heardBy (speakerOf h) s ≡ h
-  unfolding Knows
-  speaker-known = stands .knows
-
-  pub heard-moved : step s p buf ≡ moved (after h p) (keepingWord (speakerOf h) p s) buf
-  unfolding step stepAt wordStep keptAs
-  heard-moved =
-      ap (λ (x : Waiting). stepAt x s p buf) (stands .waits)
-      ∙ ap (λ (x : Heard). moved (after x p) (keepingWord (speakerOf h) p s) buf) speaker-known
-
   pub word-step : allowed h p ≡ true → isPayload p ≡ true → Follows (at (hears h)) (entry (dueKind h) p) (after h p) buf (step s p buf)
   word-step fits ok =
-      follows-as (at (hears h)) (entry (dueKind h) p) (after h p) (keepingWord (speakerOf h) p s) buf (step s p buf) heard-moved
+      follows-as (at (hears h)) (entry (dueKind h) p) (after h p) (goesFrom h p s) buf (step s p buf) (heard-moved s h p buf stands)
       (takes-heard rules h p fits ok)
-      (subst (λ (x : Heard). Fits (after x p) (keepingWord (speakerOf h) p s)) speaker-known
-      (word-fits (speakerOf h) s p (ap (λ (x : Heard). allowed x p) speaker-known ∙ fits)))
+      (word-fits h s p (stands .knows) fits)

@@ -20,28 +20,32 @@ use Rattle.rulebook.proofs.Said.{wanted-most}
 use Rattle.session_phase.specs.Waiting.{kindOf}
 use Rattle.session_phase.specs.Saying.{allowedBy}
 use Rattle.session_phase.specs.declared.Speaker.{Speaker}
-use Rattle.session_phase.specs.declared.Speaker.the-variants.{Terminal, Says}
+use Rattle.session_phase.specs.declared.Speaker.the-variants.{Terminal, Says, Shopper}
 use Rattle.session_moves.specs.Moves.{speakerOf}
 
 pub no-answer : (speaker : Speaker) → kindOf speaker ≡ answer → ⊥
 unfolding kindOf
 no-answer Terminal e = omega arith
 no-answer (Says word count) e = eqb-false answer (wordKind word) (other-kind word .no-answer) (sym e)
+no-answer (Shopper shown) e = omega arith
 
 pub no-silence : (speaker : Speaker) → kindOf speaker ≡ silence → ⊥
 unfolding kindOf
 no-silence Terminal e = omega arith
 no-silence (Says word count) e = eqb-false silence (wordKind word) (other-kind word .no-silence) (sym e)
+no-silence (Shopper shown) e = omega arith
 
 pub some-kind : (speaker : Speaker) → kindOf speaker ≡ 0 → ⊥
 unfolding kindOf isKind
 some-kind Terminal e = omega arith
 some-kind (Says word count) e = false≢true (sym (ap isKind e) ∙ kind-readable word)
+some-kind (Shopper shown) e = omega arith
 
 pub not-given : (speaker : Speaker) (p : List ℕ) → given (entry (kindOf speaker) p) ≡ false
 unfolding kindOf given
 not-given Terminal p = refl
 not-given (Says word count) p = ap₂ _||_ (other-kind word .no-command) (other-kind word .no-decision)
+not-given (Shopper shown) p = refl
 
 -- the rulebook's kind is the session's own
 pub kind-due : (h : Heard) → kindOf (speakerOf h) ≡ dueKind h

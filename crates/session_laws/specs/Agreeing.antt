@@ -4,12 +4,13 @@
 use mathlib.Core.Path.{_≡_}
 use mathlib.Core.Bool.{true}
 use mathlib.Core.List.{[]}
-use Rattle.rulebook.specs.Phase.{Asked, selecting, optioning, reading, first, second, Phase, asks, hears, decides, tvrOf, tsiOf}
+use Rattle.rulebook.specs.Phase.{Asked, selecting, optioning, reading, first, second, terminal, says}
+use Rattle.rulebook.specs.Phase.{Phase, asks, hears, decides, tvrOf, tsiOf}
 use Rattle.rulebook.specs.Machine.{Machine, at, owes, done}
 use Rattle.session_phase.specs.Waiting.{isDecided}
-use Rattle.session_state.specs.Reading.{askedBy, heardBy}
+use Rattle.session_state.specs.Reading.{late, askedBy}
 use Rattle.session_state.specs.declared.State.{State}
-use Rattle.session_moves.specs.Moves.{questionOf, speakerOf, keptAs}
+use Rattle.session_moves.specs.Moves.{questionOf, keptAs}
 
 -- what was asked, without what only the command needed: the list 9F38, the record's number and file, the response code
 unfoldable pub forgets : Asked → Asked
@@ -19,10 +20,11 @@ forgets (reading z number file rest) = reading z 0 0 rest
 forgets (first z request) = first z request
 forgets (second z request code) = second z request []
 
--- what a phase knows can be read off the state; of a decision nothing more is known
+-- what a phase knows can be read off the state; before START, and of a decision, nothing more is known
 unfoldable pub Knows : State → Phase → Type 0
 Knows s (asks w) = askedBy (questionOf w) s ≡ forgets w
-Knows s (hears h) = heardBy (speakerOf h) s ≡ h
+Knows s (hears terminal) = Unit {0}
+Knows s (hears (says word z)) = late s ≡ z
 Knows s (decides outcome reason z) = Unit {0}
 
 -- a state that waits for what a phase waits for, has the phase's TVR and TSI, and knows what the phase knows

@@ -23,11 +23,11 @@ use Rattle.session_records.specs.Runs.{longest, inRun}
 use Rattle.session_state.specs.Keeping.{changed}
 use Rattle.session_records.specs.declared.Run.{Run}
 use Rattle.session_state.specs.declared.State.{State}
-use Rattle.session_phase.specs.declared.Waiting.the-variants.{ForCard, ForWord, Decided}
-use Rattle.session_phase.specs.declared.Reply.the-variants.{Command, Due, Decided as DecidedReply, Refused}
+use Rattle.session_phase.specs.declared.Waiting.the-variants.{ForCard, ForWord, Decided, Closed}
+use Rattle.session_phase.specs.declared.Reply.the-variants.{Command, Due, Decided as DecidedReply, Closed as ClosedReply, Refused}
 use Rattle.session_moves.specs.declared.Step.{Step}
 use Rattle.session_moves.specs.Moves.{played, questionOf, speakerOf, keptAs, cursorAsking, cursorAfter}
-use Rattle.session_moves.specs.Moves.{standing, replyIn, bufferIn, moved, unmoved, waitingFor, askedFor}
+use Rattle.session_moves.specs.Moves.{standing, replyIn, bufferIn, moved, unmoved, shut, waitingFor, askedFor}
 
 -- the bytes of a run, as the code cuts them out
 module _ (r : Run) (n : ℕ) (b : List ℕ) (same : b ≡ r .bytes) (part : take n (r .bytes) ≡ inRun r) where
@@ -106,6 +106,11 @@ module _ (s : State) (buf : List ℕ) where
   pub stays : {r : Step} → (r .state ≡ s) × (r .reply ≡ Refused 4) × (r .zeros ≡ 0) → played r buf ≡ unmoved s buf
   unfolding played unmoved
   stays e = λ i. record { state = e .0 i; reply = e .1 i; buffer = buf; zeros = e .2 i }
+
+  -- a session that is closed
+  pub shuts : {r : Step} → r ≡ waitingFor Closed ClosedReply s → played r buf ≡ shut s buf
+  unfolding played waitingFor shut
+  shuts e = ap (λ (x : Step). played x buf) e
 
 -- a bad answer ends the session for its reason, of which a state keeps a byte
 module _ (s : State) (buf : List ℕ) (why reason : ℕ) (p : Phase) (e : why ≡ reason) (small : reason < 256) (bad : why ≡ 0

@@ -18,9 +18,9 @@ use Rattle.session_phase.specs.declared.Question.the-variants.{Select, Options,
 use Rattle.session_phase.specs.declared.Speaker.{Speaker}
 use Rattle.session_phase.specs.declared.Speaker.the-variants.{Terminal, Says}
 use Rattle.session_phase.specs.declared.Waiting.{Waiting}
-use Rattle.session_phase.specs.declared.Waiting.the-variants.{ForCard, ForWord, Decided}
+use Rattle.session_phase.specs.declared.Waiting.the-variants.{ForCard, ForWord, Decided, Closed}
 use Rattle.session_phase.specs.declared.Reply.{Reply}
-use Rattle.session_phase.specs.declared.Reply.the-variants.{Command, Due, Decided as DecidedReply, Refused}
+use Rattle.session_phase.specs.declared.Reply.the-variants.{Command, Due, Decided as DecidedReply, Closed as ClosedReply, Refused}
 use Rattle.session_records.specs.Runs.{inRun}
 use Rattle.session_state.specs.Keeping.{changed}
 use Rattle.session_state.specs.declared.State.{State}
@@ -88,6 +88,10 @@ moved p s buf = record { state = standing p s; reply = replyIn (length buf) p; b
 -- a session that is over takes nothing: the event is not the one due (01, "When a call is turned away", 4), and nothing changes
 unfoldable pub unmoved : State → List ℕ → Moved
 unmoved s buf = record { state = s; reply = Refused refusedEvent; buffer = buf; zeros = 0 }
+
+-- a selection is no part of these rules: a session that waits for it is closed
+unfoldable pub shut : State → List ℕ → Moved
+shut s buf = record { state = changed Closed (s .tvr) (s .tsi) (s .cursor) s; reply = ClosedReply; buffer = buf; zeros = 0 }
 
 -- the same state, but for what is waited for
 unfoldable pub waitingFor : Waiting → Reply → State → Step

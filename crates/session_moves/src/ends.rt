@@ -12,9 +12,9 @@ ghost use mathlib.Core.Path.{_≡_};
 ghost use Prim.Native.Nat.{_%_};
 ghost use Rattle.numbers.specs.Tables.{terminated};
 ghost use Rattle.session_moves.specs.Moves.{waitingFor, askedFor};
-ghost use Rattle.session_phase.specs.declared.Reply.the-variants.{Due, Decided as DecidedReply};
+ghost use Rattle.session_phase.specs.declared.Reply.the-variants.{Due, Decided as DecidedReply, Closed as ClosedReply};
 ghost use Rattle.session_phase.specs.declared.Speaker.the-variants.{Says};
-ghost use Rattle.session_phase.specs.declared.Waiting.the-variants.{ForWord, Decided as DecidedKept};
+ghost use Rattle.session_phase.specs.declared.Waiting.the-variants.{ForWord, Decided as DecidedKept, Closed as ClosedKept};
 ghost use Rattle.words.specs.Words.{wordKind};
 
 // The same state, but for what is waited for.
@@ -54,6 +54,13 @@ pub fn hear(s: State, word: Word, count: usize) -> Step
         Waiting::ForWord(Speaker::Says(word, count)),
         Reply::Due(words::kind(word)),
     )
+}
+
+// Closed, since these rules go no further.
+pub fn shut(s: State) -> Step
+    ensures { λ r. ⌜ r ≡ waitingFor ClosedKept ClosedReply s ⌝ }
+{
+    wait(s, Waiting::Closed, Reply::Closed)
 }
 
 pub fn decide(s: State, outcome: u8) -> Step

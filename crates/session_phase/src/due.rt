@@ -2,6 +2,7 @@
 use crate::Speaker;
 use crate::Waiting;
 use numbers::ANSWER;
+use numbers::CHOICE;
 use numbers::START;
 ghost use mathlib.Core.Path.{_≡_};
 ghost use Rattle.session_phase.specs.Waiting.{kindOf, awaited, wantedOf, countDue, outcomeOf, reasonOf};
@@ -13,6 +14,7 @@ pub fn kind_of(speaker: Speaker) -> u8
     match speaker {
         Speaker::Terminal => START,
         Speaker::Says(word, _) => words::kind(word),
+        Speaker::Shopper(_) => CHOICE,
     }
 }
 
@@ -21,6 +23,7 @@ pub fn awaits(waiting: Waiting) -> u8
     ensures { λ r. ⌜ r ≡ awaited waiting ⌝ }
 {
     match waiting {
+        Waiting::Searching => ANSWER,
         Waiting::ForCard(_) => ANSWER,
         Waiting::ForWord(speaker) => kind_of(speaker),
         Waiting::Decided(_, _) => 0,
@@ -35,6 +38,7 @@ fn wanted(speaker: Speaker) -> usize
     match speaker {
         Speaker::Terminal => 0,
         Speaker::Says(_, count) => count,
+        Speaker::Shopper(shown) => shown,
     }
 }
 
@@ -43,6 +47,7 @@ pub fn count_due(waiting: Waiting) -> usize
     ensures { λ r. ⌜ r ≡ countDue waiting ⌝ }
 {
     match waiting {
+        Waiting::Searching => 0,
         Waiting::ForCard(_) => 0,
         Waiting::ForWord(speaker) => wanted(speaker),
         Waiting::Decided(_, _) => 0,
@@ -55,6 +60,7 @@ pub fn outcome(waiting: Waiting) -> u8
     ensures { λ r. ⌜ r ≡ outcomeOf waiting ⌝ }
 {
     match waiting {
+        Waiting::Searching => 0,
         Waiting::ForCard(_) => 0,
         Waiting::ForWord(_) => 0,
         Waiting::Decided(outcome, _) => outcome,
@@ -67,6 +73,7 @@ pub fn reason(waiting: Waiting) -> u8
     ensures { λ r. ⌜ r ≡ reasonOf waiting ⌝ }
 {
     match waiting {
+        Waiting::Searching => 0,
         Waiting::ForCard(_) => 0,
         Waiting::ForWord(_) => 0,
         Waiting::Decided(_, reason) => reason,

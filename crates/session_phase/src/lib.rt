@@ -22,15 +22,17 @@ pub enum Question {
 }
 
 // Who else can have the next word: the terminal with START; after it whoever has the word that is due, and how many are wanted of what is
-// counted in it.
+// counted in it; or the shopper, with the choice among so many shown.
 pub enum Speaker {
     Terminal,
     Says(Word, usize),
+    Shopper(usize),
 }
 
-// An answer of the card's, or somebody else's word; or the session is over, with its outcome and its reason or 0, or closed by
-// silence.
+// An answer of the card's, to a command of the selection or to another question, or somebody else's word; or the session is over, with its
+// outcome and its reason or 0, or closed by silence.
 pub enum Waiting {
+    Searching,
     ForCard(Question),
     ForWord(Speaker),
     Decided(u8, u8),

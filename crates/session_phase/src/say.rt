@@ -1,5 +1,6 @@
 // What a session may be told.
 use crate::Speaker;
+use numbers::REFUSED_CHOICE;
 use numbers::REFUSED_START;
 use start_valid::valid_start;
 ghost use mathlib.Core.Path.{_≡_};
@@ -12,6 +13,7 @@ pub fn is_allowed(speaker: Speaker, p: &[u8]) -> bool
     match speaker {
         Speaker::Terminal => valid_start(p),
         Speaker::Says(word, count) => words::is_allowed(word, count, p),
+        Speaker::Shopper(shown) => words::is_choice(shown, p),
     }
 }
 
@@ -22,5 +24,6 @@ pub fn refusal_by(speaker: Speaker) -> usize
     match speaker {
         Speaker::Terminal => REFUSED_START,
         Speaker::Says(word, _) => words::refusal(word),
+        Speaker::Shopper(_) => REFUSED_CHOICE,
     }
 }

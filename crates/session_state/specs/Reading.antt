@@ -6,11 +6,9 @@ use lib.ListN.{take}
 use Rattle.start_fields.specs.Reading.{readingOf}
 use Rattle.answer_afl.specs.Cursor.{remaining}
 use Rattle.rulebook.specs.Situation.{Situation}
-use Rattle.rulebook.specs.Phase.{Asked, selecting, optioning, reading, first, second, Heard, terminal, says}
+use Rattle.rulebook.specs.Phase.{Asked, selecting, optioning, reading, first, second}
 use Rattle.session_phase.specs.declared.Question.{Question}
 use Rattle.session_phase.specs.declared.Question.the-variants.{Select, Options, Record, First, Second}
-use Rattle.session_phase.specs.declared.Speaker.{Speaker}
-use Rattle.session_phase.specs.declared.Speaker.the-variants.{Terminal, Says}
 use Rattle.session_records.specs.Runs.{inRun}
 use Rattle.session_records.specs.Slots.{told}
 use Rattle.session_state.specs.declared.State.{State}
@@ -48,8 +46,3 @@ askedBy Options s = optioning (early s) []
 askedBy Record s = reading (late s) 0 0 (recordsLeft s)
 askedBy (First request) s = first (late s) request
 askedBy (Second request) s = second (late s) request []
-
--- what somebody else is to say
-unfoldable pub heardBy : Speaker → State → Heard
-heardBy Terminal s = terminal
-heardBy (Says word count) s = says word (late s)

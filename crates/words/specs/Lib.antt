@@ -1,2 +1,3 @@
 -- What somebody other than the card says after START.
 pub mod Words
+pub mod Choice

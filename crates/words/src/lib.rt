@@ -6,8 +6,10 @@ use numbers::HOST;
 use numbers::REFUSED_HOST;
 use numbers::REFUSED_RESULTS;
 use numbers::RESULTS;
+use slices::byte;
 ghost use mathlib.Core.Path.{_≡_};
 ghost use Rattle.words.specs.Words.{wordKind, wordAllowed, wordRefusal};
+ghost use Rattle.words.specs.Choice.{isChoice};
 
 // The issuer's reply; the results of cardholder verification.
 pub enum Word {
@@ -42,4 +44,18 @@ pub fn refusal(word: Word) -> usize
         Word::Host => REFUSED_HOST,
         Word::Results => REFUSED_RESULTS,
     }
+}
+
+// Whether the shopper may choose so, of as many as were shown.
+pub fn is_choice(shown: usize, p: &[u8]) -> bool
+    ensures { λ r. ⌜ r ≡ isChoice shown (now (p .entry)) ⌝ }
+{
+    let place = byte(p, 0);
+    if p.len() != 1 {
+        return false;
+    }
+    if place == 0xFF {
+        return true;
+    }
+    place < shown
 }

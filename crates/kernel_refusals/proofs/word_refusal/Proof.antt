@@ -25,6 +25,10 @@ returns-4 : tie.Need-returns-4
 unfolding wordLines firstOf
 returns-4 c = sym (ap (λ (x : Waiting). firstOf (wordLines x (c .before .before .before .args .p .now))) (c .enum-told3 .given .1))
 
+returns-5 : tie.Need-returns-5
+unfolding wordLines firstOf
+returns-5 c = sym (ap (λ (x : Waiting). firstOf (wordLines x (c .before .before .before .args .p .now))) (c .enum-told4 .given .1))
+
 pub word-refusal-spec : {M : Type 1} → statement M
 word-refusal-spec =
     tie.close
@@ -34,7 +38,9 @@ word-refusal-spec =
     (λ c. search needs)
     (λ c. search needs)
     (λ c. search needs)
+    (λ c. search needs)
     returns
     returns-2
     returns-3
-    returns-4)
+    returns-4
+    returns-5)

@@ -36,6 +36,13 @@ returns-4 c =
     c .stage3 .ensures
     ∙ sym (ap (λ (x : Waiting). wordAt x (args .j) (args .index) (args .kind) (args .payload .now)) (c .before .enum-told3 .given .1))
 
+returns-5 : tie.Need-returns-5
+unfolding wordAt
+returns-5 c =
+    let args = c .before .before .before .before .before .args in
+    c .stage4 .ensures
+    ∙ sym (ap (λ (x : Waiting). wordAt x (args .j) (args .index) (args .kind) (args .payload .now)) (c .before .enum-told4 .given .1))
+
 pub at-word-spec : {M : Type 1} → statement M
 at-word-spec =
     tie.close
@@ -48,7 +55,10 @@ at-word-spec =
     (λ c κs. search needs)
     (λ c. search needs)
     (λ c κs. search needs)
+    (λ c. search needs)
+    (λ c κs. search needs)
     returns
     returns-2
     returns-3
-    returns-4)
+    returns-4
+    returns-5)

@@ -12,20 +12,25 @@ returns c = sym (ap awaited (c .enum-told .given .1))
 
 returns-2 : tie.Need-returns-2
 unfolding awaited
-returns-2 c = c .kind-of .ensures ∙ sym (ap awaited (c .before .before .waiting .given .1))
+returns-2 c = sym (ap awaited (c .enum-told2 .given .1))
 
 returns-3 : tie.Need-returns-3
 unfolding awaited
-returns-3 c = sym (ap awaited (c .enum-told2 .given .1))
+returns-3 c = c .kind-of .ensures ∙ sym (ap awaited (c .before .before .waiting .given .1))
 
 returns-4 : tie.Need-returns-4
 unfolding awaited
 returns-4 c = sym (ap awaited (c .enum-told3 .given .1))
 
+returns-5 : tie.Need-returns-5
+unfolding awaited
+returns-5 c = sym (ap awaited (c .enum-told4 .given .1))
+
 pub awaits-spec : {M : Type 1} → statement M
 awaits-spec =
     tie.close
     (tie.spec
+    (λ c. search needs)
     (λ c. search needs)
     (λ c. search needs)
     (λ c κs. search needs)
@@ -34,4 +39,5 @@ awaits-spec =
     returns
     returns-2
     returns-3
-    returns-4)
+    returns-4
+    returns-5)

@@ -19,7 +19,13 @@ returns-2 c =
     let args = c .before .before .before .before .before .args in
     c .is-allowed .ensures ∙ sym (ap (λ (x : Speaker). allowedBy x (args .p .now)) (c .before .before .speaker .given .1))
 
+returns-3 : tie.Need-returns-3
+unfolding allowedBy
+returns-3 c =
+    let args = c .before .before .before .before .before .args in
+    c .is-choice .ensures ∙ sym (ap (λ (x : Speaker). allowedBy x (args .p .now)) (c .before .before .speaker2 .given .1))
+
 pub is-allowed-spec : {M : Type 1} → statement M
 is-allowed-spec =
     tie.close
-    (tie.spec (λ c. search needs) (λ c κs. search needs) (λ c. search needs) (λ c κs. search needs) returns returns-2)
+    (tie.spec (λ c. search needs) (λ c κs. search needs) (λ c. search needs) (λ c κs. search needs) (λ c. search needs) (λ c κs. search needs) returns returns-2 returns-3)

@@ -14,5 +14,9 @@ returns-2 : tie.Need-returns-2
 unfolding refusalBy
 returns-2 c = c .refusal .ensures ∙ sym (ap refusalBy (c .before .before .speaker .given .1))
 
+returns-3 : tie.Need-returns-3
+unfolding refusalBy
+returns-3 c = sym (ap refusalBy (c .enum-told2 .given .1))
+
 pub refusal-by-spec : {M : Type 1} → statement M
-refusal-by-spec = tie.close (tie.spec (λ c. search needs) (λ c. search needs) (λ c κs. search needs) returns returns-2)
+refusal-by-spec = tie.close (tie.spec (λ c. search needs) (λ c. search needs) (λ c κs. search needs) (λ c. search needs) returns returns-2 returns-3)
