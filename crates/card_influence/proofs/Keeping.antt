@@ -87,6 +87,8 @@ keeping-settled (optioning z list) a b e s =
       locator = keptRun (locator i);
       cursor = start;
       told = s .told;
+      listing = s .listing;
+      stand = s .stand;
     }) s
 keeping-settled (readingRecord z number file rest) a b e s =
     let names = namesFor (z .terminal) in

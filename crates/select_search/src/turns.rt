@@ -21,16 +21,23 @@ ghost use Rattle.select_search.specs.Final.{chosen as chosenOf};
 ghost use Rattle.select_search.specs.Heard.{heardAt, heard as heardOf};
 ghost use Rattle.select_search.specs.Turns.{searchOf, turnOf, listLeft, turned, kept, goesOn};
 
-// Where a selection begins, with nobody in the list.
-pub fn begin(list: &mut [u8; SIZE]) -> Stand
-    ensures { λ r. ⌜ (r ≡ begun .stand) × (listIn (now (list .exit)) ≡ begun .list) ⌝ }
+// Where a selection begins.
+pub fn first() -> Stand
+    ensures { λ r. ⌜ r ≡ begun .stand ⌝ }
 {
-    clear(list);
     Stand {
         exchanges: 1,
         step: Step::Environment,
         fallen: false,
     }
+}
+
+// There, with nobody in the list.
+pub fn begin(list: &mut [u8; SIZE]) -> Stand
+    ensures { λ r. ⌜ (r ≡ begun .stand) × (listIn (now (list .exit)) ≡ begun .list) ⌝ }
+{
+    clear(list);
+    first()
 }
 
 // The shopper's choice; the list has no part in it.

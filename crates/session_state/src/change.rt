@@ -2,6 +2,8 @@
 use crate::State;
 use answer_afl::cursor;
 use answer_afl::cursor::Cursor;
+use select_search::Stand;
+use select_search::turns;
 use session_phase::Question;
 use session_phase::Speaker;
 use session_phase::Waiting;
@@ -9,12 +11,15 @@ use session_records::Store;
 use session_records::records;
 use session_records::runs;
 use slices::lay;
+use start_choosing::LISTING;
+use start_choosing::first_alone;
 use start_fields::fields::FULL;
 ghost use mathlib.Core.Path.{_≡_};
-ghost use Rattle.session_state.specs.Keeping.{withTold, withOptions, changed, stateAt, fresh as freshState, begun as begunState};
+ghost use Rattle.session_state.specs.Keeping.{withTold, withOptions, withStand, changed};
+ghost use Rattle.session_state.specs.Keeping.{stateAt, fresh as freshState, begun as begunState, begunListing};
 
-fn state_at(waiting: Waiting, start: [u8; FULL], size: usize) -> State
-    ensures { λ r. ⌜ r ≡ stateAt waiting start size ⌝ }
+fn state_at(waiting: Waiting, start: [u8; FULL], size: usize, listing: [u8; LISTING]) -> State
+    ensures { λ r. ⌜ r ≡ stateAt waiting start size listing ⌝ }
 {
     State {
         waiting,
@@ -26,13 +31,20 @@ fn state_at(waiting: Waiting, start: [u8; FULL], size: usize) -> State
         locator: runs::nothing(),
         cursor: cursor::start(),
         told: records::nothing(),
+        listing,
+        stand: turns::first(),
     }
 }
 
 pub fn fresh() -> State
     ensures { λ r. ⌜ r ≡ freshState ⌝ }
 {
-    state_at(Waiting::ForWord(Speaker::Terminal), [0; FULL], 0)
+    state_at(
+        Waiting::ForWord(Speaker::Terminal),
+        [0; FULL],
+        0,
+        [0; LISTING],
+    )
 }
 
 pub fn begun(start: &[u8]) -> State
@@ -40,7 +52,51 @@ pub fn begun(start: &[u8]) -> State
 {
     let mut bytes = [0; FULL];
     lay(&mut bytes, 0, start);
-    state_at(Waiting::ForCard(Question::Select), bytes, start.len())
+    state_at(
+        Waiting::ForCard(Question::Select),
+        bytes,
+        start.len(),
+        [0; LISTING],
+    )
+}
+
+// START with a list: the search begins.
+pub fn begun_listing(start: &[u8]) -> State
+    ensures { λ r. ⌜ r ≡ begunListing (now (start .entry)) ⌝ }
+{
+    let alone = first_alone(start);
+    let mut listing = [0; LISTING];
+    lay(&mut listing, 0, start);
+    state_at(Waiting::Searching, alone, FULL, listing)
+}
+
+// Where the search stands.
+pub fn with_stand(s: State, stand: Stand) -> State
+    ensures { λ r. ⌜ r ≡ withStand stand s ⌝ }
+{
+    let waiting = s.waiting;
+    let start = s.start;
+    let size = s.size;
+    let tvr = s.tvr;
+    let tsi = s.tsi;
+    let profile = s.profile;
+    let locator = s.locator;
+    let cursor = s.cursor;
+    let told = s.told;
+    let listing = s.listing;
+    State {
+        waiting,
+        start,
+        size,
+        tvr,
+        tsi,
+        profile,
+        locator,
+        cursor,
+        told,
+        listing,
+        stand,
+    }
 }
 
 pub fn with_told(mut s: State, told: Store) -> State
@@ -69,6 +125,8 @@ pub fn change(s: State, waiting: Waiting, tvr: [u8; 5], tsi: [u8; 2], cursor: Cu
     let profile = s.profile;
     let locator = s.locator;
     let told = s.told;
+    let listing = s.listing;
+    let stand = s.stand;
     State {
         waiting,
         start,
@@ -79,5 +137,7 @@ pub fn change(s: State, waiting: Waiting, tvr: [u8; 5], tsi: [u8; 2], cursor: Cu
         locator,
         cursor,
         told,
+        listing,
+        stand,
     }
 }

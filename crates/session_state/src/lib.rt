@@ -3,9 +3,11 @@ pub mod change;
 pub mod result;
 
 use answer_afl::cursor::Cursor;
+use select_search::Stand;
 use session_phase::Waiting;
 use session_records::Run;
 use session_records::Store;
+use start_choosing::LISTING;
 use start_fields::fields::FULL;
 
 pub struct State {
@@ -22,4 +24,7 @@ pub struct State {
     pub cursor: Cursor,
     // what the records told
     pub told: Store,
+    // START with a list as it was handed in, and where the search for an application stands; its list stands in lent bytes
+    pub listing: [u8; LISTING],
+    pub stand: Stand,
 }

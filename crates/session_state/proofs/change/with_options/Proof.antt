@@ -25,6 +25,8 @@ returns c = let s = c .before .before .before .before .before .before .before .b
       locator = l i;
       cursor = c .start .ensures i;
       told = s .told;
+      listing = s .listing;
+      stand = s .stand;
     }
 
 pub with-options-spec : {M : Type 1} → statement M
