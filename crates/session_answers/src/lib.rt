@@ -3,7 +3,6 @@ use answer_common::content::NAMES;
 use answer_common::content::names_for;
 use answer_cryptogram as cryptogram;
 use answer_gpo::options_reason;
-use commands::write;
 use decide_cryptogram::Cryptogram;
 use decide_cryptogram::Given;
 use decide_cryptogram::Request;
@@ -11,12 +10,9 @@ use decide_tvr::results::tsi_after_first_answer;
 use numbers::APPROVED;
 use numbers::DECLINED;
 use session_moves::Step;
-use session_moves::command::missing;
-use session_moves::ends::ask;
 use session_moves::ends::decide;
 use session_moves::ends::end;
-use session_moves::known::at_options;
-use session_phase::Question;
+use session_moves::options::options_due;
 use session_records::Store;
 use session_records::records::bytes_of;
 use session_records_read::read_on;
@@ -48,11 +44,7 @@ pub fn on_select(s: State, a: &[u8], buf: &mut [u8]) -> Step
     if why != 0 {
         return end(s, why);
     }
-    let known = at_options(s);
-    let list = answer_select::pdol(a);
-    let n = write::options(list, terminal, &known, buf);
-    let zeros = missing(s, list, &known);
-    ask(s, Question::Options, n, zeros)
+    options_due(s, answer_select::pdol(a), buf)
 }
 
 pub fn on_options(s: State, a: &[u8], buf: &mut [u8]) -> Step

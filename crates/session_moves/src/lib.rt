@@ -3,6 +3,7 @@
 pub mod command;
 pub mod ends;
 pub mod known;
+pub mod options;
 
 use session_phase::Reply;
 use session_state::State;
