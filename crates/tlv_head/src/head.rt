@@ -1,78 +1,49 @@
-// The head of a data object at the front of some bytes. A byte past the end reads as 0; `is_whole` then finds that
-// the object does not fit.
+// The head of a data object, read once from left to right. A byte past the end reads as 0; `fitting` then finds that the object does not
+// fit.
 use crate::Next;
 use crate::tag::is_tag_right;
 use crate::tag::tag_of;
 use crate::tag::tag_size;
 use slices::byte;
 ghost use mathlib.Core.Path.{_≡_};
-ghost use Prim.Native.Nat.{_<_, _≤_};
-ghost use Rattle.tlv_head.specs.Head.{lengthByte, lengthForm, lengthSize, lengthOf, valueStart, valueEnd, whole};
+ghost use mathlib.Core.Bool.{true};
+ghost use Prim.Native.Nat.{_+_, _<_, _≤_};
+ghost use lib.Dec.{leb};
+ghost use lib.ListN.{length, drop};
+ghost use Rattle.slices.specs.Choice.{pick};
+ghost use Rattle.tlv_head.specs.Head.{tagOf, tagSize, tagRight};
 ghost use Rattle.tlv_head.specs.Member.{memberAt};
+ghost use Rattle.tlv_head.specs.declared.Next.the-variants.{Member, Broken};
 
-fn length_byte(s: &[u8]) -> usize
-    ensures { λ r. ⌜ (r ≡ lengthByte (now (s .entry))) × (r < 256) ⌝ }
+// An object whose value has n bytes from `start` on, if these are there.
+fn fitting(s: &[u8], tag: usize, start: usize, n: usize) -> Next
+    requires { ⌜ (start ≤ length (now s) + 5) × (n < 65536) ⌝ }
+    ensures { λ r. ⌜ r ≡ pick (leb (start + n) (length (now (s .entry)))) (Member tag start (start + n)) Broken ⌝ }
 {
-    byte(s, tag_size(s))
-}
-
-fn length_form(b: usize) -> usize
-    ensures { λ r. ⌜ (r ≡ lengthForm b) × (r ≤ 3) ⌝ }
-{
-    if b < 0x80 {
-        1
-    } else if b == 0x81 {
-        2
-    } else if b == 0x82 {
-        3
+    let end = start + n;
+    if end <= s.len() {
+        Next::Member { tag, start, end }
     } else {
-        0
+        Next::Broken
     }
 }
 
-fn length_size(s: &[u8]) -> usize
-    ensures { λ r. ⌜ (r ≡ lengthSize (now (s .entry))) × (r ≤ 3) ⌝ }
+// The object at a place where a tag stands, of so many bytes: by its length.
+fn sized(s: &[u8], p: usize, tag: usize, size: usize) -> Next
+    requires { ⌜ (p ≤ length (now s)) × (size ≤ 2) × (tagRight (drop p (now s)) ≡ true) × (tag ≡ tagOf (drop p (now s)))
+        × (size ≡ tagSize (drop p (now s))) ⌝ }
+    ensures { λ r. ⌜ r ≡ memberAt (now (s .entry)) p ⌝ }
 {
-    length_form(length_byte(s))
-}
-
-fn length_of(s: &[u8]) -> usize
-    ensures { λ r. ⌜ (r ≡ lengthOf (now (s .entry))) × (r < 65536) ⌝ }
-{
-    let form = length_byte(s);
-    let next = tag_size(s) + 1;
+    let at = p + size;
+    let form = byte(s, at);
     if form < 0x80 {
-        form
+        fitting(s, tag, at + 1, form)
     } else if form == 0x81 {
-        byte(s, next)
+        fitting(s, tag, at + 2, byte(s, at + 1))
+    } else if form == 0x82 {
+        fitting(s, tag, at + 3, 256 * byte(s, at + 1) + byte(s, at + 2))
     } else {
-        256 * byte(s, next) + byte(s, next + 1)
-    }
-}
-
-fn value_start(s: &[u8]) -> usize
-    ensures { λ r. ⌜ (r ≡ valueStart (now (s .entry))) × (r ≤ 5) ⌝ }
-{
-    tag_size(s) + length_size(s)
-}
-
-fn value_end(s: &[u8]) -> usize
-    ensures { λ r. ⌜ (r ≡ valueEnd (now (s .entry))) × (r < 65541) ⌝ }
-{
-    value_start(s) + length_of(s)
-}
-
-fn is_whole(s: &[u8]) -> bool
-    ensures { λ r. ⌜ r ≡ whole (now (s .entry)) ⌝ }
-{
-    if is_tag_right(s) {
-        if length_size(s) == 0 {
-            false
-        } else {
-            value_end(s) <= s.len()
-        }
-    } else {
-        false
+        Next::Broken
     }
 }
 
@@ -84,14 +55,8 @@ pub fn member_at(s: &[u8], p: usize) -> Next
         return Next::Broken;
     }
     let t = &s[p..];
-    if is_whole(t) {
-        let start = value_start(t);
-        let end = value_end(t);
-        Next::Member {
-            tag: tag_of(t),
-            start: p + start,
-            end: p + end,
-        }
+    if is_tag_right(t) {
+        sized(s, p, tag_of(t), tag_size(t))
     } else {
         Next::Broken
     }
