@@ -56,18 +56,26 @@ pub fn find(s: &[u8], tag: usize) -> Sought
     Sought::InList(find_in_checked(s, tag))
 }
 
-// What was found of a tag, and one object more.
+// What was found of a tag, and one object more. It is built anew, not handed on: that would copy the bytes between its parts.
 fn noted(found: Found, name: usize, tag: usize, start: usize, end: usize) -> Found
     ensures { λ r. ⌜ r ≡ notedOf name tag start end found ⌝ }
 {
-    if tag == name {
-        match found {
-            Found::Absent => Found::Once { start, end },
-            Found::Once { start: _, end: _ } => Found::Twice,
-            Found::Twice => Found::Twice,
+    match found {
+        Found::Absent => {
+            if tag == name {
+                Found::Once { start, end }
+            } else {
+                Found::Absent
+            }
         }
-    } else {
-        found
+        Found::Once { start: a, end: e } => {
+            if tag == name {
+                Found::Twice
+            } else {
+                Found::Once { start: a, end: e }
+            }
+        }
+        Found::Twice => Found::Twice,
     }
 }
 
