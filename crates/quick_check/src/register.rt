@@ -16,7 +16,8 @@ pub fn after(s: &[u8], rows: &[u32; 2048]) -> u32
     let mut r = turn(ONES ^ word(s, 0), rows, 0);
     let mut i = 4;
     while i < s.len() {
-        r = turn(r ^ word(s, i), rows, 4) ^ turn(word(s, i + 4), rows, 0);
+        // What does not wait for the register comes first: the compiler joins in this order.
+        r = turn(word(s, i + 4), rows, 0) ^ turn(r ^ word(s, i), rows, 4);
         i += 8;
     }
     r

@@ -3,7 +3,7 @@
 use mathlib.Core.Path.{_≡_, refl, ap, ap₂, _∙_}
 use Prim.Native.Nat.{ℕ, _+_, _%_, _≤_, _<_, _-_}
 use native.Mathlib.Omega.{arith}
-use lib.Bits.{bitXor}
+use lib.Bits.{bitXor, xor-comm}
 use lib.ListN.{length, getD, drop}
 use Rattle.tape_crc.specs.Check.{runningOf, ones}
 use Rattle.tape_crc.proofs.Laws.{taken-all}
@@ -41,10 +41,11 @@ loop-again c =
     let byte : (j : ℕ) → getD s j 0 < 256 = λ j. known .shared-slice-known .given j .fits in (
       omega (arith, start .pre .1),
       omega arith,
-      ap₂ (λ (a b : ℕ). runningOf (bitXor a b) (drop (l .i + 8) s)) (far .turn2 .ensures) (c .turn3 .ensures)
-          ∙ (turn-of-eight (l .r) (l .i) s (read .word2 .result) (near .word3 .result) (read .word2 .ensures) (near .word3 .ensures)
+      ap (λ (x : ℕ). runningOf x (drop (l .i + 8) s)) (xor-comm (far .turn2 .result) (c .turn3 .result))
+          ∙ (ap₂ (λ (a b : ℕ). runningOf (bitXor a b) (drop (l .i + 8) s)) (c .turn3 .ensures) (far .turn2 .ensures)
+          ∙ (turn-of-eight (l .r) (l .i) s (near .word3 .result) (read .word2 .result) (near .word3 .ensures) (read .word2 .ensures)
           (omega (arith, start .pre .1)) byte
-          ∙ l .inv .2),
+          ∙ l .inv .2)),
     )
 
 returns : tie.Need-returns Inv-loop μ-loop
@@ -62,9 +63,9 @@ after-spec =
     (λ c κs. omega (arith, c .before .pre .1))
     (λ c κs. (c .before .before .pre .0, omega arith))
     loop-holds
+    (λ c. omega arith)
     (λ c κs. omega (arith, c .before .before .before .before .before .pre .1))
     (λ c κs. (c .before .before .before .before .before .before .pre .0, omega arith))
-    (λ c. omega arith)
     (λ c κs. omega (arith, c .before .before .before .before .before .before .before .pre .1))
     (λ c κs. (c .before .before .before .before .before .before .before .before .pre .0, omega arith))
     (λ c. omega arith)
