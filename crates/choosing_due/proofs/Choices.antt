@@ -4,7 +4,8 @@ use mathlib.Core.Path.{_≡_, refl}
 use mathlib.Core.List.{List}
 use Prim.Native.Nat.{ℕ}
 use Rattle.rulebook.specs.Later.{HeardLater, allowedLater}
-use Rattle.rulebook_choosing.specs.Choosing.{Choosing, mayChoose, isChoice}
+use Rattle.words.specs.Choice.{isChoice}
+use Rattle.rulebook_choosing.specs.Choosing.{Choosing, mayChoose}
 use Rattle.rulebook_choosing.specs.Session.{rules}
 use Rattle.choosing_due.specs.Due.{countIn}
 

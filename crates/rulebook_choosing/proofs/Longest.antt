@@ -34,7 +34,8 @@ use Rattle.rulebook.proofs.Opening.{reached}
 use Rattle.rulebook.proofs.Made.{select, withList}
 use Rattle.rulebook.proofs.Longest.{fromOptions, options-played, options-long}
 use Rattle.rulebook.specs.Later.{AskedLater, HeardLater, commandLater, turnLater, kindLater, allowedLater, afterLater}
-use Rattle.rulebook_choosing.specs.Choosing.{ChoosingPhase, searched, isChoice, mayChoose}
+use Rattle.words.specs.Choice.{isChoice}
+use Rattle.rulebook_choosing.specs.Choosing.{ChoosingPhase, searched, mayChoose}
 use Rattle.rulebook_choosing.specs.Session.{rules, Plays, Session, longest}
 use Rattle.rulebook_choosing.proofs.Unlooked.{from-today}
 use Rattle.rulebook_choosing.proofs.Falling.{listing, directory, record28, noRecord, missing, computed, listing-valid, one, at}
