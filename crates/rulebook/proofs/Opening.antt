@@ -42,80 +42,82 @@ use Rattle.sessions.specs.Session.{isPayload as o108, phasesOf as o109}
 use Rattle.decimal_dates.specs.Dates.{dateKey as o110, monthAndDay as o111, validStartDate as o112, validCardDate as o113}
 use Rattle.decimal_dates.specs.Decimal.{decimalFrom as o114, decimal as o115, decimalByte as o116, digitsOnly as o117}
 use Rattle.decimal_dates.specs.Decimal.{zerosOnly as o118}
-use Rattle.start_fields.specs.Layout.{isLength as o119}
-use Rattle.start_fields.specs.Reading.{readingOf as o120}
-use Rattle.start_valid.specs.Start.{validKind as o121, validDigits as o122, validRandom as o123, validPercentages as o124}
-use Rattle.start_valid.specs.Start.{validThreshold as o125, validAid as o126, validStart as o127, terminalOf as o128}
-use Rattle.start_valid.specs.Start.{beginsSession as o129}
-use Rattle.decide_cryptogram.specs.Cryptograms.{givenBy as o130, allowedBy as o131}
-use Rattle.answer_afl.specs.Cursor.{fromEntry as o132, entryAt as o133, start as o134, isLeft as o135, recordAt as o136}
-use Rattle.answer_afl.specs.Cursor.{stepped as o137, remaining as o138}
-use Rattle.answer_afl.specs.Entries.{firstEntry as o139, entries as o140, wholeEntries as o141, sfi as o142, records as o143}
-use Rattle.answer_afl.specs.Entries.{fileRight as o144, entryRight as o145, entriesRight as o146, recordsOf as o147}
-use Rattle.answer_afl.specs.Entries.{recordCount as o148, tooMany as o149, run as o150, readEntry as o151, readAll as o152}
-use Rattle.answer_afl.specs.Entries.{toRead as o153}
-use Rattle.answer_common.specs.Answer.{sizeBad as o154, statusBad as o155, only as o156, outer as o157, theOne as o158}
-use Rattle.answer_common.specs.Answer.{tagged as o159, valueUnder as o160, isOne as o161, inside as o162, outerBad as o163}
-use Rattle.answer_common.specs.Answer.{frame as o164}
-use Rattle.answer_common.specs.CardNumber.{halves as o165, digits as o166, onlyF as o167, cardNumber as o168}
-use Rattle.answer_common.specs.Content.{meets as o169, rowsFor as o170, namesFor as o171, rules as o172, ruleFor as o173}
-use Rattle.answer_common.specs.Content.{rightValue as o174}
-use Rattle.answer_common.specs.Forms.{lacks as o175}
-use Rattle.answer_common.specs.Named.{membersIn as o176, listed as o177, named as o178, among as o179, direct as o180}
-use Rattle.answer_common.specs.Named.{standing as o181, times as o182, foundTimes as o183, told as o184, valueOf as o185}
-use Rattle.answer_common.specs.Named.{wrongValue as o186, anyTimes as o187, anyWrong as o188}
-use Rattle.answer_common.specs.Single.{lastOne as o189, aloneBy as o190, aloneIn as o191, singleOf as o192}
-use Rattle.cvm_rules.specs.Conditions.{satisfied as o193}
-use Rattle.cvm_rules.specs.Methods.{methodOf as o194, supported as o195, succeeds as o196, pinBits as o197, triedBits as o198}
-use Rattle.cvm_rules.specs.Turns.{triedTurn as o199, tried as o200, turnOf as o201}
-use Rattle.cvm.specs.Lists.{limitOf as o202, limitX as o203, limitY as o204, rulesOf as o205, rulesIn as o206, isResult as o207}
-use Rattle.cvm.specs.Lists.{areResults as o208, inApplicationCurrency as o209}
-use Rattle.cvm.specs.Verified.{following as o210, verifiedFrom as o211, verified as o212}
-use Rattle.decide_tvr.specs.Bits.{joined as o213, meet as o214, flag as o215}
-use Rattle.decide_tvr.specs.Results.{differentVersions as o216, expired as o217, notYetEffective as o218, riskManaged as o219}
-use Rattle.decide_tvr.specs.Results.{atFloorLimit as o220, drawn as o221, restrictions as o222, risks as o223}
-use Rattle.decide_tvr.specs.Results.{tvrAfterRecords as o224, tsiAfterRecords as o225, tsiAfterFirstAnswer as o226}
-use Rattle.decide_tvr.specs.Selection.{biased as o227, chosen as o228, selected as o229}
-use Rattle.decide_requests.specs.Replies.{codeIn as o230, saidBy as o231, replyOf as o232, isReply as o233, responseCode as o234}
-use Rattle.decide_requests.specs.Requests.{issuerCode as o235, codeMatch as o236, byType as o237, firstRequest as o238}
-use Rattle.decide_requests.specs.Requests.{whenUnable as o239, secondRequest as o240}
-use Rattle.decide_verification.specs.Verification.{verificationSupported as o241, resultsDue as o242, verificationList as o243}
-use Rattle.decide_verification.specs.Verification.{resultsWanted as o244, circumstancesOf as o245, tvrAfterResults as o246}
-use Rattle.decide_verification.specs.Verification.{tsiAfterResults as o247}
-use Rattle.dol_wanted.specs.Wanted.{andThen as o248, sizeAt as o249, firstWanted as o250, asks as o251, wantedStep as o252}
-use Rattle.dol_wanted.specs.Wanted.{entriesOf as o253, total as o254, totalBy as o255, totalOf as o256, fits as o257}
-use Rattle.dol_wanted.specs.Wanted.{fillable as o258, tally as o259}
-use Rattle.dol_values.specs.Known.{ownField as o260, valueBy as o261, valueFor as o262, withFormat as o263, supplied as o264}
-use Rattle.dol_values.specs.Shape.{shaped as o265, formatOf as o266}
-use Rattle.dol_fill.specs.Filled.{entryBytes as o267, firstBytes as o268, filled as o269, filledBy as o270, filledList as o271}
-use Rattle.dol_fill.specs.Filled.{filling as o272, missing as o273, missingIn as o274, missingBy as o275, unsupplied as o276}
-use Rattle.dol_fill.specs.Filled.{summed as o277}
-use Rattle.commands.specs.Commands.{selectCommand as o278, optionsCommand as o279, recordCommand as o280, withLength as o281}
-use Rattle.commands.specs.Commands.{cryptogramCommand as o282, sizeIn as o283, dataSize as o284}
-use Rattle.answer_select.specs.Select.{inner as o285, pdolOf as o286, begins as o287, nameWrong as o288, selectTwice as o289}
-use Rattle.answer_select.specs.Select.{selectWrong as o290, selectLines as o291, selectReason as o292}
-use Rattle.answer_record.specs.Records.{again as o293, anyAgain as o294, recordTwice as o295, recordLines as o296}
-use Rattle.answer_record.specs.Records.{recordReason as o297, valueIn as o298, namedIn as o299, incomplete as o300}
-use Rattle.answer_record.specs.Records.{completeReason as o301, afterRecords as o302}
-use Rattle.answer_record.specs.Taken.{taken as o303, worse as o304, oneTaken as o305, objectsTaken as o306, takenBy as o307}
-use Rattle.answer_record.specs.Taken.{takenWalk as o308, takenFrom as o309, takenIn as o310, recordTaken as o311}
-use Rattle.answer_gpo.specs.Options.{profileOf as o312, locatorOf as o313, optionsWrong as o314, optionsLines as o315}
-use Rattle.answer_gpo.specs.Options.{optionsReason as o316}
-use Rattle.answer_cryptogram.specs.Cryptogram.{informationOf as o317, cryptogramOf as o318, cryptogramWrong as o319}
-use Rattle.answer_cryptogram.specs.Cryptogram.{cryptogramLines as o320, cryptogramReason as o321}
-use Rattle.words.specs.Words.{wordKind as o322, wordAllowed as o323, wordRefusal as o324}
-use Rattle.rulebook.specs.Later.{asWas as o325, commandLater as o326, turnLater as o327, kindLater as o328}
-use Rattle.rulebook.specs.Later.{allowedLater as o329, afterLater as o330}
-use Rattle.rulebook.specs.Phase.{situationOf as o331, commandOf as o332, dueKind as o333, decisionOf as o334}
-use Rattle.rulebook.specs.Phase.{decided as o335, ended as o336, tvrOf as o337, tsiOf as o338}
-use Rattle.rulebook.specs.Roles.{given as o339, begins as o340}
-use Rattle.rulebook.specs.Situation.{begun as o341, knownIn as o342, listIn as o343}
-use Rattle.rulebook.specs.Turn.{goesOn as o344, opened as o345, selected as o346, managed as o347, requested as o348}
-use Rattle.rulebook.specs.Turn.{verifying as o349, allRead as o350, readOn as o351, withProfile as o352, optioned as o353}
-use Rattle.rulebook.specs.Turn.{withRecord as o354, recorded as o355, answered as o356, replied as o357, online as o358}
-use Rattle.rulebook.specs.Turn.{byFirst as o359, firstAnswered as o360, bySecond as o361, secondAnswered as o362}
-use Rattle.rulebook.specs.Turn.{turn as o363, wantedIn as o364, allowed as o365, replyMade as o366, issuerReplied as o367}
-use Rattle.rulebook.specs.Turn.{verifiedBy as o368, after as o369}
+use Rattle.start_fields.specs.Bare.{terminalWith as o119}
+use Rattle.start_fields.specs.Layout.{isLength as o120}
+use Rattle.start_fields.specs.Reading.{readingOf as o121}
+use Rattle.start_valid.specs.Start.{validKind as o122, validDigits as o123, validRandom as o124, validPercentages as o125}
+use Rattle.start_valid.specs.Start.{validThreshold as o126, validAid as o127, validStart as o128, terminalOf as o129}
+use Rattle.start_valid.specs.Start.{beginsSession as o130}
+use Rattle.decide_cryptogram.specs.Cryptograms.{givenBy as o131, allowedBy as o132}
+use Rattle.answer_afl.specs.Cursor.{fromEntry as o133, entryAt as o134, start as o135, isLeft as o136, recordAt as o137}
+use Rattle.answer_afl.specs.Cursor.{stepped as o138, remaining as o139}
+use Rattle.answer_afl.specs.Entries.{firstEntry as o140, entries as o141, wholeEntries as o142, sfi as o143, records as o144}
+use Rattle.answer_afl.specs.Entries.{fileRight as o145, entryRight as o146, entriesRight as o147, recordsOf as o148}
+use Rattle.answer_afl.specs.Entries.{recordCount as o149, tooMany as o150, run as o151, readEntry as o152, readAll as o153}
+use Rattle.answer_afl.specs.Entries.{toRead as o154}
+use Rattle.answer_common.specs.Answer.{sizeBad as o155, statusBad as o156, only as o157, outer as o158, theOne as o159}
+use Rattle.answer_common.specs.Answer.{tagged as o160, valueUnder as o161, isOne as o162, inside as o163, outerBad as o164}
+use Rattle.answer_common.specs.Answer.{frame as o165}
+use Rattle.answer_common.specs.CardNumber.{halves as o166, digits as o167, onlyF as o168, cardNumber as o169}
+use Rattle.answer_common.specs.Content.{meets as o170, rowsFor as o171, namesFor as o172, rules as o173, ruleFor as o174}
+use Rattle.answer_common.specs.Content.{rightValue as o175}
+use Rattle.answer_common.specs.Forms.{lacks as o176}
+use Rattle.answer_common.specs.Named.{membersIn as o177, listed as o178, named as o179, among as o180, direct as o181}
+use Rattle.answer_common.specs.Named.{standing as o182, times as o183, foundTimes as o184, told as o185, valueOf as o186}
+use Rattle.answer_common.specs.Named.{wrongValue as o187, anyTimes as o188, anyWrong as o189}
+use Rattle.answer_common.specs.Single.{lastOne as o190, aloneBy as o191, aloneIn as o192, singleOf as o193}
+use Rattle.cvm_rules.specs.Conditions.{satisfied as o194}
+use Rattle.cvm_rules.specs.Methods.{methodOf as o195, supported as o196, succeeds as o197, pinBits as o198, triedBits as o199}
+use Rattle.cvm_rules.specs.Turns.{triedTurn as o200, tried as o201, turnOf as o202}
+use Rattle.cvm.specs.Lists.{limitOf as o203, limitX as o204, limitY as o205, rulesOf as o206, rulesIn as o207, isResult as o208}
+use Rattle.cvm.specs.Lists.{areResults as o209, inApplicationCurrency as o210}
+use Rattle.cvm.specs.Verified.{following as o211, verifiedFrom as o212, verified as o213}
+use Rattle.decide_tvr.specs.Bits.{joined as o214, meet as o215, flag as o216}
+use Rattle.decide_tvr.specs.Results.{differentVersions as o217, expired as o218, notYetEffective as o219, riskManaged as o220}
+use Rattle.decide_tvr.specs.Results.{atFloorLimit as o221, drawn as o222, restrictions as o223, risks as o224}
+use Rattle.decide_tvr.specs.Results.{tvrAfterRecords as o225, tsiAfterRecords as o226, tsiAfterFirstAnswer as o227}
+use Rattle.decide_tvr.specs.Selection.{biased as o228, chosen as o229, selected as o230}
+use Rattle.decide_requests.specs.Replies.{codeIn as o231, saidBy as o232, replyOf as o233, isReply as o234, responseCode as o235}
+use Rattle.decide_requests.specs.Requests.{issuerCode as o236, codeMatch as o237, byType as o238, firstRequest as o239}
+use Rattle.decide_requests.specs.Requests.{whenUnable as o240, secondRequest as o241}
+use Rattle.decide_verification.specs.Verification.{verificationSupported as o242, resultsDue as o243, verificationList as o244}
+use Rattle.decide_verification.specs.Verification.{resultsWanted as o245, circumstancesOf as o246, tvrAfterResults as o247}
+use Rattle.decide_verification.specs.Verification.{tsiAfterResults as o248}
+use Rattle.dol_wanted.specs.Wanted.{andThen as o249, sizeAt as o250, firstWanted as o251, asks as o252, wantedStep as o253}
+use Rattle.dol_wanted.specs.Wanted.{entriesOf as o254, total as o255, totalBy as o256, totalOf as o257, fits as o258}
+use Rattle.dol_wanted.specs.Wanted.{fillable as o259, tally as o260}
+use Rattle.dol_values.specs.Known.{ownField as o261, valueBy as o262, valueFor as o263, withFormat as o264, supplied as o265}
+use Rattle.dol_values.specs.Shape.{shaped as o266, formatOf as o267}
+use Rattle.dol_fill.specs.Filled.{entryBytes as o268, firstBytes as o269, filled as o270, filledBy as o271, filledList as o272}
+use Rattle.dol_fill.specs.Filled.{filling as o273, missing as o274, missingIn as o275, missingBy as o276, unsupplied as o277}
+use Rattle.dol_fill.specs.Filled.{summed as o278}
+use Rattle.commands.specs.Commands.{selectCommand as o279, optionsCommand as o280, recordCommand as o281, withLength as o282}
+use Rattle.commands.specs.Commands.{cryptogramCommand as o283, sizeIn as o284, dataSize as o285}
+use Rattle.answer_select.specs.Select.{inner as o286, pdolOf as o287, begins as o288, nameWrong as o289, selectTwice as o290}
+use Rattle.answer_select.specs.Select.{selectWrong as o291, selectLines as o292, selectReason as o293}
+use Rattle.answer_record.specs.Records.{again as o294, anyAgain as o295, recordTwice as o296, recordLines as o297}
+use Rattle.answer_record.specs.Records.{recordReason as o298, valueIn as o299, namedIn as o300, incomplete as o301}
+use Rattle.answer_record.specs.Records.{completeReason as o302, afterRecords as o303}
+use Rattle.answer_record.specs.Taken.{taken as o304, worse as o305, oneTaken as o306, objectsTaken as o307, takenBy as o308}
+use Rattle.answer_record.specs.Taken.{takenWalk as o309, takenFrom as o310, takenIn as o311, recordTaken as o312}
+use Rattle.answer_gpo.specs.Options.{profileOf as o313, locatorOf as o314, optionsWrong as o315, optionsLines as o316}
+use Rattle.answer_gpo.specs.Options.{optionsReason as o317}
+use Rattle.answer_cryptogram.specs.Cryptogram.{informationOf as o318, cryptogramOf as o319, cryptogramWrong as o320}
+use Rattle.answer_cryptogram.specs.Cryptogram.{cryptogramLines as o321, cryptogramReason as o322}
+use Rattle.words.specs.Choice.{isChoice as o323}
+use Rattle.words.specs.Words.{wordKind as o324, wordAllowed as o325, wordRefusal as o326}
+use Rattle.rulebook.specs.Later.{asWas as o327, commandLater as o328, turnLater as o329, kindLater as o330}
+use Rattle.rulebook.specs.Later.{allowedLater as o331, afterLater as o332}
+use Rattle.rulebook.specs.Phase.{situationOf as o333, commandOf as o334, dueKind as o335, decisionOf as o336}
+use Rattle.rulebook.specs.Phase.{decided as o337, ended as o338, tvrOf as o339, tsiOf as o340}
+use Rattle.rulebook.specs.Roles.{given as o341, begins as o342}
+use Rattle.rulebook.specs.Situation.{begun as o343, knownIn as o344, listIn as o345}
+use Rattle.rulebook.specs.Turn.{goesOn as o346, opened as o347, selected as o348, managed as o349, requested as o350}
+use Rattle.rulebook.specs.Turn.{verifying as o351, allRead as o352, readOn as o353, withProfile as o354, optioned as o355}
+use Rattle.rulebook.specs.Turn.{withRecord as o356, recorded as o357, answered as o358, replied as o359, online as o360}
+use Rattle.rulebook.specs.Turn.{byFirst as o361, firstAnswered as o362, bySecond as o363, secondAnswered as o364}
+use Rattle.rulebook.specs.Turn.{turn as o365, wantedIn as o366, allowed as o367, replyMade as o368, issuerReplied as o369}
+use Rattle.rulebook.specs.Turn.{verifiedBy as o370, after as o371}
 
 -- the state that a session's entries lead to
 unfoldable pub reached : List Entry → Option Machine
@@ -133,5 +135,5 @@ unfolding o0 o1 o2 o3 o4 o5 o6 o7 o8 o9 o10 o11 o12 o13 o14 o15 o16 o17 o18 o19 
     o295 o296 o297 o298 o299 o300 o301 o302 o303 o304 o305 o306 o307 o308 o309 o310 o311 o312 o313 o314 o315 o316 o317 o318 o319
     o320 o321 o322 o323 o324 o325 o326 o327 o328 o329 o330 o331 o332 o333 o334 o335 o336 o337 o338 o339 o340 o341 o342 o343 o344
     o345 o346 o347 o348 o349 o350 o351 o352 o353 o354 o355 o356 o357 o358 o359 o360 o361 o362 o363 o364 o365 o366 o367 o368 o369
-    run
+    o370 o371 run
 reached es = run rules es (at opens)
