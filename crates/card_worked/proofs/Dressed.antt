@@ -4,7 +4,7 @@
 -- Assumes nothing.
 use mathlib.Core.Path.{refl}
 use mathlib.Core.List.{List, [], _∷_, _++_}
-use Prim.Native.Nat.{ℕ}
+use Prim.Native.Nat.{ℕ, _+_}
 use lib.ListN.{drop}
 use Rattle.numbers.specs.Tables.{start, command, answer, host}
 use Rattle.tape_read.specs.Entries.{Entry, entry}
@@ -15,7 +15,7 @@ use Rattle.card_seen.specs.SideBySide.{none, asked, answered, said-both, decide
 use Rattle.card_seen.proofs.Freedoms.{viewed}
 use Rattle.card_worked.specs.Dressed.{answersDiffer, Dressed}
 use Rattle.card_worked.proofs.Cards.{offering, profile, giving, counter, cryptogram, issuer, verified, tvr, decides}
-use Rattle.card_worked.proofs.Records.{recordWith, plain, asks}
+use Rattle.card_worked.proofs.Records.{recordSize, recordWith, plain, asks}
 
 -- one session with five answers
 abbrev sessionOf : List ℕ → List ℕ → List ℕ → List ℕ → List ℕ → List Entry
@@ -42,7 +42,7 @@ dressedSession =
     (0x00 ∷ 0x6F ∷ 0x81 ∷ 0x15 ∷ 0x50 ∷ 0x01 ∷ 0x41 ∷ 0x84 ∷ 0x82 ∷ 0x00 ∷ 0x05 ∷ 0xA0 ∷ 0 ∷ 0 ∷ 0 ∷ 3 ∷ 0x00
     ∷ 0xA5 ∷ 0x06 ∷ 0x9F ∷ 0x38 ∷ 0x03 ∷ 0x9F ∷ 0x37 ∷ 0x04 ∷ 0x90 ∷ 0x00 ∷ [])
     (0x80 ∷ 0x06 ∷ 0x10 ∷ 0x00 ∷ 0x08 ∷ 0x01 ∷ 0x01 ∷ 0x00 ∷ 0x00 ∷ 0x90 ∷ 0x00 ∷ [])
-    (0x70 ∷ 0x81 ∷ 0x62 ∷ 0x5F ∷ 0x20 ∷ 0x01 ∷ 0x41 ∷ 0x00 ∷ drop 2 (recordWith plain))
+    (0x70 ∷ 0x81 ∷ (5 + recordSize) ∷ 0x5F ∷ 0x20 ∷ 0x01 ∷ 0x41 ∷ 0x00 ∷ drop 2 (recordWith plain))
     (0x80 ∷ 0x0C ∷ 0x80 ∷ 0x00 ∷ 0x01 ∷ 1 ∷ 2 ∷ 3 ∷ 4 ∷ 5 ∷ 6 ∷ 7 ∷ 8 ∷ 0xAA ∷ 0x90 ∷ 0x00 ∷ [])
     (0x77 ∷ 0x14 ∷ 0x9F ∷ 0x27 ∷ 0x01 ∷ 0x40 ∷ 0x9F ∷ 0x36 ∷ 0x02 ∷ 0x00 ∷ 0x02 ∷ 0x9F ∷ 0x26 ∷ 0x08 ∷ 8 ∷ 7 ∷ 6 ∷ 5 ∷ 4 ∷ 3 ∷ 2 ∷ 1
     ∷ 0x90 ∷ 0x00 ∷ [])

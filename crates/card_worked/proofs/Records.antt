@@ -63,9 +63,12 @@ plain =
 abbrev valueIn : ℕ → Told → List ℕ
 valueIn tag t = beside [] tag t
 
+abbrev pub recordSize : ℕ
+recordSize = 0x5D
+
 abbrev pub recordWith : Told → List ℕ
 recordWith t =
-    0x70 ∷ 0x5D
+    0x70 ∷ recordSize
     ∷ 0x5A ∷ 0x02 ∷ (valueIn 0x5A t
     ++ (0x5F ∷ 0x24 ∷ 0x03 ∷ (valueIn 0x5F24 t
     ++ (0x5F ∷ 0x25 ∷ 0x03 ∷ (valueIn 0x5F25 t
