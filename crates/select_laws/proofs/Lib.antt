@@ -10,3 +10,4 @@ pub mod Numbers
 pub mod Packed
 pub mod Choices
 pub mod Runs
+pub mod Bounds
