@@ -6,6 +6,7 @@ use Rattle.answer_common.specs.Content.{recordNames}
 use Rattle.answer_common.proofs.Present.{Each, by-name}
 use Rattle.answer_gpo.specs.Options.{optionNames}
 use Rattle.answer_select.specs.Select.{innerNames}
+use Rattle.answer_cryptogram.specs.Cryptogram.{cryptogramNames}
 use Rattle.card_worked.specs.Matters.{Matters}
 use Rattle.card_worked.specs.Theorem.{everyName, byValue, Worked}
 use Rattle.card_worked.proofs.Early.{name-counts, template-counts, list-counts, profile-counts, locator-counts}
@@ -29,7 +30,10 @@ counted [] a = tt
 counted (n ∷ ns) a = ((0, a .0), counted ns (a .1))
 
 -- those of SELECT's inner template, of GPO and of records
-middle : Each ByValue (innerNames ++ (optionNames ++ recordNames))
+abbrev middleNames : List ℕ
+middleNames = innerNames ++ (optionNames ++ recordNames)
+
+middle : Each ByValue middleNames
 middle = (list-counts, (profile-counts, (locator-counts, each-counts)))
 
 pub theorem : Worked
@@ -38,10 +42,10 @@ theorem = record {
     (5, name-counts),
     (
       (8, template-counts),
-      also Counts (innerNames ++ (optionNames ++ recordNames)) _ (counted _ middle)
+      also Counts middleNames cryptogramNames (counted middleNames middle)
           ((0, information-counts), ((5, counter-counts), ((5, cryptogram-counts), ((5, issuer-counts), tt)))),
     ),
   );
-  by-value = by-name ByValue byValue (also ByValue (innerNames ++ (optionNames ++ recordNames)) _ middle (information-counts, tt));
+  by-value = by-name ByValue byValue (also ByValue middleNames (0x9F27 ∷ []) middle (information-counts, tt));
   dressed = whole-pair;
 }
