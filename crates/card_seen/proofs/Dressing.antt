@@ -19,11 +19,12 @@ use Rattle.answer_common.specs.Named.{membersIn, listed, named}
 use Rattle.answer_common.specs.Forms.{template, joined, bothForms}
 use Rattle.answer_common.proofs.Absent.{not-inside, one-form}
 use Rattle.answer_select.specs.Select.{selectTag}
-use Rattle.card_seen.specs.Seen.{Counts, whole, within, wholly, Place, selection, options, reading, generation, namesAt}
-use Rattle.card_seen.specs.Seen.{expectedAt, object, apartOptions, apartCryptogram, inForms, objectsAt, Shown, shownAs}
-use Rattle.card_seen.specs.Seen.{tagsOf, shown, namedAt, seen}
-use Rattle.card_seen.specs.Dressing.{templateAt, Unseen, filler, ignored, rewritten, inner, Dressed, JoinedAgain, OtherForm}
+use Rattle.card_seen.specs.Seen.{Counts, whole, within, noting, wholly, Place, selection, options, reading, generation}
+use Rattle.card_seen.specs.Seen.{environment, directory, application, namesAt, expectedAt, object, apartOptions, apartCryptogram}
+use Rattle.card_seen.specs.Seen.{inForms, objectsAt, Shown, noted, shownAs, tagsOf, shown, namedAt, seen}
+use Rattle.card_seen.specs.Dressing.{templateAt, Unseen, filler, ignored, rewritten, inner, entry, Dressed, JoinedAgain, OtherForm}
 use Rattle.card_seen.proofs.Looking.{back, every-whole, their-names}
+use Rattle.card_seen.proofs.Noting.{noted-named}
 use Rattle.card_seen.proofs.Forms.{not-joined, joined-expected}
 
 -- ---- members
@@ -80,21 +81,35 @@ back-named names (m ∷ ms) =
     ∙ (ap (λ (os : List Object). m ∷ os) (back-named names ms) ∙ sym (pick-yes _ _ _ y))))
     (λ n. ap back (pick-no _ _ _ (ap (listed (m .tag)) (their-names names) ∙ n)) ∙ (back-named names ms ∙ sym (pick-no _ _ _ n)))
 
--- of an object of which only the named members count
-module _ (table : List (ℕ × Counts)) (tag : ℕ) (names v u : List ℕ) (w : beside whole tag table ≡ within names)
-    (same : shown (wholly names) (membersIn v) ≡ shown (wholly names) (membersIn u)) where
-  named-same : named names (membersIn v) ≡ named names (membersIn u)
-  named-same = sym (back-named names (membersIn v)) ∙ (ap back same ∙ back-named names (membersIn u))
+-- so members that are seen alike have the same named ones
+named-same : (names v u : List ℕ) → shown (wholly names) (membersIn v) ≡ shown (wholly names) (membersIn u)
+    → named names (membersIn v) ≡ named names (membersIn u)
+named-same names v u same = sym (back-named names (membersIn v)) ∙ (ap back same ∙ back-named names (membersIn u))
 
-  seen-as : (s : List ℕ) → shownAs (beside whole tag table) (object tag s) ≡ shownAs (within names) (object tag s)
-  seen-as s = ap (λ (c : Counts). shownAs c (object tag s)) w
+-- an object with two values, where what counts of both is the same
+counts-same : (table : List (ℕ × Counts)) (tag : ℕ) (c : Counts) (v u : List ℕ) → beside whole tag table ≡ c
+    → shownAs c (object tag v) ≡ shownAs c (object tag u) → shown table (object tag v ∷ []) ≡ shown table (object tag u ∷ [])
+unfolding shown
+counts-same table tag c v u w same =
+    let seen-as : (s : List ℕ) → shownAs (beside whole tag table) (object tag s) ≡ shownAs c (object tag s) =
+    λ s. ap (λ (d : Counts). shownAs d (object tag s)) w in
+    ap (λ (t : Shown). pick (listed tag (tagsOf table)) (t ∷ []) []) (seen-as v ∙ (same ∙ sym (seen-as u)))
 
-  inner-same : shown table (object tag v ∷ []) ≡ shown table (object tag u ∷ [])
-  unfolding shown shownAs
-  inner-same =
-      let both : shownAs (within names) (object tag v) ≡ shownAs (within names) (object tag u) =
-      ap (λ (ms : List Object). record { tag = tag; value = []; members = ms }) named-same in
-      ap (λ (t : Shown). pick (listed tag (tagsOf table)) (t ∷ []) []) (seen-as v ∙ (both ∙ sym (seen-as u)))
+-- one of which the named members count, alone or with a note of others
+within-same : (tag : ℕ) (names v u : List ℕ) → shown (wholly names) (membersIn v) ≡ shown (wholly names) (membersIn u)
+    → shownAs (within names) (object tag v) ≡ shownAs (within names) (object tag u)
+unfolding shownAs
+within-same tag names v u same =
+    ap (λ (ms : List Object). record { tag = tag; value = []; members = ms }) (named-same names v u same)
+
+noting-same : (tag : ℕ) (names others v u : List ℕ)
+    → shown (wholly (names ++ others)) (membersIn v) ≡ shown (wholly (names ++ others)) (membersIn u)
+    → shownAs (noting names others) (object tag v) ≡ shownAs (noting names others) (object tag u)
+unfolding shownAs
+noting-same tag names others v u same =
+    ap (λ (ms : List Object). record { tag = tag; value = []; members = ms })
+    (sym (noted-named names others (membersIn v))
+    ∙ (ap (noted names others) (named-same (names ++ others) v u same) ∙ noted-named names others (membersIn u)))
 
 unseen-alike : {table : List (ℕ × Counts)} {o p : List ℕ} → Unseen table o p → Alike table o p
 unfolding shown
@@ -119,7 +134,18 @@ unseen-alike (inner {table} {o} {p} tag names x y c d xs ys w e f u g h) = recor
   first = g;
   second = h;
   same =
-      inner-same table tag names (x ++ (c ++ y)) (x ++ (d ++ y)) w (members-same (wholly names) x y c d xs ys e f (unseen-alike u));
+      counts-same table tag (within names) (x ++ (c ++ y)) (x ++ (d ++ y)) w
+      (within-same tag names (x ++ (c ++ y)) (x ++ (d ++ y)) (members-same (wholly names) x y c d xs ys e f (unseen-alike u)));
+}
+unseen-alike (entry {table} {o} {p} tag names others x y c d xs ys w e f u g h) = record {
+  ones = object tag (x ++ (c ++ y)) ∷ [];
+  others = object tag (x ++ (d ++ y)) ∷ [];
+  first = g;
+  second = h;
+  same =
+      counts-same table tag (noting names others) (x ++ (c ++ y)) (x ++ (d ++ y)) w
+      (noting-same tag names others (x ++ (c ++ y)) (x ++ (d ++ y))
+      (members-same (wholly (names ++ others)) x y c d xs ys e f (unseen-alike u)));
 }
 
 -- ---- answers
@@ -138,6 +164,9 @@ template-expected selection a e = ap not (pick-yes _ _ _ e)
 template-expected options a e = ap not (pick-yes _ _ _ e)
 template-expected (reading names) a e = ap not (pick-yes _ _ _ e)
 template-expected generation a e = ap not (pick-yes _ _ _ e)
+template-expected environment a e = ap not (pick-yes _ _ _ e)
+template-expected directory a e = ap not (pick-yes _ _ _ e)
+template-expected application a e = ap not (pick-yes _ _ _ e)
 
 template-objects : (p : Place) (a : List ℕ) → isOne (templateAt p) a ≡ true → objectsAt p a ≡ membersIn (inside (templateAt p) a)
 unfolding templateAt objectsAt inForms
@@ -145,6 +174,9 @@ template-objects selection a e = refl
 template-objects options a e = pick-no _ _ _ (not-joined a e)
 template-objects (reading names) a e = refl
 template-objects generation a e = pick-no _ _ _ (not-joined a e)
+template-objects environment a e = refl
+template-objects directory a e = refl
+template-objects application a e = refl
 
 module _ (p : Place) (a b : List ℕ) (d : Dressed p a b) where
   same-form : outerBad (expectedAt p) a ≡ outerBad (expectedAt p) b
@@ -189,32 +221,39 @@ unfolding inForms
 joined-objects apart a e = pick-yes _ _ _ e
 
 module _ (a b : List ℕ) (again : JoinedAgain a b) where
+  again-unexpected : (tag : ℕ) → (joined ≡ tag → ⊥) → outerBad (tag ∷ []) a ≡ outerBad (tag ∷ []) b
+  again-unexpected tag k = not-expected tag k a (again .first-one) ∙ sym (not-expected tag k b (again .second-one))
+
+  again-expected : outerBad bothForms a ≡ outerBad bothForms b
+  again-expected = joined-expected a (again .first-one) ∙ sym (joined-expected b (again .second-one))
+
   again-form : (p : Place) → outerBad (expectedAt p) a ≡ outerBad (expectedAt p) b
   unfolding expectedAt
-  again-form selection =
-      let k : joined ≡ selectTag → ⊥ = λ z. omega arith in
-      not-expected selectTag k a (again .first-one) ∙ sym (not-expected selectTag k b (again .second-one))
-  again-form options = joined-expected a (again .first-one) ∙ sym (joined-expected b (again .second-one))
-  again-form (reading names) =
-      let k : joined ≡ recordTag → ⊥ = λ z. omega arith in
-      not-expected recordTag k a (again .first-one) ∙ sym (not-expected recordTag k b (again .second-one))
-  again-form generation = joined-expected a (again .first-one) ∙ sym (joined-expected b (again .second-one))
+  again-form selection = again-unexpected selectTag (λ z. omega arith)
+  again-form options = again-expected
+  again-form (reading names) = again-unexpected recordTag (λ z. omega arith)
+  again-form generation = again-expected
+  again-form environment = again-unexpected selectTag (λ z. omega arith)
+  again-form directory = again-unexpected recordTag (λ z. omega arith)
+  again-form application = again-unexpected selectTag (λ z. omega arith)
 
   values-same : (apart : List ℕ → List Object) → inForms apart a ≡ inForms apart b
   values-same apart =
       joined-objects apart a (again .first-one)
       ∙ (ap apart (again .values) ∙ sym (joined-objects apart b (again .second-one)))
 
+  none-same : (tag : ℕ) → (joined ≡ tag → ⊥) → membersIn (inside tag a) ≡ membersIn (inside tag b)
+  none-same tag k = nothing-inside tag k a (again .first-one) ∙ sym (nothing-inside tag k b (again .second-one))
+
   again-objects : (p : Place) → objectsAt p a ≡ objectsAt p b
   unfolding objectsAt
-  again-objects selection =
-      let k : joined ≡ selectTag → ⊥ = λ z. omega arith in
-      nothing-inside selectTag k a (again .first-one) ∙ sym (nothing-inside selectTag k b (again .second-one))
+  again-objects selection = none-same selectTag (λ z. omega arith)
   again-objects options = values-same apartOptions
-  again-objects (reading names) =
-      let k : joined ≡ recordTag → ⊥ = λ z. omega arith in
-      nothing-inside recordTag k a (again .first-one) ∙ sym (nothing-inside recordTag k b (again .second-one))
+  again-objects (reading names) = none-same recordTag (λ z. omega arith)
   again-objects generation = values-same apartCryptogram
+  again-objects environment = none-same selectTag (λ z. omega arith)
+  again-objects directory = none-same recordTag (λ z. omega arith)
+  again-objects application = none-same selectTag (λ z. omega arith)
 
 pub joined-again-seen : (p : Place) (a b : List ℕ) → JoinedAgain a b → seen p a ≡ seen p b
 unfolding seen namedAt

@@ -13,16 +13,17 @@ use Rattle.slices.proofs.Comparing.{same-alike}
 use Rattle.tlv_head.specs.Head.{firstByte, constructed, twoBytes, tagSize, tagOf, tagRight, lengthByte, lengthForm, lengthSize, lengthOf}
 use Rattle.tlv_head.specs.Head.{valueStart, valueEnd, whole as wholeHead}
 use Rattle.tlv_list.specs.Objects.{Object, between, firstObject, before, rightInside, listed as listedObjects, objects}
+use Rattle.tlv_list.specs.Lookup.{met, lookup}
 use Rattle.tlv_list.specs.Place.{dataField}
 use Rattle.answer_common.specs.Answer.{sizeBad, only, outer, tagged, valueUnder, isOne, inside, outerBad}
 use Rattle.answer_common.specs.Content.{recordNames}
-use Rattle.answer_common.specs.Named.{membersIn, listed, named}
+use Rattle.answer_common.specs.Named.{membersIn, listed, named, times}
 use Rattle.answer_common.proofs.Present.{by-name}
 use Rattle.answer_select.specs.Select.{innerNames}
 use Rattle.answer_cryptogram.specs.Cryptogram.{mandatoryNames}
 use Rattle.card_seen.specs.Seen.{Place, selection, options, reading, generation, namesAt, expectedAt, apartOptions, ifLeft}
-use Rattle.card_seen.specs.Seen.{apartCryptogram, inForms, objectsAt, Shown, shownAs, shown, namedAt, statusOf, Seen}
-use Rattle.card_seen.specs.Seen.{seen}
+use Rattle.card_seen.specs.Seen.{apartCryptogram, inForms, objectsAt, Shown, present, noted, shownAs, shown, namedAt}
+use Rattle.card_seen.specs.Seen.{statusOf, Seen, seen}
 use Rattle.card_seen.specs.Order.{beforeOthers, standing, Rearranged, EmptyIssuerData}
 use Rattle.card_seen.specs.Dressing.{templateAt, filler, ignored, inner, Dressed, Pair}
 use Rattle.card_seen.proofs.Order.{swapped}
@@ -32,10 +33,10 @@ unfoldable pub viewed : Place → List ℕ → Seen
 unfolding pick counted shorter anyOf beside isSome firstByte constructed twoBytes tagSize tagOf tagRight lengthByte lengthForm lengthSize
     lengthOf valueStart valueEnd wholeHead between firstObject before rightInside listedObjects objects dataField sizeBad only outer
     tagged valueUnder isOne inside outerBad membersIn listed named namesAt expectedAt apartOptions ifLeft apartCryptogram inForms
-    objectsAt shownAs shown namedAt statusOf seen
+    objectsAt met lookup times present noted shownAs shown namedAt statusOf seen
 viewed p a = seen p a
 
-other-bytes : (a b : List ℕ) → alike a b ≡ false → a ≡ b → ⊥
+pub other-bytes : (a b : List ℕ) → alike a b ≡ false → a ≡ b → ⊥
 other-bytes a b n e = false≢true (sym n ∙ (ap (alike a) (sym e) ∙ same-alike a))
 
 abbrev ok : List ℕ

@@ -1,4 +1,5 @@
 pub mod Looking
+pub mod Noting
 pub mod Frames
 pub mod Forms
 pub mod Selection
@@ -14,4 +15,5 @@ pub mod Order
 pub mod IssuerData
 pub mod Dressing
 pub mod Freedoms
+pub mod Listings
 pub mod Theorem

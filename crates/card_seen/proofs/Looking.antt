@@ -15,7 +15,7 @@ use Rattle.tlv_list.specs.Objects.{Object}
 use Rattle.tlv_list.specs.Lookup.{Lookup, absent, once, twice, met, lookup}
 use Rattle.tlv_list.proofs.Objects.{objects-empty}
 use Rattle.answer_common.specs.Named.{membersIn, listed, named, times, told, valueOf}
-use Rattle.card_seen.specs.Seen.{Counts, whole, within, Shown, shownAs, tagsOf, shown}
+use Rattle.card_seen.specs.Seen.{Counts, whole, within, noting, Shown, shownAs, tagsOf, shown}
 
 pub itself : (t : Bool) → pick t true false ≡ t
 unfolding pick
@@ -34,6 +34,7 @@ tag-kept : (c : Counts) (m : Object) → shownAs c m .tag ≡ m .tag
 unfolding shownAs
 tag-kept whole m = refl
 tag-kept (within names) m = refl
+tag-kept (noting names others) m = refl
 
 -- a name that is not listed is another
 other-name : (tag name : ℕ) (names : List ℕ) → listed name names ≡ true → listed tag names ≡ false → eqb tag name ≡ false

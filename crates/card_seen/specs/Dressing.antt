@@ -14,8 +14,8 @@ use Rattle.answer_common.specs.Content.{recordTag}
 use Rattle.answer_common.specs.Named.{membersIn, listed}
 use Rattle.answer_common.specs.Forms.{template, joined}
 use Rattle.answer_select.specs.Select.{selectTag}
-use Rattle.card_seen.specs.Seen.{Counts, whole, within, wholly, Place, selection, options, reading, generation, namesAt}
-use Rattle.card_seen.specs.Seen.{object, tagsOf, shown, statusOf, seen}
+use Rattle.card_seen.specs.Seen.{Counts, whole, within, noting, wholly, Place, selection, options, reading, generation}
+use Rattle.card_seen.specs.Seen.{environment, directory, application, namesAt, object, tagsOf, shown, statusOf, seen}
 
 -- the one object in which a place's named objects stand, where they are not joined
 unfoldable pub templateAt : Place → ℕ
@@ -23,6 +23,9 @@ templateAt selection = selectTag
 templateAt options = template
 templateAt (reading names) = recordTag
 templateAt generation = template
+templateAt environment = selectTag
+templateAt directory = recordTag
+templateAt application = selectTag
 
 -- bytes between the members of an object, and bytes that may stand there instead
 pub data Unseen : List (ℕ × Counts) → List ℕ → List ℕ → Type 0 where
@@ -37,6 +40,11 @@ pub data Unseen : List (ℕ × Counts) → List ℕ → List ℕ → Type 0 wher
   -- an object of which only the named members count (A5), with such bytes between its members
   inner : {table : List (ℕ × Counts)} {o p : List ℕ} (tag : ℕ) (names x y c d : List ℕ) (xs ys : List Object)
       → beside whole tag table ≡ within names → objects x ≡ some xs → objects y ≡ some ys → Unseen (wholly names) c d
+      → objects o ≡ some (object tag (x ++ (c ++ y)) ∷ []) → objects p ≡ some (object tag (x ++ (d ++ y)) ∷ []) → Unseen table o p
+  -- an object of which the named members count, and of others whether they are there (61), with such bytes between its members
+  entry : {table : List (ℕ × Counts)} {o p : List ℕ} (tag : ℕ) (names others x y c d : List ℕ) (xs ys : List Object)
+      → beside whole tag table ≡ noting names others → objects x ≡ some xs → objects y ≡ some ys
+      → Unseen (wholly (names ++ others)) c d
       → objects o ≡ some (object tag (x ++ (c ++ y)) ∷ []) → objects p ≡ some (object tag (x ++ (d ++ y)) ∷ []) → Unseen table o p
 
 -- two runs of members that differ at one place between members, in bytes that may stand there instead of one another

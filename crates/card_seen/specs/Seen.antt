@@ -4,16 +4,17 @@
 -- is proved (`through` of Theorem). 01, "What the card must answer".
 -- Assumes nothing.
 use mathlib.Core.Bool.{Bool}
-use mathlib.Core.List.{List, [], _∷_, map}
+use mathlib.Core.List.{List, [], _∷_, _++_, map}
 use Prim.Native.Nat.{ℕ, _-_}
 use lib.Dec.{eqb}
 use lib.ListN.{length, getD, take, drop}
 use Rattle.slices.specs.Choice.{pick}
 use Rattle.slices.specs.Tables.{beside}
 use Rattle.tlv_list.specs.Objects.{Object}
+use Rattle.tlv_list.specs.Lookup.{lookup}
 use Rattle.answer_common.specs.Answer.{sizeBad, outerBad, isOne, inside}
 use Rattle.answer_common.specs.Content.{recordTag}
-use Rattle.answer_common.specs.Named.{membersIn, listed, named}
+use Rattle.answer_common.specs.Named.{membersIn, listed, named, times}
 use Rattle.answer_common.specs.Forms.{template, joined, bothForms}
 use Rattle.answer_select.specs.Select.{selectTag, innerNames}
 use Rattle.answer_gpo.specs.Options.{optionNames}
@@ -21,10 +22,12 @@ use Rattle.answer_cryptogram.specs.Cryptogram.{cryptogramNames}
 
 -- ---- what is named where
 
--- what counts of a named object: its value byte for byte, or only the objects that are named directly in it
+-- what counts of a named object: its value byte for byte, or only the objects that are named directly in it; or these, and of some others
+-- whether they are there
 pub data Counts : Type 0 where
   whole : Counts
   within : List ℕ → Counts
+  noting : List ℕ → List ℕ → Counts
 
 -- where an answer stands: after what was asked
 pub data Place : Type 0 where
@@ -36,9 +39,28 @@ pub data Place : Type 0 where
   reading : List ℕ → Place
   -- GENERATE AC, the first and the second
   generation : Place
+  -- while the application is chosen (02, R-12): SELECT of the payment system environment, READ RECORD of its directory, and SELECT of an
+  -- application
+  environment : Place
+  directory : Place
+  application : Place
 
 abbrev pub wholly : List ℕ → List (ℕ × Counts)
 wholly names = map (λ name. (name, whole)) names
+
+-- directly in the environment's A5, in an application's, and in an entry of the directory, where of 9D it counts whether it is there.
+-- 001, Tables 8, 10 and 12; 12.2.3
+abbrev pub environmentNames : List ℕ
+environmentNames = 0x88 ∷ []
+
+abbrev pub applicationNames : List ℕ
+applicationNames = 0x87 ∷ 0x9F38 ∷ []
+
+abbrev pub entryNames : List ℕ
+entryNames = 0x4F ∷ 0x87 ∷ []
+
+abbrev pub entryNoted : List ℕ
+entryNoted = 0x9D ∷ []
 
 -- the names of each place, each with what counts of it. They are the rules' own lists: a tag that records name later is seen without a
 -- line here
@@ -47,6 +69,9 @@ namesAt selection = (0x84, whole) ∷ (0xA5, within innerNames) ∷ []
 namesAt options = wholly optionNames
 namesAt (reading names) = wholly names
 namesAt generation = wholly cryptogramNames
+namesAt environment = (0x84, whole) ∷ (0xA5, within environmentNames) ∷ []
+namesAt directory = (0x61, noting entryNames entryNoted) ∷ []
+namesAt application = (0x84, whole) ∷ (0xA5, within applicationNames) ∷ []
 
 -- the tags that an answer's one object may have
 unfoldable pub expectedAt : Place → List ℕ
@@ -54,6 +79,9 @@ expectedAt selection = selectTag ∷ []
 expectedAt options = bothForms
 expectedAt (reading names) = recordTag ∷ []
 expectedAt generation = bothForms
+expectedAt environment = selectTag ∷ []
+expectedAt directory = recordTag ∷ []
+expectedAt application = selectTag ∷ []
 
 -- ---- the objects of an answer
 
@@ -86,18 +114,31 @@ objectsAt selection a = membersIn (inside selectTag a)
 objectsAt options a = inForms apartOptions a
 objectsAt (reading names) a = membersIn (inside recordTag a)
 objectsAt generation a = inForms apartCryptogram a
+objectsAt environment a = membersIn (inside selectTag a)
+objectsAt directory a = membersIn (inside recordTag a)
+objectsAt application a = membersIn (inside selectTag a)
 
 -- ---- what is seen of them
 
--- a named object: its value where that counts byte for byte, else the objects that are named in it, in their order
+-- a named object: its value where that counts byte for byte, else the objects that are named in it, in their order, and those noted
 pub record Shown : Type 0 where
   pub tag : ℕ
   pub value : List ℕ
   pub members : List Object
 
+-- those of some names that stand among objects, once each and without a value
+unfoldable pub present : List ℕ → List Object → List Object
+present [] ms = []
+present (name ∷ names) ms = pick (eqb (times (lookup name ms)) 0) (present names ms) (object name [] ∷ present names ms)
+
+-- what is noted of an object's members: the named ones in their order, then which of the others are there
+unfoldable pub noted : List ℕ → List ℕ → List Object → List Object
+noted names others ms = named names ms ++ present others ms
+
 unfoldable pub shownAs : Counts → Object → Shown
 shownAs whole m = record { tag = m .tag; value = m .value; members = [] }
 shownAs (within names) m = record { tag = m .tag; value = []; members = named names (membersIn (m .value)) }
+shownAs (noting names others) m = record { tag = m .tag; value = []; members = noted names others (membersIn (m .value)) }
 
 abbrev pub tagsOf : List (ℕ × Counts) → List ℕ
 tagsOf table = map (λ row. row .0) table
