@@ -8,8 +8,9 @@ pub mod Records
 pub mod Cryptograms
 pub mod Turning
 pub mod Sessions
-pub mod SideBySide
 pub mod Beginnings
+pub mod Whole
+pub mod SideBySide
 pub mod Least
 pub mod Order
 pub mod IssuerData

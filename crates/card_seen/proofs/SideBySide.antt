@@ -1,7 +1,7 @@
 -- 02's own sentence follows from what is seen: an answer that leads to no reason has a right size and is the one expected object, so of two
 -- such answers that are alike the same is seen, and the sessions are given the same.
 -- Assumes nothing.
-use mathlib.Core.Path.{_≡_, refl, sym, ap, ap₂, _∙_}
+use mathlib.Core.Path.{_≡_, sym, ap, _∙_}
 use mathlib.Core.Bool.{Bool, false}
 use mathlib.Core.List.{List, _∷_, _++_}
 use Prim.Native.Nat.{ℕ}
@@ -11,7 +11,6 @@ use borrow.Author.Tests.{eqb-true}
 use Rattle.slices.specs.Choice.{firstOf}
 use Rattle.slices.proofs.Choice.{pick-no, either}
 use Rattle.slices.proofs.Lines.{line-clear}
-use Rattle.tape_read.specs.Entries.{Entry}
 use Rattle.answer_common.specs.Answer.{sizeBad, statusBad, outerBad, frame}
 use Rattle.answer_common.specs.Content.{namesFor}
 use Rattle.answer_select.specs.Select.{selectReason}
@@ -20,14 +19,16 @@ use Rattle.answer_record.specs.Records.{recordReason}
 use Rattle.answer_cryptogram.specs.Cryptogram.{cryptogramReason}
 use Rattle.rulebook.specs.Situation.{Situation}
 use Rattle.rulebook.specs.Phase.{Asked, selecting, optioning, reading as readingRecord, first, second}
-use Rattle.rulebook.specs.Phase.{Heard, Phase, opens, asks, hears, ended}
-use Rattle.rulebook.specs.Turn.{goesOn, selected, optioned, recorded, firstAnswered, secondAnswered, turn, after}
-use Rattle.rulebook.specs.Session.{Plays, exchanged, heard, decided}
-use Rattle.card_seen.specs.Seen.{Place, expectedAt, selection, options, reading, generation, Seen, seen}
-use Rattle.card_seen.specs.Given.{placeOf, Given, said, showed, givenTo, Same}
-use Rattle.card_seen.specs.SideBySide.{Alike, reasonIn, SideBySide}
-use Rattle.card_seen.proofs.Turning.{settled}
-use Rattle.card_seen.proofs.Sessions.{given-same}
+use Rattle.rulebook.specs.Phase.{Phase, ended}
+use Rattle.rulebook.specs.Turn.{goesOn, selected, optioned, recorded, firstAnswered, secondAnswered, turn}
+use Rattle.rulebook.specs.Session.{rules}
+use Rattle.rulebook.proofs.Said.{other-kinds}
+use Rattle.card_seen.specs.Seen.{Place, expectedAt, selection, options, reading, generation, seen}
+use Rattle.card_seen.specs.Given.{placeOf, view}
+use Rattle.card_seen.specs.Under.{Whole}
+use Rattle.card_seen.specs.SideBySide.{Alike, AlikeTo, reasonIn}
+use Rattle.card_seen.proofs.Turning.{turnBy, turn-seen}
+use Rattle.card_seen.proofs.Whole.{whole}
 
 -- ---- an answer that does not end a session has a right size, and is the one expected object
 
@@ -67,43 +68,13 @@ alike-seen p a b alike one other = λ i. record {
   objects = alike .objects i;
 }
 
--- one answer exchanged for another that is alike
-pub alike-turn : (w : Asked) (a b : List ℕ) → Alike (placeOf w) a b → reasonIn (turn w a) ≡ 0 → reasonIn (turn w b) ≡ 0
-    → turn w a ≡ turn w b
-alike-turn w a b alike one other = settled w a b (alike-seen (placeOf w) a b alike (clear w a one) (clear w b other))
+-- of alike answers that end no session the same is seen
+pub alike-to : (w : Asked) (a b : List ℕ) → AlikeTo w a b → reasonIn (turn w a) ≡ 0 → reasonIn (turn w b) ≡ 0
+    → seen (placeOf w) a ≡ seen (placeOf w) b
+alike-to w a b alike one other = alike-seen (placeOf w) a b alike (clear w a one) (clear w b other)
 
--- ---- two sessions
-
-same-question : (w v : Asked) → _≡_ {A = Phase} (asks w) (asks v) → w ≡ v
-same-question w v e = cc
-
-same-word : (h i : Heard) → _≡_ {A = Phase} (hears h) (hears i) → h ≡ i
-same-word h i e = cc
-
-impossible : {A : Type 0} (p q : Phase) → p ≡ q → (p ≡ q → _≡_ {A = ℕ} 0 1) → A
-impossible p q e f = absurd (let z = f e in omega arith)
-
-same-given : {p q : Phase} {es fs : List Entry} (one : Plays p es) (other : Plays q fs) → p ≡ q → SideBySide one other
-    → givenTo one ≡ givenTo other
-unfolding SideBySide givenTo
-same-given (exchanged {w} {c} {a} f ok play) (exchanged {w = v} {c = d} {a = b} g ok′ more) e side =
-    let same = same-question w v e in
-    let late : reasonIn (turn w b) ≡ 0 = ap (λ (x : Asked). reasonIn (turn x b)) same ∙ side .2 in
-    let view = alike-seen (placeOf w) a b (side .0) (clear w a (side .1)) (clear w b late) in
-    ap₂ (λ (x : Seen) (gs : List Given). showed x ∷ gs) (view ∙ ap (λ (x : Asked). seen (placeOf x) b) same)
-    (same-given play more (settled w a b view ∙ ap (λ (x : Asked). turn x b) same) (side .3))
-same-given (exchanged f ok play) (heard g fits ok′ more) e side = absurd side
-same-given (exchanged f ok play) (decided g) e side = absurd side
-same-given (heard f fits ok play) (exchanged g ok′ more) e side = absurd side
-same-given (heard {h} {k} {p} f fits ok play) (heard {h = i} {k = j} {p = q} g fits′ ok′ more) e side =
-    let same = same-word h i e in
-    ap₂ (λ (x : List ℕ) (gs : List Given). said x ∷ gs) (side .0)
-    (same-given play more (λ j. after (same j) (side .0 j)) (side .1))
-same-given (heard f fits ok play) (decided g) e side = absurd side
-same-given (decided f) (exchanged g ok′ more) e side = absurd side
-same-given (decided f) (heard g fits ok′ more) e side = absurd side
-same-given (decided f) (decided g) e side = refl
-
--- 02, R-13
-pub as-written : (es fs : List Entry) (one : Plays opens es) (other : Plays opens fs) → SideBySide one other → Same one other
-as-written es fs one other side = given-same one other (same-given one other refl side)
+-- so all that is said of whole sessions holds of the rules of 01
+pub whole-today : Whole rules view AlikeTo
+whole-today =
+    whole rules view AlikeTo
+    (record { through = (turnBy, turn-seen); no-answer = λ h. other-kinds h .no-answer; alike = alike-to })
