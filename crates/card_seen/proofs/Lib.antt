@@ -2,6 +2,7 @@ pub mod Looking
 pub mod Noting
 pub mod Frames
 pub mod Forms
+pub mod Files
 pub mod Selection
 pub mod Options
 pub mod Records

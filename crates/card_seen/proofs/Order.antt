@@ -29,7 +29,8 @@ use Rattle.card_seen.specs.Given.{placeOf}
 use Rattle.card_seen.specs.Order.{Standing, nowhere, alone, repeated, beforeOthers, standing, Rearranged}
 use Rattle.card_seen.proofs.Looking.{back, under, membersUnder}
 use Rattle.card_seen.proofs.Frames.{frameBy}
-use Rattle.card_seen.proofs.Selection.{innerBy, pdolBy, selectBy}
+use Rattle.card_seen.proofs.Files.{innerBy}
+use Rattle.card_seen.proofs.Selection.{pdolBy, selectBy}
 use Rattle.card_seen.proofs.Options.{profileBy, locatorBy, linesBy, optionsBy}
 use Rattle.card_seen.proofs.Records.{namedBy, recordBy}
 use Rattle.card_seen.proofs.Cryptograms.{cryptogramGiven, linesBy as cryptogramLines, cryptogramBy}
@@ -40,7 +41,7 @@ lookupOf nowhere = absent
 lookupOf (alone t) = once (t .value)
 lookupOf repeated = twice
 
-membersOf : Standing → List Object
+unfoldable pub membersOf : Standing → List Object
 membersOf nowhere = []
 membersOf (alone t) = t .members
 membersOf repeated = []
@@ -66,7 +67,7 @@ only-members t nowhere = refl
 only-members t (alone u) = refl
 only-members t repeated = refl
 
-members-standing : (name : ℕ) (ts : List Shown) → membersUnder name ts ≡ membersOf (standing name ts)
+pub members-standing : (name : ℕ) (ts : List Shown) → membersUnder name ts ≡ membersOf (standing name ts)
 unfolding membersUnder standing membersOf
 members-standing name [] = refl
 members-standing name (t ∷ ts) =

@@ -7,21 +7,19 @@ use Prim.Native.Nat.{ℕ}
 use Rattle.slices.specs.Choice.{pick, firstOf}
 use Rattle.slices.specs.Tables.{anyOf, beside}
 use Rattle.slices.proofs.Lines.{one-more}
-use Rattle.tlv_list.specs.Lookup.{Lookup, absent, once, twice, lookup}
+use Rattle.tlv_list.specs.Lookup.{Lookup, absent, once, twice}
 use Rattle.start_fields.specs.Reading.{Terminal}
 use Rattle.dol_wanted.specs.Wanted.{fillable}
-use Rattle.answer_common.specs.Answer.{inside}
 use Rattle.answer_common.specs.Content.{meets, rules, ruleFor, rightValue}
-use Rattle.answer_common.specs.Named.{membersIn, listed, among, direct, times, valueOf, wrongValue, anyTwice, anyMissing, anyWrong}
+use Rattle.answer_common.specs.Named.{listed, direct, times, valueOf, wrongValue, anyTwice, anyMissing, anyWrong}
 use Rattle.answer_common.proofs.Alike.{times-alike, wrong-alike}
 use Rattle.answer_select.specs.Select.{selectTag, selectNames, innerNames, inner, pdolOf, nameWrong}
 use Rattle.answer_select.specs.Select.{selectTwice, selectWrong, selectLines, selectReason}
 use Rattle.card_seen.specs.Seen.{namesAt, objectsAt, namedAt, selection, Shown, Seen, seen, expectedAt}
-use Rattle.card_seen.proofs.Looking.{under, membersUnder, look-whole, look-times, look-within, lookup-named}
+use Rattle.card_seen.proofs.Looking.{under}
+use Rattle.card_seen.proofs.Files as File
+use Rattle.card_seen.proofs.Files.{innerBy}
 use Rattle.card_seen.proofs.Frames.{frameBy, lines-seen}
-
-unfoldable pub innerBy : List Shown → ℕ → Lookup
-innerBy ts name = lookup name (membersUnder 0xA5 ts)
 
 unfoldable pub pdolBy : Seen → List ℕ
 pdolBy v = valueOf (innerBy (v .objects) 0x9F38)
@@ -48,18 +46,16 @@ module _ (a : List ℕ) where
   ts = namedAt selection a
 
   as-often : (name : ℕ) → listed name selectNames ≡ true → times (direct selectTag a name) ≡ times (under ts name)
-  unfolding direct among namedAt namesAt objectsAt
-  as-often name l = sym (look-times (namesAt selection) name l (membersIn (inside selectTag a)))
+  unfolding namedAt namesAt objectsAt
+  as-often = File.as-often innerNames a
 
   name-seen : direct selectTag a 0x84 ≡ under ts 0x84
-  unfolding direct among namedAt namesAt objectsAt listed anyOf beside pick
-  name-seen = sym (look-whole (namesAt selection) 0x84 refl refl (membersIn (inside selectTag a)))
+  unfolding namedAt namesAt objectsAt
+  name-seen = File.name-seen innerNames a
 
   inner-seen : (name : ℕ) → listed name innerNames ≡ true → inner a name ≡ innerBy ts name
-  unfolding inner innerBy direct among namedAt namesAt objectsAt listed anyOf beside pick
-  inner-seen name l =
-      sym (lookup-named innerNames name l (membersIn (valueOf (lookup 0xA5 (membersIn (inside selectTag a))))))
-      ∙ ap (lookup name) (sym (look-within (namesAt selection) 0xA5 innerNames refl refl (membersIn (inside selectTag a))))
+  unfolding namedAt namesAt objectsAt
+  inner-seen = File.inner-seen innerNames a
 
   pub pdol-seen : pdolOf a ≡ pdolBy (seen selection a)
   unfolding pdolOf pdolBy seen listed anyOf pick
