@@ -22,7 +22,7 @@ use Rattle.card_worked.specs.Matters.{others, besides, seenBeside, place
 use Rattle.card_worked.proofs.Cards.{giving, counter, cryptogram, issuer, decides, tvr, differ}
 use Rattle.card_worked.proofs.Records.{generates}
 
-owed : placeDue (run rules generates (at opens)) ≡ some generation
+owed : placeDue placeOf (run rules generates (at opens)) ≡ some generation
 unfolding reached placeDue placeOf
 owed = refl
 

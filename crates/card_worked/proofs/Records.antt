@@ -104,7 +104,7 @@ plain-session : Session (later (recordWith plain) asked (tvr 0 0))
 unfolding reached
 plain-session = readsAll _ refl
 
-owed : placeDue (run rules reads (at opens)) ≡ some (reading recordNames)
+owed : placeDue placeOf (run rules reads (at opens)) ≡ some (reading recordNames)
 unfolding reached placeDue placeOf
 owed = refl
 
