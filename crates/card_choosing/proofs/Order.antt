@@ -1,5 +1,5 @@
--- A search asks what stands under a name, how often, and in A5 and in each entry the same again; none asks where it stands among the others.
--- So `heardBy` is the same for what is seen in another order.
+-- A search asks what stands under a name, how often, and in A5 and in each entry the same again; it asks nowhere where that stands among
+-- the others. So `heardBy` is the same for what is seen in another order.
 -- Assumes nothing.
 use mathlib.Core.Path.{_≡_, refl, sym, ap, ap₂, _∙_}
 use mathlib.Core.Bool.{Bool, not}

@@ -1,5 +1,5 @@
--- The rules with choosing keep what `Whole` asks of rules: every turn goes by what is seen, no word is an answer, and of alike answers that end
--- no session the same is seen. Of a search's answer only the size can end a session before anything else is asked.
+-- The rules with choosing keep what `Whole` asks of rules: every turn goes by what is seen, no word is an answer, and of alike answers that
+-- end no session the same is seen. In a search an answer of a wrong size ends the session before anything else is asked.
 -- Assumes nothing.
 use mathlib.Core.Path.{_≡_, refl, sym, ap, _∙_}
 use mathlib.Core.Bool.{true, false}

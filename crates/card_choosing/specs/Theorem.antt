@@ -1,5 +1,6 @@
--- What a card can influence by the rules with choosing the application (02, R-13 over R-12), in one record: all of `Influence` of `card_seen`,
--- of these rules. That it holds is `theorem` of proofs/Theorem.
+-- What a card can influence by the rules with choosing the application (02, R-13 over R-12), in one record: all of `Influence` of
+-- `card_seen`, of these rules. That it holds is `theorem` of proofs/Theorem; that what is seen does count, in Theorem of
+-- `card_choosing_worked`.
 -- Assumes nothing.
 use mathlib.Core.Path.{_≡_}
 use mathlib.Core.List.{List}

@@ -1,6 +1,6 @@
--- What a search goes on with of a good answer: of the environment's the directory's file; of a record the applications that it tells, in the
--- order of their entries; of an application's FCI its name and its priority indicator, and whether it is blocked; and at the final SELECT
--- the list 9F38. 001, 12.3 and 12.4; 02, R-13. That nothing else of a good answer matters is proved (`good-there` of Theorem).
+-- What a search goes on with of a good answer: of the environment's the directory's file; of a record the applications that it tells, in
+-- the order of their entries; of an application's FCI its name and its priority indicator, and whether it is blocked; and at the final
+-- SELECT the list 9F38. 001, 12.3 and 12.4; 02, R-13. That nothing else of a good answer matters is proved (`good-there` of Theorem).
 -- Assumes nothing.
 use mathlib.Core.Path.{_≡_}
 use mathlib.Core.Bool.{Bool, true, false, not, _&&_, _||_}

@@ -1,5 +1,5 @@
--- Two beginnings that are given the same lead to the same state, whatever the rules: each entry that is taken leads both on alike, an answer
--- by what is seen of it; and a command or decision that is taken is the one that is due.
+-- Two beginnings that are given the same lead to the same state, whatever the rules: each entry that is taken leads both on alike, an
+-- answer by what is seen of it; and a command or decision that is taken is the one that is due.
 -- Assumes nothing.
 use mathlib.Core.Path.{_≡_, refl, sym, ap, ap₂, _∙_}
 use mathlib.Core.List.{List, [], _∷_}

@@ -1,5 +1,6 @@
--- What a SELECT is answered with, one 6F with 84 and A5 in it: what stands under 84, how often 84 and A5 stand there, and what stands in A5
--- under the names that count there, from what is seen of it. Whichever names these are: SELECT's of 01, the environment's, an application's.
+-- What a SELECT is answered with, one 6F with 84 and A5 in it: what stands under 84, how often 84 and A5 stand there, and what stands in
+-- A5 under the names that count there, from what is seen of it. Whichever names these are: those of 01's SELECT, the environment's, an
+-- application's.
 -- Assumes nothing.
 use mathlib.Core.Path.{_≡_, refl, sym, ap, _∙_}
 use mathlib.Core.Bool.{true}

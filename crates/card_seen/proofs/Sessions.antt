@@ -1,6 +1,6 @@
--- Whole sessions, whatever the rules: phases, entries but for the card's answers, and what each entry adds to the fourth number are functions
--- of what a session is given. Each follows a phase by what is given next, as the session itself does, but goes by what is seen of an
--- answer where that goes by the answer.
+-- Whole sessions, whatever the rules: phases, entries but for the card's answers, and what each entry adds to the fourth number are
+-- functions of what a session is given. Each follows a phase by what is given next, as the session itself does, but goes by what is seen
+-- of an answer where that goes by the answer.
 -- Assumes nothing.
 use mathlib.Core.Path.{_≡_, refl, sym, ap, ap₂, _∙_}
 use mathlib.Core.Bool.{false}

@@ -1,5 +1,5 @@
--- All that is said of whole sessions, of any rules by which every turn goes by what is seen alone. Sessions whose answers are alike are given
--- the same; the rest is in Sessions and Beginnings.
+-- All that is said of whole sessions, of any rules by which every turn goes by what is seen alone. Sessions whose answers are alike are
+-- given the same; the rest is in Sessions and Beginnings.
 -- Assumes nothing.
 use mathlib.Core.Path.{_≡_, refl, ap, ap₂, _∙_}
 use mathlib.Core.List.{List, _∷_}

@@ -1,0 +1,4 @@
+pub mod Cards
+pub mod Directory
+pub mod Application
+pub mod Theorem
