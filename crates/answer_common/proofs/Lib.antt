@@ -13,5 +13,6 @@ pub mod Present
 mod Pinned
 pub mod Absent
 pub mod BothForms
+pub mod Good
 pub mod Opened
 pub mod Names

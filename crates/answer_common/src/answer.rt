@@ -18,7 +18,7 @@ ghost use Rattle.answer_common.specs.Single.{aloneIn, singleOf};
 ghost use Rattle.answer_common.specs.Answer.{inside as insideOf, only as onlyOf, theOne};
 
 // The most bytes of an answer.
-const MOST: usize = 258;
+pub const MOST: usize = 258;
 
 // The most bytes of a value in its one object: less the status, and a tag and a length at each depth.
 pub const VALUE_MOST: usize = MOST - 2 - 2 - 2;

@@ -1,2 +1,3 @@
+pub mod Good
 mod Found
 mod CryptogramWorked

@@ -10,7 +10,7 @@ use Rattle.slices.specs.Tests.{between}
 use Rattle.numbers.specs.Tables.{forTwice, forContent, forMissing, forCryptogram}
 use Rattle.answer_common.specs.Answer.{isOne, inside, frame}
 use Rattle.answer_common.specs.Named.{direct, valueOf, anyTwice, anyWrong}
-use Rattle.answer_common.specs.Forms.{template, joined, bothForms, lacks}
+use Rattle.answer_common.specs.Forms.{template, joined, bothForms, lacks, readForm}
 use Rattle.decide_cryptogram.specs.Cryptograms.{givenBy}
 use Rattle.decide_cryptogram.specs.declared.Given.{Given}
 
@@ -45,3 +45,7 @@ cryptogramLines allowed a =
 -- `allowed` are the answers that the request allows
 unfoldable pub cryptogramReason : (Given → Bool) → List ℕ → ℕ
 cryptogramReason allowed a = firstOf (frame bothForms a ++ cryptogramLines allowed a)
+
+-- by place, for an answer that has no reason: proofs/Good
+unfoldable pub cryptogramRead : List ℕ → Given
+cryptogramRead a = givenBy (getD (readForm 0 1 0x9F27 a) 0 0)

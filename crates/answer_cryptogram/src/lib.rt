@@ -5,6 +5,7 @@ use answer_common::answer::is_one;
 use answer_common::answer::single_of;
 use answer_common::forms::JOINED;
 use answer_common::forms::TEMPLATE;
+use answer_common::forms::read_form;
 use answer_common::named::any_times;
 use answer_common::named::is_wrong;
 use answer_common::named::value_in_checked;
@@ -37,7 +38,7 @@ ghost use Rattle.answer_common.specs.Forms.{bothForms};
 ghost use Rattle.answer_common.specs.Named.{wrongValue};
 ghost use Rattle.answer_common.specs.Single.{singleOf};
 ghost use Rattle.answer_common.specs.declared.answer.Single.the-variants.{Object};
-ghost use Rattle.answer_cryptogram.specs.Cryptogram.{informationOf, cryptogramOf, cryptogramLines, cryptogramReason};
+ghost use Rattle.answer_cryptogram.specs.Cryptogram.{informationOf, cryptogramOf, cryptogramRead, cryptogramLines, cryptogramReason};
 
 // Bytes that begin with that of 9F27.
 fn information(answer: &[u8]) -> &[u8]
@@ -54,6 +55,13 @@ pub fn cryptogram(answer: &[u8]) -> Given
     ensures { λ r. ⌜ r ≡ cryptogramOf (now (answer .entry)) ⌝ }
 {
     given_by(byte(information(answer), 0) as u8)
+}
+
+// The same by place, for an answer that `cryptogram_reason` has nothing against: it is not checked again.
+pub fn cryptogram_read(answer: &[u8]) -> Given
+    ensures { λ r. ⌜ r ≡ cryptogramRead (now (answer .entry)) ⌝ }
+{
+    given_by(byte(read_form(answer, 0, 1, 0x9F27), 0) as u8)
 }
 
 // Whether one of the four values is wrong.

@@ -6,10 +6,10 @@ use Prim.Native.Nat.{ℕ}
 use lib.ListN.{take, drop}
 use Rattle.slices.specs.Choice.{pick, firstOf}
 use Rattle.numbers.specs.Tables.{forTwice, forContent, forLocator, forRecords, forMissing}
-use Rattle.answer_common.specs.Answer.{isOne, inside, frame}
+use Rattle.answer_common.specs.Answer.{isOne, inside, frame, most}
 use Rattle.answer_afl.specs.Entries.{wholeEntries, entriesRight, tooMany}
 use Rattle.answer_common.specs.Named.{direct, valueOf, anyTwice, anyWrong}
-use Rattle.answer_common.specs.Forms.{template, joined, bothForms, lacks}
+use Rattle.answer_common.specs.Forms.{template, joined, bothForms, lacks, readForm}
 
 abbrev pub optionNames : List ℕ
 optionNames = 0x82 ∷ 0x94 ∷ []
@@ -39,3 +39,10 @@ optionsLines a =
 
 unfoldable pub optionsReason : List ℕ → ℕ
 optionsReason a = firstOf (frame bothForms a ++ optionsLines a)
+
+-- both by place, for an answer that has no reason: proofs/Good
+abbrev pub profileRead : List ℕ → List ℕ
+profileRead a = readForm 0 2 0x82 a
+
+abbrev pub locatorRead : List ℕ → List ℕ
+locatorRead a = readForm 2 most 0x94 a

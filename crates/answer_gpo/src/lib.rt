@@ -2,12 +2,14 @@
 use answer_afl::entries::are_right;
 use answer_afl::entries::are_too_many;
 use answer_afl::entries::are_whole;
+use answer_common::answer::MOST;
 use answer_common::answer::Single;
 use answer_common::answer::inside;
 use answer_common::answer::is_one;
 use answer_common::answer::single_of;
 use answer_common::forms::JOINED;
 use answer_common::forms::TEMPLATE;
+use answer_common::forms::read_form;
 use answer_common::named::any_times;
 use answer_common::named::is_wrong;
 use answer_common::named::value_in_checked;
@@ -29,7 +31,7 @@ ghost use Rattle.answer_common.specs.Answer.{frame};
 ghost use Rattle.answer_common.specs.Forms.{bothForms};
 ghost use Rattle.answer_common.specs.Single.{singleOf};
 ghost use Rattle.answer_common.specs.declared.answer.Single.the-variants.{Object};
-ghost use Rattle.answer_gpo.specs.Options.{profileOf, locatorOf, optionsLines, optionsReason};
+ghost use Rattle.answer_gpo.specs.Options.{profileOf, locatorOf, profileRead, locatorRead, optionsLines, optionsReason};
 
 // The AIP's bytes.
 pub fn profile(answer: &[u8]) -> &[u8]
@@ -52,6 +54,19 @@ pub fn locator(answer: &[u8]) -> &[u8]
     } else {
         value_in_checked(inside(answer, TEMPLATE), 0x94)
     }
+}
+
+// Both by place, for an answer that `options_reason` has nothing against: it is not checked again.
+pub fn profile_read(answer: &[u8]) -> &[u8]
+    ensures { λ r. ⌜ now r ≡ profileRead (now (answer .entry)) ⌝ }
+{
+    read_form(answer, 0, 2, 0x82)
+}
+
+pub fn locator_read(answer: &[u8]) -> &[u8]
+    ensures { λ r. ⌜ now r ≡ locatorRead (now (answer .entry)) ⌝ }
+{
+    read_form(answer, 2, MOST, 0x94)
 }
 
 // Reasons 5 to 7 of an answer whose one object has the values joined; 0 where none of them applies.

@@ -1,3 +1,4 @@
+pub mod Good
 pub mod Inside
 mod Found
 mod SelectWorked

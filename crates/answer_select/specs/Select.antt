@@ -7,11 +7,13 @@ use Prim.Native.Nat.{ℕ}
 use lib.Dec.{eqb}
 use Rattle.slices.specs.Choice.{firstOf}
 use Rattle.numbers.specs.Tables.{forTwice, forContent, forMissing, forList}
+use Rattle.tlv_list.specs.Place.{dataField}
 use Rattle.tlv_list.specs.Lookup.{Lookup, absent, once, twice}
 use Rattle.start_fields.specs.Reading.{Terminal}
 use Rattle.dol_wanted.specs.Wanted.{fillable}
 use Rattle.answer_common.specs.Answer.{frame}
-use Rattle.answer_common.specs.Named.{among, direct, valueOf, anyTwice, anyMissing, anyWrong}
+use Rattle.answer_common.specs.Named.{among, direct, standing, valueOf, anyTwice, anyMissing, anyWrong}
+use Rattle.answer_common.specs.Single.{singleOf, readBy}
 
 abbrev pub selectTag : ℕ
 selectTag = 0x6F
@@ -61,3 +63,10 @@ selectLines aid a =
 
 unfoldable pub selectReason : Terminal → List ℕ → ℕ
 selectReason t a = firstOf (frame (selectTag ∷ []) a ++ selectLines (t .aid) a)
+
+-- the list by place, for an answer that has no reason: proofs/Good
+unfoldable pub pdolIn : ℕ → List ℕ → List ℕ
+pdolIn tag v = valueOf (standing (valueOf (standing v 0xA5)) 0x9F38)
+
+unfoldable pub pdolRead : List ℕ → List ℕ
+pdolRead a = readBy pdolIn (dataField a) (singleOf a)

@@ -27,7 +27,7 @@ ghost use Rattle.answer_common.specs.Answer.{frame};
 ghost use Rattle.answer_common.specs.Named.{direct, valueOf, wrongValue};
 ghost use Rattle.answer_common.specs.Single.{singleOf};
 ghost use Rattle.answer_common.specs.declared.answer.Single.the-variants.{Object};
-ghost use Rattle.answer_select.specs.Select.{begins as beginsOf, nameWrong, selectLines, selectReason, pdolOf};
+ghost use Rattle.answer_select.specs.Select.{begins as beginsOf, nameWrong, selectLines, selectReason, pdolOf, pdolRead};
 
 const SELECTED: usize = 0x6F;
 
@@ -43,6 +43,19 @@ pub fn pdol(answer: &[u8]) -> &[u8]
     ensures { λ r. ⌜ now r ≡ pdolOf (now (answer .entry)) ⌝ }
 {
     value_in_checked(proprietary(answer), 0x9F38)
+}
+
+// The same by place, for an answer that `select_reason` has nothing against: it is not checked again.
+pub fn pdol_read(answer: &[u8]) -> &[u8]
+    ensures { λ r. ⌜ now r ≡ pdolRead (now (answer .entry)) ⌝ }
+{
+    match single_of(answer) {
+        Single::Refused(_) => &answer[0..0],
+        Single::Object { tag: _, start, end } => {
+            let v = value(data_field(answer), start, end);
+            value_in_checked(value_in_checked(v, 0xA5), 0x9F38)
+        }
+    }
 }
 
 fn begins(aid: &[u8], v: &[u8]) -> bool

@@ -71,7 +71,7 @@ fn from_second(
     decided(
         tape,
         k,
-        by_second(cryptogram::cryptogram(a)),
+        by_second(cryptogram::cryptogram_read(a)),
         0,
         tvr,
         tsi,
@@ -249,7 +249,7 @@ pub fn from_first(
     by_first(
         tape,
         k,
-        cryptogram::cryptogram(a),
+        cryptogram::cryptogram_read(a),
         start,
         told,
         profile,

@@ -1,10 +1,10 @@
 // SELECT and GET PROCESSING OPTIONS.
 use crate::ending::end;
 use crate::records::read_all;
-use answer_gpo::locator;
+use answer_gpo::locator_read;
 use answer_gpo::options_reason;
-use answer_gpo::profile;
-use answer_select::pdol;
+use answer_gpo::profile_read;
+use answer_select::pdol_read;
 use answer_select::select_reason;
 use dol_fill::count::sum;
 use dol_fill::count::unsupplied;
@@ -30,8 +30,8 @@ fn from_options(tape: &[u8], start: &[u8], a: &[u8], zeros: usize) -> Finding
         return end(tape, 5, why, [0; 5], [0; 2], zeros);
     }
     let mut aip = [0; 2];
-    lay(&mut aip, 0, profile(a));
-    read_all(tape, start, aip, locator(a), zeros)
+    lay(&mut aip, 0, profile_read(a));
+    read_all(tape, start, aip, locator_read(a), zeros)
 }
 
 // After the answer to SELECT.
@@ -44,7 +44,7 @@ fn from_select(tape: &[u8], start: &[u8], a: &[u8]) -> Finding
     }
     let told = [0; END];
     let known = at_options(&told, [0; 5], [0; 2]);
-    let list = pdol(a);
+    let list = pdol_read(a);
     let filled = sum(0, unsupplied(list, start, &known));
     let m = ask::options(tape, 3, list, start, &known);
     if !m.there {

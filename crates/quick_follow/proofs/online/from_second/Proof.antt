@@ -9,6 +9,7 @@ use Rattle.tape_crc.proofs.Bytes.{bytes-each}
 use Rattle.decide_cryptogram.specs.Cryptograms.{allowedBy}
 use Rattle.decide_cryptogram.specs.declared.Request.the-variants.{Second}
 use Rattle.answer_cryptogram.specs.Cryptogram.{cryptogramReason, cryptogramOf}
+use Rattle.answer_cryptogram.proofs.Good.{cryptogram-good}
 use Rattle.answer_laws.proofs.Reasons.{cryptogram-small}
 use Rattle.numbers.specs.Tables.{terminated}
 use Rattle.rulebook.specs.Phase.{decided}
@@ -43,11 +44,14 @@ returns-2 c s e f =
     let t = args .tape .now in
     let bytes = bytes-each t (λ i h. omega (arith, r .before .before .shared-slice-known .given i)) in
     let small : args .zeros < 2 ^ 64 = omega (arith, start .good) in
-    let outcome = c .before .by-second .ensures ∙ ap bySecond (c .before .before .cryptogram .ensures) in
+    let allowed = allowedBy (Second (args .request)) in
+    let good = sym (r .cryptogram-reason .ensures) ∙ c .before .before .before .if1 .left in
+    let given = c .before .before .cryptogram-read .ensures ∙ cryptogram-good allowed (args .a .now) good in
+    let outcome = c .before .by-second .ensures ∙ ap bySecond given in
     c .decided .ensures
     ∙ ((λ i. decisionMet (outcome i ∷ 0 ∷ (sym e i ++ sym f i)) (args .k) (args .zeros) t)
     ∙ (decided-found t bytes (args .k) (args .zeros) small s (bySecond (cryptogramOf (args .a .now)))
-    ∙ reason-goes t bytes (args .k) (args .zeros) small s _ (cryptogramReason (allowedBy (Second (args .request))) (args .a .now)) _
+    ∙ reason-goes t bytes (args .k) (args .zeros) small s _ (cryptogramReason allowed (args .a .now)) _
     (r .cryptogram-reason .ensures) (c .before .before .before .if1 .left)))
 
 pub from-second-spec : {M : Type 1} → statement M

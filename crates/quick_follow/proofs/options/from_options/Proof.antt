@@ -9,6 +9,7 @@ use mathlib.Core.List.{List}
 use Rattle.slices.specs.Writing.{laid, zeros}
 use Rattle.start_fields.specs.Reading.{readingOf}
 use Rattle.answer_gpo.specs.Options.{optionsReason, profileOf, locatorOf}
+use Rattle.answer_gpo.proofs.Good.{profile-good, locator-good}
 use Rattle.answer_afl.specs.Entries.{toRead}
 use Rattle.answer_laws.proofs.Reasons.{options-small}
 use Rattle.rulebook.specs.Situation.{begun}
@@ -49,10 +50,10 @@ returns-2 c =
     let small : args .zeros < 2 ^ 64 = omega (arith, k .before .good) in
     let s = begun (readingOf (args .start .now)) in
     let good = sym (r .options-reason .ensures) ∙ e .if1 .left in
-    let kept = l .lay .ensures ∙ ap (λ (x : List ℕ). laid x 0 (zeros 2)) (p .profile .ensures) in
+    let kept = l .lay .ensures ∙ ap (λ (x : List ℕ). laid x 0 (zeros 2)) (p .profile-read .ensures ∙ profile-good a good) in
     let situation = options-as (args .start .now) a _ good kept in
     c .read-all .ensures
-    ∙ ((λ i. foundFrom (readOn (situation i) (toRead (c .before .locator .ensures i))) 5 (args .zeros) t)
+    ∙ ((λ i. foundFrom (readOn (situation i) (toRead ((c .before .locator-read .ensures ∙ locator-good a good) i))) 5 (args .zeros) t)
     ∙ reason-goes t bytes 5 (args .zeros) small s _ (optionsReason a) _ (r .options-reason .ensures) (e .if1 .left))
 
 pub from-options-spec : {M : Type 1} → statement M

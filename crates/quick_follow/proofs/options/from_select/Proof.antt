@@ -1,6 +1,6 @@
 -- `options::from_select` meets its contract: a bad answer ends the session, a good one leads to GPO, met.
 -- Assumes nothing.
-use mathlib.Core.Path.{ap, _∙_}
+use mathlib.Core.Path.{sym, ap, _∙_}
 use Prim.Native.Nat.{_^_, _<_}
 use native.Mathlib.Omega.{arith}
 use borrow.Author.Needs.{needs}
@@ -11,6 +11,7 @@ use Rattle.start_fields.specs.Reading.{readingOf}
 use Rattle.session_records.specs.Slots.{toldIn}
 use Rattle.commands.specs.Commands.{optionsCommand}
 use Rattle.answer_select.specs.Select.{selectReason, pdolOf}
+use Rattle.answer_select.proofs.Good.{pdol-good}
 use Rattle.answer_laws.proofs.Reasons.{select-small}
 use Rattle.rulebook.specs.Situation.{begun}
 use Rattle.rulebook.specs.Phase.{optioning, asks, commandOf}
@@ -55,7 +56,8 @@ returns-2 c =
     let terminal = readingOf (args .start .now) in
     let s = begun terminal in
     let known = ap toldIn (n .at-options .ensures) ∙ begun-known (args .start .now) in
-    let list = l .pdol .ensures in
+    let good = sym (r .select-reason .ensures) ∙ e .if1 .left in
+    let list = l .pdol-read .ensures ∙ pdol-good terminal a good in
     let due = ap optionsCommand (filled-as terminal known list) in
     let lacks = u .unsupplied .ensures ∙ lacks-as terminal known list in
     let sum = q .before .before .sum .ensures in
@@ -83,7 +85,8 @@ returns-3 c =
     let terminal = readingOf (args .start .now) in
     let s = begun terminal in
     let known = ap toldIn (n .at-options .ensures) ∙ begun-known (args .start .now) in
-    let list = l .pdol .ensures in
+    let good = sym (r .select-reason .ensures) ∙ e .if1 .left in
+    let list = l .pdol-read .ensures ∙ pdol-good terminal a good in
     let due = ap optionsCommand (filled-as terminal known list) in
     let lacks = u .unsupplied .ensures ∙ lacks-as terminal known list in
     let sum = q .before .before .sum .ensures in
