@@ -9,7 +9,7 @@ use Rattle.start_list.specs.Listing.{applicationsIn}
 use Rattle.select_list.specs.Order.{Candidate}
 use Rattle.select_search.specs.Turns.{searchOf}
 use Rattle.sessions.specs.Rules.{asks}
-use Rattle.verdict_editions.specs.Later.{AskedLater}
+use Rattle.rulebook.specs.Later.{AskedLater}
 use Rattle.rulebook_choosing.specs.Choosing.{Choosing, searched, chose, listed}
 use Rattle.session_phase.specs.declared.Speaker.{Speaker}
 use Rattle.session_phase.specs.declared.Speaker.the-variants.{Terminal, Says, Shopper}

@@ -14,7 +14,7 @@ use Rattle.select_list.specs.Kept.{mostKept}
 use Rattle.select_search.specs.Search.{Search, asked, cutTo}
 use Rattle.select_search.specs.declared.Stand.{Stand}
 use Rattle.sessions.specs.Rules.{asks, hears, decides}
-use Rattle.verdict_editions.specs.Later.{AskedLater, HeardLater}
+use Rattle.rulebook.specs.Later.{AskedLater, HeardLater}
 use Rattle.rulebook_choosing.specs.Choosing.{ChoosingPhase}
 use Rattle.session_phase.specs.declared.Speaker.the-variants.{Shopper}
 use Rattle.session_phase.specs.declared.Waiting.{Waiting}
