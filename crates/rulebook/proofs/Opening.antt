@@ -61,63 +61,64 @@ use Rattle.answer_common.specs.Answer.{frame as o165}
 use Rattle.answer_common.specs.CardNumber.{halves as o166, digits as o167, onlyF as o168, cardNumber as o169}
 use Rattle.answer_common.specs.Content.{meets as o170, rowsFor as o171, namesFor as o172, rules as o173, ruleFor as o174}
 use Rattle.answer_common.specs.Content.{rightValue as o175}
-use Rattle.answer_common.specs.Forms.{lacks as o176}
-use Rattle.answer_common.specs.Named.{membersIn as o177, listed as o178, named as o179, among as o180, direct as o181}
-use Rattle.answer_common.specs.Named.{standing as o182, times as o183, foundTimes as o184, told as o185, valueOf as o186}
-use Rattle.answer_common.specs.Named.{wrongValue as o187, anyTimes as o188, anyWrong as o189}
-use Rattle.answer_common.specs.Single.{lastOne as o190, aloneBy as o191, aloneIn as o192, singleOf as o193}
-use Rattle.cvm_rules.specs.Conditions.{satisfied as o194}
-use Rattle.cvm_rules.specs.Methods.{methodOf as o195, supported as o196, succeeds as o197, pinBits as o198, triedBits as o199}
-use Rattle.cvm_rules.specs.Turns.{triedTurn as o200, tried as o201, turnOf as o202}
-use Rattle.cvm.specs.Lists.{limitOf as o203, limitX as o204, limitY as o205, rulesOf as o206, rulesIn as o207, isResult as o208}
-use Rattle.cvm.specs.Lists.{areResults as o209, inApplicationCurrency as o210}
-use Rattle.cvm.specs.Verified.{following as o211, verifiedFrom as o212, verified as o213}
-use Rattle.decide_tvr.specs.Bits.{joined as o214, meet as o215, flag as o216}
-use Rattle.decide_tvr.specs.Results.{differentVersions as o217, expired as o218, notYetEffective as o219, riskManaged as o220}
-use Rattle.decide_tvr.specs.Results.{atFloorLimit as o221, drawn as o222, restrictions as o223, risks as o224}
-use Rattle.decide_tvr.specs.Results.{tvrAfterRecords as o225, tsiAfterRecords as o226, tsiAfterFirstAnswer as o227}
-use Rattle.decide_tvr.specs.Selection.{biased as o228, chosen as o229, selected as o230}
-use Rattle.decide_requests.specs.Replies.{codeIn as o231, saidBy as o232, replyOf as o233, isReply as o234, responseCode as o235}
-use Rattle.decide_requests.specs.Requests.{issuerCode as o236, codeMatch as o237, byType as o238, firstRequest as o239}
-use Rattle.decide_requests.specs.Requests.{whenUnable as o240, secondRequest as o241}
-use Rattle.decide_verification.specs.Verification.{verificationSupported as o242, resultsDue as o243, verificationList as o244}
-use Rattle.decide_verification.specs.Verification.{resultsWanted as o245, circumstancesOf as o246, tvrAfterResults as o247}
-use Rattle.decide_verification.specs.Verification.{tsiAfterResults as o248}
-use Rattle.dol_wanted.specs.Wanted.{andThen as o249, sizeAt as o250, firstWanted as o251, asks as o252, wantedStep as o253}
-use Rattle.dol_wanted.specs.Wanted.{entriesOf as o254, total as o255, totalBy as o256, totalOf as o257, fits as o258}
-use Rattle.dol_wanted.specs.Wanted.{fillable as o259, tally as o260}
-use Rattle.dol_values.specs.Known.{ownField as o261, valueBy as o262, valueFor as o263, withFormat as o264, supplied as o265}
-use Rattle.dol_values.specs.Shape.{shaped as o266, formatOf as o267}
-use Rattle.dol_fill.specs.Filled.{entryBytes as o268, firstBytes as o269, filled as o270, filledBy as o271, filledList as o272}
-use Rattle.dol_fill.specs.Filled.{filling as o273, missing as o274, missingIn as o275, missingBy as o276, unsupplied as o277}
-use Rattle.dol_fill.specs.Filled.{summed as o278}
-use Rattle.commands.specs.Commands.{selectCommand as o279, optionsCommand as o280, recordCommand as o281, withLength as o282}
-use Rattle.commands.specs.Commands.{cryptogramCommand as o283, sizeIn as o284, dataSize as o285}
-use Rattle.answer_select.specs.Select.{inner as o286, pdolOf as o287, begins as o288, nameWrong as o289, selectTwice as o290}
-use Rattle.answer_select.specs.Select.{selectWrong as o291, selectLines as o292, selectReason as o293}
-use Rattle.answer_record.specs.Records.{again as o294, anyAgain as o295, recordTwice as o296, recordLines as o297}
-use Rattle.answer_record.specs.Records.{recordReason as o298, valueIn as o299, namedIn as o300, incomplete as o301}
-use Rattle.answer_record.specs.Records.{completeReason as o302, afterRecords as o303}
-use Rattle.answer_record.specs.Taken.{taken as o304, worse as o305, oneTaken as o306, objectsTaken as o307, takenBy as o308}
-use Rattle.answer_record.specs.Taken.{takenWalk as o309, takenFrom as o310, takenIn as o311, recordTaken as o312}
-use Rattle.answer_gpo.specs.Options.{profileOf as o313, locatorOf as o314, optionsWrong as o315, optionsLines as o316}
-use Rattle.answer_gpo.specs.Options.{optionsReason as o317}
-use Rattle.answer_cryptogram.specs.Cryptogram.{informationOf as o318, cryptogramOf as o319, cryptogramWrong as o320}
-use Rattle.answer_cryptogram.specs.Cryptogram.{cryptogramLines as o321, cryptogramReason as o322}
-use Rattle.words.specs.Choice.{isChoice as o323}
-use Rattle.words.specs.Words.{wordKind as o324, wordAllowed as o325, wordRefusal as o326}
-use Rattle.rulebook.specs.Later.{asWas as o327, commandLater as o328, turnLater as o329, kindLater as o330}
-use Rattle.rulebook.specs.Later.{allowedLater as o331, afterLater as o332}
-use Rattle.rulebook.specs.Phase.{situationOf as o333, commandOf as o334, dueKind as o335, decisionOf as o336}
-use Rattle.rulebook.specs.Phase.{decided as o337, ended as o338, tvrOf as o339, tsiOf as o340}
-use Rattle.rulebook.specs.Roles.{given as o341, begins as o342}
-use Rattle.rulebook.specs.Situation.{begun as o343, knownIn as o344, listIn as o345}
-use Rattle.rulebook.specs.Turn.{goesOn as o346, opened as o347, selected as o348, managed as o349, requested as o350}
-use Rattle.rulebook.specs.Turn.{verifying as o351, allRead as o352, readOn as o353, withProfile as o354, optioned as o355}
-use Rattle.rulebook.specs.Turn.{withRecord as o356, recorded as o357, answered as o358, replied as o359, online as o360}
-use Rattle.rulebook.specs.Turn.{byFirst as o361, firstAnswered as o362, bySecond as o363, secondAnswered as o364}
-use Rattle.rulebook.specs.Turn.{turn as o365, wantedIn as o366, allowed as o367, replyMade as o368, issuerReplied as o369}
-use Rattle.rulebook.specs.Turn.{verifiedBy as o370, after as o371}
+use Rattle.answer_common.specs.Forms.{lacks as o176, formIn as o177, readForm as o178}
+use Rattle.answer_common.specs.Named.{membersIn as o179, listed as o180, named as o181, among as o182, direct as o183}
+use Rattle.answer_common.specs.Named.{standing as o184, times as o185, foundTimes as o186, told as o187, valueOf as o188}
+use Rattle.answer_common.specs.Named.{wrongValue as o189, anyTimes as o190, anyWrong as o191}
+use Rattle.answer_common.specs.Single.{lastOne as o192, aloneBy as o193, aloneIn as o194, singleOf as o195, readBy as o196}
+use Rattle.cvm_rules.specs.Conditions.{satisfied as o197}
+use Rattle.cvm_rules.specs.Methods.{methodOf as o198, supported as o199, succeeds as o200, pinBits as o201, triedBits as o202}
+use Rattle.cvm_rules.specs.Turns.{triedTurn as o203, tried as o204, turnOf as o205}
+use Rattle.cvm.specs.Lists.{limitOf as o206, limitX as o207, limitY as o208, rulesOf as o209, rulesIn as o210, isResult as o211}
+use Rattle.cvm.specs.Lists.{areResults as o212, inApplicationCurrency as o213}
+use Rattle.cvm.specs.Verified.{following as o214, verifiedFrom as o215, verified as o216}
+use Rattle.decide_tvr.specs.Bits.{joined as o217, meet as o218, flag as o219}
+use Rattle.decide_tvr.specs.Results.{differentVersions as o220, expired as o221, notYetEffective as o222, riskManaged as o223}
+use Rattle.decide_tvr.specs.Results.{atFloorLimit as o224, drawn as o225, restrictions as o226, risks as o227}
+use Rattle.decide_tvr.specs.Results.{tvrAfterRecords as o228, tsiAfterRecords as o229, tsiAfterFirstAnswer as o230}
+use Rattle.decide_tvr.specs.Selection.{biased as o231, chosen as o232, selected as o233}
+use Rattle.decide_requests.specs.Replies.{codeIn as o234, saidBy as o235, replyOf as o236, isReply as o237, responseCode as o238}
+use Rattle.decide_requests.specs.Requests.{issuerCode as o239, codeMatch as o240, byType as o241, firstRequest as o242}
+use Rattle.decide_requests.specs.Requests.{whenUnable as o243, secondRequest as o244}
+use Rattle.decide_verification.specs.Verification.{verificationSupported as o245, resultsDue as o246, verificationList as o247}
+use Rattle.decide_verification.specs.Verification.{resultsWanted as o248, circumstancesOf as o249, tvrAfterResults as o250}
+use Rattle.decide_verification.specs.Verification.{tsiAfterResults as o251}
+use Rattle.dol_wanted.specs.Wanted.{andThen as o252, sizeAt as o253, firstWanted as o254, asks as o255, wantedStep as o256}
+use Rattle.dol_wanted.specs.Wanted.{entriesOf as o257, total as o258, totalBy as o259, totalOf as o260, fits as o261}
+use Rattle.dol_wanted.specs.Wanted.{fillable as o262, tally as o263}
+use Rattle.dol_values.specs.Known.{ownField as o264, valueBy as o265, valueFor as o266, withFormat as o267, supplied as o268}
+use Rattle.dol_values.specs.Shape.{shaped as o269, formatOf as o270}
+use Rattle.dol_fill.specs.Filled.{entryBytes as o271, firstBytes as o272, filled as o273, filledBy as o274, filledList as o275}
+use Rattle.dol_fill.specs.Filled.{filling as o276, missing as o277, missingIn as o278, missingBy as o279, unsupplied as o280}
+use Rattle.dol_fill.specs.Filled.{summed as o281}
+use Rattle.commands.specs.Commands.{selectCommand as o282, optionsCommand as o283, recordCommand as o284, withLength as o285}
+use Rattle.commands.specs.Commands.{cryptogramCommand as o286, sizeIn as o287, dataSize as o288}
+use Rattle.answer_select.specs.Select.{inner as o289, pdolOf as o290, begins as o291, nameWrong as o292, selectTwice as o293}
+use Rattle.answer_select.specs.Select.{selectWrong as o294, selectLines as o295, selectReason as o296, pdolIn as o297}
+use Rattle.answer_select.specs.Select.{pdolRead as o298}
+use Rattle.answer_record.specs.Records.{again as o299, anyAgain as o300, recordTwice as o301, recordLines as o302}
+use Rattle.answer_record.specs.Records.{recordReason as o303, valueIn as o304, namedIn as o305, incomplete as o306}
+use Rattle.answer_record.specs.Records.{completeReason as o307, afterRecords as o308}
+use Rattle.answer_record.specs.Taken.{taken as o309, worse as o310, oneTaken as o311, objectsTaken as o312, takenBy as o313}
+use Rattle.answer_record.specs.Taken.{takenWalk as o314, takenFrom as o315, takenIn as o316, recordTaken as o317}
+use Rattle.answer_gpo.specs.Options.{profileOf as o318, locatorOf as o319, optionsWrong as o320, optionsLines as o321}
+use Rattle.answer_gpo.specs.Options.{optionsReason as o322}
+use Rattle.answer_cryptogram.specs.Cryptogram.{informationOf as o323, cryptogramOf as o324, cryptogramWrong as o325}
+use Rattle.answer_cryptogram.specs.Cryptogram.{cryptogramLines as o326, cryptogramReason as o327, cryptogramRead as o328}
+use Rattle.words.specs.Choice.{isChoice as o329}
+use Rattle.words.specs.Words.{wordKind as o330, wordAllowed as o331, wordRefusal as o332}
+use Rattle.rulebook.specs.Later.{asWas as o333, commandLater as o334, turnLater as o335, kindLater as o336}
+use Rattle.rulebook.specs.Later.{allowedLater as o337, afterLater as o338}
+use Rattle.rulebook.specs.Phase.{situationOf as o339, commandOf as o340, dueKind as o341, decisionOf as o342}
+use Rattle.rulebook.specs.Phase.{decided as o343, ended as o344, tvrOf as o345, tsiOf as o346}
+use Rattle.rulebook.specs.Roles.{given as o347, begins as o348}
+use Rattle.rulebook.specs.Situation.{begun as o349, knownIn as o350, listIn as o351}
+use Rattle.rulebook.specs.Turn.{goesOn as o352, opened as o353, selected as o354, managed as o355, requested as o356}
+use Rattle.rulebook.specs.Turn.{verifying as o357, allRead as o358, readOn as o359, withProfile as o360, optioned as o361}
+use Rattle.rulebook.specs.Turn.{withRecord as o362, recorded as o363, answered as o364, replied as o365, online as o366}
+use Rattle.rulebook.specs.Turn.{byFirst as o367, firstAnswered as o368, bySecond as o369, secondAnswered as o370}
+use Rattle.rulebook.specs.Turn.{turn as o371, wantedIn as o372, allowed as o373, replyMade as o374, issuerReplied as o375}
+use Rattle.rulebook.specs.Turn.{verifiedBy as o376, after as o377}
 
 -- the state that a session's entries lead to
 unfoldable pub reached : List Entry → Option Machine
@@ -135,5 +136,5 @@ unfolding o0 o1 o2 o3 o4 o5 o6 o7 o8 o9 o10 o11 o12 o13 o14 o15 o16 o17 o18 o19 
     o295 o296 o297 o298 o299 o300 o301 o302 o303 o304 o305 o306 o307 o308 o309 o310 o311 o312 o313 o314 o315 o316 o317 o318 o319
     o320 o321 o322 o323 o324 o325 o326 o327 o328 o329 o330 o331 o332 o333 o334 o335 o336 o337 o338 o339 o340 o341 o342 o343 o344
     o345 o346 o347 o348 o349 o350 o351 o352 o353 o354 o355 o356 o357 o358 o359 o360 o361 o362 o363 o364 o365 o366 o367 o368 o369
-    o370 o371 run
+    o370 o371 o372 o373 o374 o375 o376 o377 run
 reached es = run rules es (at opens)
