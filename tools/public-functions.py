@@ -39,6 +39,7 @@ EXCEPTIONS = {
     "select_list joining::remove": "bytes behind the rows that count; the list that they read as, `listIn`, is an equation",
     "select_search turns::begin": "bytes behind the rows that count; the list that they read as, `listIn`, is an equation",
     "select_search turns::heard": "bytes behind the rows that count; the list that they read as, `listIn`, is an equation",
+    "session_choosing event::step": "bytes behind the rows that count; the list that they read as, `listIn`, and all else are one equation",
 }
 
 HEAD = """# Every public function
