@@ -17,12 +17,10 @@ use Rattle.card_worked.specs.Dressed.{answersDiffer, Dressed}
 use Rattle.card_worked.proofs.Cards.{offering, profile, giving, counter, cryptogram, issuer, verified, tvr, decides}
 use Rattle.card_worked.proofs.Records.{recordSize, recordWith, plain, asks}
 
--- one session with five answers
-abbrev sessionOf : List ℕ → List ℕ → List ℕ → List ℕ → List ℕ → List Entry
-sessionOf a b c d e =
-    entry start (startOf 2)
-    ∷ entry command select ∷ entry answer a
-    ∷ entry command withNumber ∷ entry answer b
+-- from GPO on, with the four answers that are left
+abbrev onward : List ℕ → List ℕ → List ℕ → List ℕ → List Entry
+onward b c d e =
+    entry command withNumber ∷ entry answer b
     ∷ entry command readOne ∷ entry answer c
     ∷ verified
     ∷ asks profile plain (tvr 0 0) ∷ entry answer d
@@ -31,21 +29,33 @@ sessionOf a b c d e =
     ∷ decides 1 0 (tvr 0 0) 0x60
     ∷ []
 
-abbrev plainSession : List Entry
-plainSession =
-    sessionOf withList (offering profile 1) (recordWith plain) (giving 0x18 0x80 (counter ++ (cryptogram ++ issuer)))
+abbrev pub plainOnward : List Entry
+plainOnward =
+    onward (offering profile 1) (recordWith plain) (giving 0x18 0x80 (counter ++ (cryptogram ++ issuer)))
     (0x80 ∷ 0x0B ∷ 0x40 ∷ 0x00 ∷ 0x02 ∷ 8 ∷ 7 ∷ 6 ∷ 5 ∷ 4 ∷ 3 ∷ 2 ∷ 1 ∷ 0x90 ∷ 0x00 ∷ [])
+
+abbrev pub dressedOnward : List Entry
+dressedOnward =
+    onward
+    (0x80 ∷ 0x06 ∷ 0x10 ∷ 0x00 ∷ 0x08 ∷ 0x01 ∷ 0x01 ∷ 0x00 ∷ 0x00 ∷ 0x90 ∷ 0x00 ∷ [])
+    (0x70 ∷ 0x81 ∷ (5 + recordSize) ∷ 0x5F ∷ 0x20 ∷ 0x01 ∷ 0x41 ∷ 0x00 ∷ drop 2 (recordWith plain))
+    (0x80 ∷ 0x0C ∷ 0x80 ∷ 0x00 ∷ 0x01 ∷ 1 ∷ 2 ∷ 3 ∷ 4 ∷ 5 ∷ 6 ∷ 7 ∷ 8 ∷ 0xAA ∷ 0x90 ∷ 0x00 ∷ [])
+    (0x77 ∷ 0x14 ∷ 0x9F ∷ 0x27 ∷ 0x01 ∷ 0x40 ∷ 0x9F ∷ 0x36 ∷ 0x02 ∷ 0x00 ∷ 0x02 ∷ 0x9F ∷ 0x26 ∷ 0x08 ∷ 8 ∷ 7 ∷ 6 ∷ 5 ∷ 4 ∷ 3 ∷ 2 ∷ 1
+    ∷ 0x90 ∷ 0x00 ∷ [])
+
+-- before it SELECT and its answer
+abbrev sessionOf : List ℕ → List Entry → List Entry
+sessionOf a es = entry start (startOf 2) ∷ entry command select ∷ entry answer a ∷ es
+
+abbrev plainSession : List Entry
+plainSession = sessionOf withList plainOnward
 
 abbrev dressedSession : List Entry
 dressedSession =
     sessionOf
     (0x00 ∷ 0x6F ∷ 0x81 ∷ 0x15 ∷ 0x50 ∷ 0x01 ∷ 0x41 ∷ 0x84 ∷ 0x82 ∷ 0x00 ∷ 0x05 ∷ 0xA0 ∷ 0 ∷ 0 ∷ 0 ∷ 3 ∷ 0x00
     ∷ 0xA5 ∷ 0x06 ∷ 0x9F ∷ 0x38 ∷ 0x03 ∷ 0x9F ∷ 0x37 ∷ 0x04 ∷ 0x90 ∷ 0x00 ∷ [])
-    (0x80 ∷ 0x06 ∷ 0x10 ∷ 0x00 ∷ 0x08 ∷ 0x01 ∷ 0x01 ∷ 0x00 ∷ 0x00 ∷ 0x90 ∷ 0x00 ∷ [])
-    (0x70 ∷ 0x81 ∷ (5 + recordSize) ∷ 0x5F ∷ 0x20 ∷ 0x01 ∷ 0x41 ∷ 0x00 ∷ drop 2 (recordWith plain))
-    (0x80 ∷ 0x0C ∷ 0x80 ∷ 0x00 ∷ 0x01 ∷ 1 ∷ 2 ∷ 3 ∷ 4 ∷ 5 ∷ 6 ∷ 7 ∷ 8 ∷ 0xAA ∷ 0x90 ∷ 0x00 ∷ [])
-    (0x77 ∷ 0x14 ∷ 0x9F ∷ 0x27 ∷ 0x01 ∷ 0x40 ∷ 0x9F ∷ 0x36 ∷ 0x02 ∷ 0x00 ∷ 0x02 ∷ 0x9F ∷ 0x26 ∷ 0x08 ∷ 8 ∷ 7 ∷ 6 ∷ 5 ∷ 4 ∷ 3 ∷ 2 ∷ 1
-    ∷ 0x90 ∷ 0x00 ∷ [])
+    dressedOnward
 
 pub whole-pair : Dressed
 unfolding reached viewed placeOf answersDiffer

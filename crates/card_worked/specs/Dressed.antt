@@ -7,10 +7,12 @@ use lib.Dec.{eqb}
 use Rattle.slices.specs.Tests.{alike}
 use Rattle.numbers.specs.Tables.{answer}
 use Rattle.tape_read.specs.Entries.{Entry}
-use Rattle.rulebook.specs.Phase.{opens}
-use Rattle.rulebook.specs.Session.{Session}
-use Rattle.rulebook.specs.Machine.{at}
-use Rattle.card_seen.specs.SideBySide.{Alongside}
+use Rattle.sessions.specs.Rules.{Rules}
+use Rattle.sessions.specs.Session.{Session}
+use Rattle.sessions.specs.Machine.{at}
+use Rattle.rulebook.specs.Session as today
+use Rattle.card_seen.specs.Given as today-given
+use Rattle.card_seen.specs.Under.{View, Alongside}
 
 -- whether every answer in two lists of entries has other bytes
 unfoldable pub answersDiffer : List Entry → List Entry → Bool
@@ -18,10 +20,16 @@ answersDiffer [] fs = true
 answersDiffer (e ∷ es) [] = true
 answersDiffer (e ∷ es) (f ∷ fs) = (not (eqb (e .kind) answer) || not (alike (e .payload) (f .payload))) && answersDiffer es fs
 
-pub record Dressed : Type 0 where
-  pub plain : List Entry
-  pub dressed : List Entry
-  pub plain-session : Session plain
-  pub dressed-session : Session dressed
-  pub same-given : Alongside (at opens) plain dressed
-  pub other-bytes : answersDiffer plain dressed ≡ true
+-- under any rules
+module _ {A H S : Type 0} (rules : Rules A H S) (view : View A H S) where
+  pub record DressedUnder : Type 0 where
+    pub plain : List Entry
+    pub dressed : List Entry
+    pub plain-session : Session rules plain
+    pub dressed-session : Session rules dressed
+    pub same-given : Alongside rules view (at (rules .opens)) plain dressed
+    pub other-bytes : answersDiffer plain dressed ≡ true
+
+-- by the rules of 01
+abbrev pub Dressed : Type 0
+Dressed = DressedUnder today.rules today-given.view
