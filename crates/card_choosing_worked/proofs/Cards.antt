@@ -126,7 +126,7 @@ sends = opens ++ (entry answer twoListed ∷ (closes ++ (selectName 1 ∷ [])))
 abbrev pub ends : List Entry
 ends = ending (five 0) 0
 
-pub pair : (name : ℕ) (before : List Entry) (place : Place) (one other : List ℕ) (middle : List Entry) (asked otherwise : Entry)
+unfoldable pub pair : (name : ℕ) (before : List Entry) (place : Place) (one other : List ℕ) (middle : List Entry) (asked otherwise : Entry)
     → placeDue placeOf (reached before) ≡ some place → seenBeside name (seen place one) ≡ seenBeside name (seen place other)
     → given asked ≡ true → given otherwise ≡ true → reasonSaid asked ≡ 0 → reasonSaid otherwise ≡ 0 → (asked ≡ otherwise → ⊥)
     → reached (before ++ (entry answer one ∷ (middle ++ (asked ∷ ends)))) ≡ some done

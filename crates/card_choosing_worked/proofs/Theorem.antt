@@ -5,6 +5,8 @@ use Rattle.card_seen.specs.Seen as seen
 use Rattle.card_choosing_worked.specs.Theorem.{MattersAt, inEnvironment, inRecord, inApplication, Worked}
 use Rattle.card_choosing_worked.proofs.Directory as found
 use Rattle.card_choosing_worked.proofs.Application as chosen
+use Rattle.card_choosing_worked.proofs.Parting.{order-counts, form-parts}
+use Rattle.card_choosing_worked.proofs.Dressed.{whole-pair}
 
 pub theorem : Worked
 theorem = record {
@@ -16,4 +18,7 @@ theorem = record {
   application =
       by-name (MattersAt seen.application) inApplication
       (chosen.name-counts, (chosen.template-counts, (chosen.priority-counts, (chosen.list-counts, tt))));
+  entry-order = order-counts;
+  form = form-parts;
+  dressed = whole-pair;
 }
