@@ -15,6 +15,7 @@ pub mod SideBySide
 pub mod Least
 pub mod Order
 pub mod IssuerData
+pub mod Unseen
 pub mod Dressing
 pub mod Freedoms
 pub mod Listings

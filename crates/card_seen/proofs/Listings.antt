@@ -6,7 +6,7 @@ use Prim.Native.Nat.{ℕ}
 use Rattle.slices.specs.Tests.{alike}
 use Rattle.tlv_list.specs.Objects.{Object}
 use Rattle.card_seen.specs.Seen.{environment, directory, application, entryNames, entryNoted}
-use Rattle.card_seen.specs.Dressing.{templateAt, ignored, entry, Dressed, Pair}
+use Rattle.card_seen.specs.Dressing.{templateAt, ignored, entry, revalued, Dressed, Pair}
 use Rattle.card_seen.proofs.Freedoms.{viewed, other-bytes}
 
 abbrev ok : List ℕ
@@ -70,6 +70,30 @@ pub noted-otherwise : Pair directory (0x70 ∷ 0x08 ∷ 0x61 ∷ 0x06 ∷ 0x9D �
     (0x70 ∷ 0x09 ∷ 0x61 ∷ 0x07 ∷ 0x87 ∷ 0x01 ∷ 0x01 ∷ 0x9D ∷ 0x00 ∷ 0x9D ∷ 0x00 ∷ ok)
 unfolding viewed alike
 noted-otherwise = record { same = refl; other = other-bytes _ _ refl }
+
+pub noted-dressed : Dressed directory (0x70 ∷ 0x08 ∷ 0x61 ∷ 0x06 ∷ 0x9D ∷ 0x01 ∷ 0x41 ∷ 0x87 ∷ 0x01 ∷ 0x01 ∷ ok)
+    (0x70 ∷ 0x07 ∷ 0x61 ∷ 0x05 ∷ 0x9D ∷ 0x00 ∷ 0x87 ∷ 0x01 ∷ 0x01 ∷ ok)
+unfolding viewed templateAt
+noted-dressed = record {
+  status = refl;
+  first-one = refl;
+  second-one = refl;
+  members = record {
+    front = [];
+    behind = [];
+    front-objects = [];
+    behind-objects = [];
+    front-list = refl;
+    behind-list = refl;
+    one = 0x61 ∷ 0x06 ∷ 0x9D ∷ 0x01 ∷ 0x41 ∷ 0x87 ∷ 0x01 ∷ 0x01 ∷ [];
+    other = 0x61 ∷ 0x05 ∷ 0x9D ∷ 0x00 ∷ 0x87 ∷ 0x01 ∷ 0x01 ∷ [];
+    unseen =
+        revalued 0x61 0x9D entryNames entryNoted [] (0x87 ∷ 0x01 ∷ 0x01 ∷ []) (0x9D ∷ 0x01 ∷ 0x41 ∷ []) (0x9D ∷ 0x00 ∷ []) (0x41 ∷ []) [] []
+        (record { tag = 0x87; value = 0x01 ∷ [] } ∷ []) refl refl refl refl refl refl refl refl;
+    first = refl;
+    second = refl;
+  };
+}
 
 -- ---- an application: a '00' byte, and an object that is not named, between the objects of A5
 

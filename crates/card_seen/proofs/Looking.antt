@@ -66,11 +66,11 @@ module _ (table : List (ℕ × Counts)) (name : ℕ) (l : listed name (tagsOf ta
       ∙ (rest ∙ sym (pick-no _ _ _ (other-name (m .tag) name (tagsOf table) l n))))
 
 -- how often a name stands there goes by the tags alone
-bump : ℕ → ℕ
+pub bump : ℕ → ℕ
 bump zero = 1
 bump (suc n) = 2
 
-met-bump : (v : List ℕ) (l : Lookup) → times (met v l) ≡ bump (times l)
+pub met-bump : (v : List ℕ) (l : Lookup) → times (met v l) ≡ bump (times l)
 unfolding times met bump
 met-bump v absent = refl
 met-bump v (once w) = refl

@@ -1,5 +1,5 @@
 -- What is noted of an object's members answers every question that is asked of them: what stands under a name that counts, and whether
--- one of the others is there.
+-- one of the others is there; and it does not depend on the values of these.
 -- Assumes nothing.
 use mathlib.Core.Path.{_≡_, refl, sym, ap, ap₂, _∙_}
 use mathlib.Core.Bool.{Bool, true, false, false≢true}
@@ -9,14 +9,14 @@ use lib.Dec.{eqb}
 use borrow.Author.Tests.{eqb-true, ne-eqb, eqb-false}
 use Rattle.slices.specs.Choice.{pick}
 use Rattle.slices.specs.Tables.{anyOf}
-use Rattle.slices.proofs.Choice.{pick-yes, pick-no, either}
+use Rattle.slices.proofs.Choice.{pick-yes, pick-no, pick-ap, either}
 use Rattle.tlv_list.specs.Objects.{Object}
 use Rattle.tlv_list.specs.Lookup.{Lookup, absent, once, twice, met, lookup}
 use Rattle.answer_common.specs.Named.{listed, named, times}
 use Rattle.answer_common.proofs.Alike.{listed-first, listed-also}
 use Rattle.answer_common.proofs.Names.{listed-more}
 use Rattle.card_seen.specs.Seen.{object, present, noted}
-use Rattle.card_seen.proofs.Looking.{lookup-named}
+use Rattle.card_seen.proofs.Looking.{bump, met-bump, lookup-named}
 
 -- ---- what is noted is noted of the named ones alone
 
@@ -157,3 +157,40 @@ module _ (name : ℕ) (ms : List Object) where
       ∙ either (eqb (times (lookup name ms)) 0)
       (λ y. none-there _ (none-noted others y) ∙ sym y)
       (λ f. one-noted others l f ∙ sym f)
+
+-- ---- an object that is only noted may have another value
+
+module _ (name : ℕ) (v u : List ℕ) (ys : List Object) where
+  as-often : (n : ℕ) (xs : List Object)
+      → times (lookup n (xs ++ (object name v ∷ ys))) ≡ times (lookup n (xs ++ (object name u ∷ ys)))
+  unfolding lookup
+  as-often n [] =
+      pick-ap times (eqb name n) (met v (lookup n ys)) (lookup n ys)
+      ∙ (ap (λ (k : ℕ). pick (eqb name n) k (times (lookup n ys))) (met-bump v (lookup n ys) ∙ sym (met-bump u (lookup n ys)))
+      ∙ sym (pick-ap times (eqb name n) (met u (lookup n ys)) (lookup n ys)))
+  as-often n (m ∷ xs) =
+      let l = lookup n (xs ++ (object name v ∷ ys)) in
+      let k = lookup n (xs ++ (object name u ∷ ys)) in
+      let rest = as-often n xs in
+      pick-ap times (eqb (m .tag) n) (met (m .value) l) l
+      ∙ (ap₂ (pick (eqb (m .tag) n)) (met-bump (m .value) l ∙ (ap bump rest ∙ sym (met-bump (m .value) k))) rest
+      ∙ sym (pick-ap times (eqb (m .tag) n) (met (m .value) k) k))
+
+  same-present : (ns : List ℕ) (xs : List Object)
+      → present ns (xs ++ (object name v ∷ ys)) ≡ present ns (xs ++ (object name u ∷ ys))
+  unfolding present
+  same-present [] xs = refl
+  same-present (n ∷ ns) xs =
+      ap₂ (λ (k : ℕ) (os : List Object). pick (eqb k 0) os (object n [] ∷ os)) (as-often n xs) (same-present ns xs)
+
+  same-named : (names : List ℕ) → listed name names ≡ false → (xs : List Object)
+      → named names (xs ++ (object name v ∷ ys)) ≡ named names (xs ++ (object name u ∷ ys))
+  unfolding named
+  same-named names n [] = pick-no _ _ _ n ∙ sym (pick-no _ _ _ n)
+  same-named names n (m ∷ xs) =
+      ap (λ (os : List Object). pick (listed (m .tag) names) (m ∷ os) os) (same-named names n xs)
+
+  pub noted-otherwise : (names others : List ℕ) → listed name names ≡ false → (xs : List Object)
+      → noted names others (xs ++ (object name v ∷ ys)) ≡ noted names others (xs ++ (object name u ∷ ys))
+  unfolding noted
+  noted-otherwise names others n xs = ap₂ (λ (x y : List Object). x ++ y) (same-named names n xs) (same-present others xs)

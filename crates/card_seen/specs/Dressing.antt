@@ -46,6 +46,11 @@ pub data Unseen : List (ℕ × Counts) → List ℕ → List ℕ → Type 0 wher
       → beside whole tag table ≡ noting names others → objects x ≡ some xs → objects y ≡ some ys
       → Unseen (wholly (names ++ others)) c d
       → objects o ≡ some (object tag (x ++ (c ++ y)) ∷ []) → objects p ≡ some (object tag (x ++ (d ++ y)) ∷ []) → Unseen table o p
+  -- such an object with another value of one of which it counts whether it is there (9D)
+  revalued : {table : List (ℕ × Counts)} {o p : List ℕ} (tag name : ℕ) (names others x y c d v u : List ℕ) (xs ys : List Object)
+      → beside whole tag table ≡ noting names others → listed name names ≡ false → objects x ≡ some xs → objects y ≡ some ys
+      → objects c ≡ some (object name v ∷ []) → objects d ≡ some (object name u ∷ [])
+      → objects o ≡ some (object tag (x ++ (c ++ y)) ∷ []) → objects p ≡ some (object tag (x ++ (d ++ y)) ∷ []) → Unseen table o p
 
 -- two runs of members that differ at one place between members, in bytes that may stand there instead of one another
 pub record Amid (table : List (ℕ × Counts)) (s t : List ℕ) : Type 0 where
