@@ -58,7 +58,7 @@ module _ (w : Asked) (buf : List ℕ) (room : length (commandOf w) ≤ length bu
       ∙ take-at (commandOf w) _ (length (commandOf w)) refl
 
 -- the buffer stays as long as it was
-laid-length : (c buf : List ℕ) → length (laid c 0 buf) ≡ length buf
+pub laid-length : (c buf : List ℕ) → length (laid c 0 buf) ≡ length buf
 laid-length c buf =
     either (leb (length c) (length buf))
     (λ y. let h = leb-true (length c) (length buf) y in ap length (laid-fits c 0 buf (omega arith)) ∙ put-length c 0 buf (omega arith))

@@ -1,0 +1,10 @@
+pub mod Carrying
+pub mod Seeing
+pub mod Finding
+pub mod Listing
+pub mod Stepping
+pub mod Words
+pub mod Commanding
+pub mod Telling
+pub mod Reaching
+pub mod Clearing

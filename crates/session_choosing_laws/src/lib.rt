@@ -1,0 +1,1 @@
+// How a session's state and the rules with choosing the application stand to one another: laws alone.
