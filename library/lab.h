@@ -22,6 +22,9 @@ uint8_t lab_book_enter(uint32_t used, uint32_t tape, uint8_t verdict, uint32_t p
 /* The verdict of a tape (1 PASS, 2 FAIL, 3 INCONCLUSIVE, 4 UNREADABLE), its place, its code, and the number of zeros. */
 void lab_judge(const uint8_t *tape, size_t tape_length, uint64_t finding[4]);
 
+/* The same numbers by the quick judge. */
+void lab_judge_quick(const uint8_t *tape, size_t tape_length, uint64_t finding[4]);
+
 /* What is due after the entries of a tape: its kind, and the number of its bytes, which stand at the start of `out`, or of
    what is wanted. Kind 0: nothing is due; 255: its bytes do not fit; 254: the tape is unreadable, beside the code. */
 void lab_due(const uint8_t *tape, size_t tape_length, uint64_t next[2], uint8_t *out, size_t out_length);

@@ -50,6 +50,7 @@ class Lab:
             ctypes.c_size_t
         )
         self.declare("lab_judge", None, ctypes.c_void_p, ctypes.c_size_t, ctypes.c_void_p)
+        self.declare("lab_judge_quick", None, ctypes.c_void_p, ctypes.c_size_t, ctypes.c_void_p)
         self.declare("lab_due", None, ctypes.c_void_p, ctypes.c_size_t, ctypes.c_void_p, ctypes.c_void_p, ctypes.c_size_t)
         self.declare("lab_atr", ctypes.c_bool, ctypes.c_void_p, ctypes.c_size_t, ctypes.c_bool, ctypes.c_void_p)
         self.declare(
@@ -88,6 +89,10 @@ class Lab:
     def lab_judge(self, tape, finding):
         """The verdict of a tape (1 PASS, 2 FAIL, 3 INCONCLUSIVE, 4 UNREADABLE), its place, its code, and the number of zeros."""
         return self.linked.lab_judge(*read(tape), numbers(finding, 4))
+
+    def lab_judge_quick(self, tape, finding):
+        """The same numbers by the quick judge."""
+        return self.linked.lab_judge_quick(*read(tape), numbers(finding, 4))
 
     def lab_due(self, tape, next, out):
         """What is due after the entries of a tape: its kind, and the number of its bytes, which stand at the start of `out`, or of

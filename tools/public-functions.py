@@ -25,6 +25,7 @@ OTHERWISE = {
     "quick_judge judge": "`quick-plain` in `crates/quick_judge/proofs/Same.antt`: no tape has two findings",
     "judge judge": "`judged-once` in `crates/verdict_judged/proofs/Once.antt`: no tape has two answers",
     "lab due::lab_judge": "`found-once` in `crates/lab/proofs/Once.antt`: no tape has two findings",
+    "lab due::lab_judge_quick": "`found-once` in `crates/lab/proofs/Once.antt`: no tape has two findings",
 }
 
 # Those that fit more than one answer: docs/EXCEPTIONS.md names each and says why.

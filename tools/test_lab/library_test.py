@@ -66,6 +66,9 @@ class Made(Trial):
     def judged(self, tape):
         finding = (ctypes.c_uint64 * 4)()
         self.lab.lab_judge(tape, finding)
+        plain = tuple(finding)
+        self.lab.lab_judge_quick(tape, finding)
+        self.assertEqual(tuple(finding), plain, "the quick judge finds otherwise")
         return f"{WORDS[finding[0]]} {finding[1]} {finding[2]} {finding[3]}"
 
     def due(self, tape, room=600):
@@ -80,7 +83,7 @@ class Declarations(Trial):
 
     def test_they_are_as_the_sources_are(self):
         done = self.headers("--check")
-        self.assertEqual((done.returncode, done.stdout), (0, "7 functions; the files are as the sources are\n"), done)
+        self.assertEqual((done.returncode, done.stdout), (0, "8 functions; the files are as the sources are\n"), done)
         for name in ("lab.h", "lab.rs", "lab.py"):
             self.assertIn("x86-64 Linux alone", (LIBRARY / name).read_text()[:60])
 

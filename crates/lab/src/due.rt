@@ -7,30 +7,44 @@ use judge_due::due;
 use tape_feed::found;
 use tape_read::BLOCK;
 use tape_read::block_at;
+use verdict::Finding;
 ghost use mathlib.Core.Path.{_≡_};
 ghost use Rattle.tape_read.specs.Tapes.{readTape};
 ghost use Rattle.tape_feed.specs.Feeding.{piecesOf};
 ghost use Rattle.judge.specs.Feeding.{begun, fedAll};
-ghost use Rattle.lab.specs.Findings.{FoundOf};
+ghost use Rattle.lab.specs.Findings.{FoundOf, laidFinding};
 ghost use Rattle.lab.specs.Due.{dueOn};
 
 // The kind of no entry: the tape is unreadable, and nothing can stand next.
 const NO_TAPE: u64 = 254;
+
+fn laid(f: Finding) -> [u64; 4]
+    ensures { λ r. ⌜ r ≡ laidFinding f ⌝ }
+{
+    let ruling = f.ruling;
+    let verdict = ruling.verdict;
+    [
+        verdict_number(verdict) as u64,
+        ruling.place as u64,
+        ruling.code as u64,
+        f.zeros as u64,
+    ]
+}
 
 // The verdict of a tape (1 PASS, 2 FAIL, 3 INCONCLUSIVE, 4 UNREADABLE), its place, its code, and the number of zeros.
 #[no_mangle]
 pub extern "C" fn lab_judge(tape: &[u8], finding: &mut [u64; 4])
     ensures { λ _. ⌜ FoundOf (now (tape .entry)) (now (finding .exit)) ⌝ }
 {
-    let f = judge(tape);
-    let ruling = f.ruling;
-    let verdict = ruling.verdict;
-    *finding = [
-        verdict_number(verdict) as u64,
-        ruling.place as u64,
-        ruling.code as u64,
-        f.zeros as u64,
-    ];
+    *finding = laid(judge(tape));
+}
+
+// The same numbers by the quick judge.
+#[no_mangle]
+pub extern "C" fn lab_judge_quick(tape: &[u8], finding: &mut [u64; 4])
+    ensures { λ _. ⌜ FoundOf (now (tape .entry)) (now (finding .exit)) ⌝ }
+{
+    *finding = laid(quick_judge::judge(tape));
 }
 
 // What is due after the entries of a tape: its kind, and the number of its bytes, which stand at the start of `out`, or of what is wanted.
