@@ -3,6 +3,9 @@
 use peer::{Finding, Verdict};
 use rules::judge;
 
+#[cfg(feature = "proved")]
+mod proved;
+
 pub type Judge = fn(&[u8]) -> Finding;
 
 /// The reference's judge, in the terms of the peers.
@@ -25,5 +28,7 @@ pub fn judges() -> Vec<(&'static str, Judge)> {
         ("alike", peer::alike::judge),
     ];
     all.extend(peer::hardware::judge().map(|judge| ("hardware", judge)));
+    #[cfg(feature = "proved")]
+    all.extend(proved::judges());
     all
 }
