@@ -1,3 +1,4 @@
+mod Lengths
 pub mod InRows
 pub mod Passing
 pub mod Turns

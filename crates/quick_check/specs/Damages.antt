@@ -1,11 +1,14 @@
 -- What makes a tape unreadable: what `readTape` says of it, as place and code (01, "The tape"). And the same of each of many tapes that
 -- stand one behind the other (02, R-14). Assumes nothing.
 use mathlib.Core.List.{List, [], _∷_, map}
-use Prim.Native.Nat.{ℕ, _-_}
-use lib.Dec.{ltb}
+use mathlib.Core.Bool.{not}
+use Prim.Native.Nat.{ℕ, _-_, _/_, _%_}
+use lib.Dec.{ltb, eqb}
 use lib.ListN.{length, take, drop}
 use lib.Seq.{sets}
 use Rattle.slices.specs.Choice.{pick}
+use Rattle.numbers.specs.Tables.{codeLong, codeTorn}
+use Rattle.tape_read.specs.Entries.{blockSize, tapeMost}
 use Rattle.tape_read.specs.Tapes.{Reading, entries, unreadable, readTape}
 use Rattle.tape_feed.specs.declared.Damage.{Damage}
 use Rattle.tape_feed.specs.Feeding.{damaged}
@@ -17,6 +20,12 @@ damageSaid (unreadable place code) = damaged place code
 
 unfoldable pub damageIn : List ℕ → Damage
 damageIn t = damageSaid (readTape t)
+
+-- what its length alone makes of it (01, codes 1 and 2); code 0 where its blocks decide
+unfoldable pub lengthDamage : List ℕ → Damage
+lengthDamage t =
+    pick (ltb tapeMost (length t)) (damaged 0 codeLong)
+    (pick (not (eqb (length t % blockSize) 0)) (damaged (length t / blockSize) codeTorn) (damaged 0 0))
 
 -- ---- many tapes
 

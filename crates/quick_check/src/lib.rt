@@ -18,13 +18,17 @@ ghost use mathlib.Core.Path.{_≡_};
 ghost use lib.ListN.{set};
 ghost use Rattle.tape_read.specs.Tapes.{readFrom};
 ghost use Rattle.tape_feed.specs.Feeding.{damaged};
-ghost use Rattle.quick_check.specs.Damages.{damageSaid, damageIn, endOf, placesTold, codesTold};
+ghost use Rattle.quick_check.specs.Damages.{damageSaid, damageIn, lengthDamage, endOf, placesTold, codesTold};
 ghost use Rattle.quick_check.specs.Tables.{Rows, Behind};
 
-// The damage of one tape: of the only one there is.
+// The damage of one tape: of the only one there is. Its length is looked at before anything is laid out.
 pub fn damage(tape: &[u8]) -> Damage
     ensures { λ r. ⌜ r ≡ damageIn (now (tape .entry)) ⌝ }
 {
+    let why = of_length(tape);
+    if why.code != 0 {
+        return why;
+    }
     let ends = [tape.len()];
     let mut places = [0usize; 1];
     let mut codes = [0usize; 1];
@@ -96,15 +100,26 @@ fn at(place: usize, code: usize) -> Damage
     Damage { place, code }
 }
 
-fn of_tape(tape: &[u8], rows: &[u32; 2048], behind: &[u32; 512]) -> Damage
-    requires { ⌜ Rows (now rows) × Behind (now behind) ⌝ }
-    ensures { λ r. ⌜ r ≡ damageIn (now (tape .entry)) ⌝ }
+// What a tape's length speaks against: code 1 or 2; code 0 where its blocks decide.
+fn of_length(tape: &[u8]) -> Damage
+    ensures { λ r. ⌜ r ≡ lengthDamage (now (tape .entry)) ⌝ }
 {
     if TAPE < tape.len() {
         return at(0, CODE_LONG);
     }
     if tape.len() % BLOCK != 0 {
         return at(tape.len() / BLOCK, CODE_TORN);
+    }
+    at(0, 0)
+}
+
+fn of_tape(tape: &[u8], rows: &[u32; 2048], behind: &[u32; 512]) -> Damage
+    requires { ⌜ Rows (now rows) × Behind (now behind) ⌝ }
+    ensures { λ r. ⌜ r ≡ damageIn (now (tape .entry)) ⌝ }
+{
+    let why = of_length(tape);
+    if why.code != 0 {
+        return why;
     }
     first_bad(tape, session(block_at(tape, 0)), rows, behind)
 }
