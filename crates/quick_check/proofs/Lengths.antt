@@ -8,7 +8,6 @@ use native.Mathlib.Omega.{arith}
 use lib.Dec.{ltb, eqb}
 use lib.ListN.{length}
 use Rattle.slices.proofs.Choice.{pick-yes, pick-no, either}
-use Rattle.numbers.specs.Tables.{codeLong, codeTorn}
 use Rattle.tape_read.specs.Entries.{blockSize, tapeMost}
 use Rattle.tape_read.specs.Tapes.{readFrom, sessionOf, readTape}
 use Rattle.tape_feed.specs.declared.Damage.{Damage}

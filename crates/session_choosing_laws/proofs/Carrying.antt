@@ -12,7 +12,7 @@ use Rattle.rulebook.specs.Situation.{Situation}
 use Rattle.rulebook.specs.Phase.{Asked, Heard, Phase, asks, hears, decides, tvrOf, tsiOf}
 use Rattle.rulebook.specs.Machine as today
 use Rattle.rulebook_zeros.specs.Zeros.{unsuppliedIn}
-use Rattle.verdict_editions.specs.Later.{AskedLater, HeardLater, asWas, commandLater, kindLater}
+use Rattle.rulebook.specs.Later.{AskedLater, HeardLater, asWas, commandLater, kindLater}
 use Rattle.rulebook_choosing.specs.Session.{rules}
 use Rattle.session_state.specs.declared.State.{State}
 use Rattle.session_moves.specs.Moves.{Moved, keptAs, replyIn, bufferIn}

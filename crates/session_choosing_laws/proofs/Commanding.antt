@@ -22,7 +22,7 @@ use Rattle.select_search.specs.declared.Step.the-variants.{Environment, Directo
 use Rattle.select_laws.specs.Cut.{roomNow}
 use Rattle.select_commands.proofs.Rooms.{listed-most, kept-most}
 use Rattle.sessions.specs.Rules.{asks, hears, decides}
-use Rattle.verdict_editions.specs.Later.{AskedLater, commandLater}
+use Rattle.rulebook.specs.Later.{AskedLater, commandLater}
 use Rattle.rulebook_choosing.specs.Choosing.{Choosing, ChoosingPhase}
 use Rattle.rulebook_choosing.specs.Session.{rules}
 use Rattle.session_phase.specs.declared.Reply.the-variants.{Command}

@@ -22,7 +22,7 @@ use Rattle.select_laws.specs.Follows as Behind
 use Rattle.sessions.specs.Rules.{asks, hears, decides}
 use Rattle.sessions.specs.Machine.{at, next}
 use Rattle.rulebook.specs.Phase.{Phase, optioning, situationOf, tvrOf, tsiOf}
-use Rattle.verdict_editions.specs.Later.{AskedLater, HeardLater, asWas, commandLater, kindLater}
+use Rattle.rulebook.specs.Later.{AskedLater, HeardLater, asWas, commandLater, kindLater}
 use Rattle.rulebook_choosing.specs.Choosing.{further, following}
 use Rattle.rulebook_choosing.specs.Session.{rules}
 use Rattle.session_phase.specs.declared.Speaker.the-variants.{Shopper}

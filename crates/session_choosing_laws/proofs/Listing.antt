@@ -21,7 +21,7 @@ use Rattle.select_search.specs.Search as search
 use Rattle.sessions.specs.Rules.{asks}
 use Rattle.sessions.specs.Machine.{at, next}
 use Rattle.rulebook.specs.Situation.{begun}
-use Rattle.verdict_editions.specs.Later.{AskedLater, commandLater}
+use Rattle.rulebook.specs.Later.{AskedLater, commandLater}
 use Rattle.rulebook_choosing.specs.Choosing.{listed}
 use Rattle.rulebook_choosing.specs.Session.{rules}
 use Rattle.session_records.proofs.There.{fixed-all}

@@ -16,7 +16,7 @@ use Rattle.sessions.proofs.Running.{takes-command, run-session}
 use Rattle.sessions.proofs.States.{state-next}
 use Rattle.sessions.proofs.Leading.{at-leads, owes-leads, decided-leads}
 use Rattle.rulebook.specs.Phase.{terminal, says}
-use Rattle.verdict_editions.specs.Later.{AskedLater, HeardLater}
+use Rattle.rulebook.specs.Later.{AskedLater, HeardLater}
 use Rattle.rulebook_choosing.specs.Choosing.{Choosing, ChoosingPhase}
 use Rattle.rulebook_choosing.specs.Session.{rules, Session}
 use Rattle.rulebook_choosing.proofs.Kept.{kept}

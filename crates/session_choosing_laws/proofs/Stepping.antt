@@ -38,7 +38,7 @@ use Rattle.sessions.proofs.Running.{takes-command, takes-answer, takes-heard, t
 use Rattle.sessions.proofs.Reading.{run-append}
 use Rattle.rulebook.specs.Phase.{terminal, says, dueKind}
 use Rattle.rulebook.specs.Turn.{turn, allowed, after}
-use Rattle.verdict_editions.specs.Later.{AskedLater, HeardLater, asWas, turnLater, allowedLater, afterLater, kindLater}
+use Rattle.rulebook.specs.Later.{AskedLater, HeardLater, asWas, turnLater, allowedLater, afterLater, kindLater}
 use Rattle.rulebook_choosing.specs.Choosing.{Choosing, ChoosingPhase, further, following, searched, mayChoose, chose, listed}
 use Rattle.rulebook_choosing.specs.Session.{rules}
 use Rattle.session_phase.specs.Waiting.{isDecided}

@@ -7,7 +7,7 @@ use Rattle.select_list.specs.Order.{Candidate}
 use Rattle.sessions.specs.Rules.{asks, hears, decides}
 use Rattle.rulebook.specs.Situation.{Situation}
 use Rattle.rulebook.specs.Phase.{Asked}
-use Rattle.verdict_editions.specs.Later.{AskedLater, HeardLater}
+use Rattle.rulebook.specs.Later.{AskedLater, HeardLater}
 use Rattle.rulebook_choosing.specs.Choosing.{Choosing, ChoosingPhase}
 use Rattle.session_phase.specs.declared.Question.{Question}
 use Rattle.session_phase.specs.declared.Speaker.{Speaker}

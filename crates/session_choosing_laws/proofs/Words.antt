@@ -19,7 +19,7 @@ use Rattle.sessions.specs.Rules.{decides}
 use Rattle.rulebook.specs.Situation.{Situation}
 use Rattle.rulebook.specs.Phase.{terminal, says}
 use Rattle.rulebook.specs.Turn.{allowed}
-use Rattle.verdict_editions.specs.Later.{HeardLater, kindLater, allowedLater}
+use Rattle.rulebook.specs.Later.{HeardLater, kindLater, allowedLater}
 use Rattle.rulebook_choosing.specs.Choosing.{Choosing, mayChoose}
 use Rattle.rulebook_choosing.specs.Session.{rules}
 use Rattle.session_phase.specs.Waiting.{kindOf}

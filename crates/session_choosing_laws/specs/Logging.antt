@@ -14,7 +14,7 @@ use Rattle.sessions.specs.Rules.{asks, hears, decides}
 use Rattle.sessions.specs.Session.{LeadsTo}
 use Rattle.sessions.specs.Machine.{at, owes, done, next, run}
 use Rattle.rulebook_zeros.specs.Zeros.{unsuppliedIn}
-use Rattle.verdict_editions.specs.Later.{AskedLater}
+use Rattle.rulebook.specs.Later.{AskedLater}
 use Rattle.rulebook_choosing.specs.Choosing.{ChoosingPhase}
 use Rattle.rulebook_choosing.specs.Session.{rules}
 use Rattle.session_phase.specs.declared.Reply.{Reply}
