@@ -19,8 +19,10 @@ use Rattle.session_moves.specs.Moves.{Moved, keptAs, replyIn, bufferIn}
 use Rattle.session_laws.specs.Agreeing as Today
 use Rattle.session_laws.specs.Logging as TodayLog
 use Rattle.session_choosing.specs.Moves.{beside}
-use Rattle.session_choosing_laws.specs.Agreeing.{Machine, speakerLater, keptLater, tvrLater, tsiLater, Knows, StandsAt}
-use Rattle.session_choosing_laws.specs.Logging.{replyLater, bufferLater, unsuppliedLater, Follows}
+use Rattle.rulebook_choosing.specs.Machine.{Machine}
+use Rattle.session_choosing_laws.specs.Agreeing.{speakerLater, keptLater, tvrLater, tsiLater, Knows, StandsAt}
+use Rattle.choosing_zeros.proofs.Counting.{was-counted}
+use Rattle.session_choosing_laws.specs.Logging.{replyLater, bufferLater, Follows}
 
 module _ (s : State) (l : List Candidate) where
   pub was-stands : (p : Phase) → Today.StandsAt s p → StandsAt s l (asWas p)
@@ -54,12 +56,6 @@ buffer-was (asks w) buf = refl
 buffer-was (hears x) buf = refl
 buffer-was (decides outcome reason z) buf = refl
 
-zeros-was : (p : Phase) → unsuppliedIn p ≡ unsuppliedLater (asWas p)
-unfolding unsuppliedIn unsuppliedLater asWas
-zeros-was (asks w) = refl
-zeros-was (hears x) = refl
-zeros-was (decides outcome reason z) = refl
-
 -- a step of today's, with a list beside it
 module _ (σ : Machine) (e : Entry) (p : Phase) (buf : List ℕ) (m : Moved) (l : List Candidate) where
   pub was-follows : next rules σ e ≡ some (at (asWas p)) → Today.StandsAt (m .state) p → m .reply ≡ replyIn (length buf) p
@@ -71,7 +67,7 @@ module _ (σ : Machine) (e : Entry) (p : Phase) (buf : List ℕ) (m : Moved) (l 
         stands = was-stands (m .state) l p h;
         reply = r ∙ reply-was (length buf) p;
         buffer = b ∙ buffer-was p buf;
-        zeros = z ∙ zeros-was p;
+        zeros = z ∙ sym (was-counted p);
       }
 
   pub carried : (τ : today.Machine) (d : Entry) → next rules σ e ≡ some (at (asWas p)) → TodayLog.Follows τ d p buf m

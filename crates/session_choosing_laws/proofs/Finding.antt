@@ -36,8 +36,10 @@ use Rattle.session_laws.specs.Agreeing as Today
 use Rattle.session_laws.proofs.Fitting.{Fits, fits-stands}
 use Rattle.session_choosing.specs.Moves.{beside, waitsAt, asking, offering, movedLater}
 use Rattle.session_choosing.specs.Events.{choosingIn}
-use Rattle.session_choosing_laws.specs.Agreeing.{Machine, speakerLater, keptLater, tvrLater, tsiLater, Knows}
-use Rattle.session_choosing_laws.specs.Logging.{replyLater, bufferLater, unsuppliedLater, Follows}
+use Rattle.rulebook_choosing.specs.Machine.{Machine}
+use Rattle.session_choosing_laws.specs.Agreeing.{speakerLater, keptLater, tvrLater, tsiLater, Knows}
+use Rattle.choosing_zeros.specs.Zeros.{unsuppliedAskingLater, unsuppliedLater}
+use Rattle.session_choosing_laws.specs.Logging.{replyLater, bufferLater, Follows}
 use Rattle.session_choosing_laws.proofs.Carrying.{was-follows}
 use Rattle.session_choosing_laws.proofs.Seeing.{command-seen, shown-seen}
 
@@ -67,7 +69,7 @@ module _ (s : State) (l left : List Candidate) (buf : List ℕ) (σ : Machine) (
       → Follows σ e (asks (AskedLater.new (further z (choosingIn s l)))) buf
       (movedLater (asks (AskedLater.new (further z′ (choosingIn s l)))) s left buf)
   unfolding movedLater beside asking waitsAt asked further choosingIn keptLater tvrLater tsiLater Knows replyLater bufferLater
-      unsuppliedLater commandLater withStand changed early situationWith
+      unsuppliedLater unsuppliedAskingLater commandLater withStand changed early situationWith
   asks-follows z z′ same few among n =
       let t = applicationsIn (s .listing) in
       let stand = same-stand z z′ roomNow same in
@@ -95,7 +97,7 @@ module _ (s : State) (l left : List Candidate) (buf : List ℕ) (σ : Machine) (
       → Follows σ e (hears (HeardLater.new (further z (choosingIn s l)))) buf
       (movedLater (hears (HeardLater.new (further z′ (choosingIn s l)))) s left buf)
   unfolding movedLater beside offering waitsAt further choosingIn keptLater speakerLater tvrLater tsiLater Knows replyLater bufferLater
-      unsuppliedLater kindLater withStand changed early situationWith
+      unsuppliedLater unsuppliedAskingLater kindLater withStand changed early situationWith
   shows-follows z z′ same few n =
       let lists = lists-next z z′ same in
       record {

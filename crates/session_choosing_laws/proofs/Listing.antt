@@ -30,8 +30,10 @@ use Rattle.session_state.specs.Keeping.{withStand, changed, stateAt, begunListi
 use Rattle.session_state.proofs.Telling.{nothing-told}
 use Rattle.session_choosing.specs.Moves.{beside, waitsAt, asking, movedLater}
 use Rattle.session_choosing.specs.Events.{begins}
-use Rattle.session_choosing_laws.specs.Agreeing.{Machine, keptLater, tvrLater, tsiLater, Knows}
-use Rattle.session_choosing_laws.specs.Logging.{replyLater, bufferLater, unsuppliedLater, Follows}
+use Rattle.rulebook_choosing.specs.Machine.{Machine}
+use Rattle.session_choosing_laws.specs.Agreeing.{keptLater, tvrLater, tsiLater, Knows}
+use Rattle.choosing_zeros.specs.Zeros.{unsuppliedAskingLater, unsuppliedLater}
+use Rattle.session_choosing_laws.specs.Logging.{replyLater, bufferLater, Follows}
 
 module _ (p : List ℕ) (y : isListing p ≡ true) where
   size : length p ≡ listingLength
@@ -61,7 +63,7 @@ module _ (p : List ℕ) (y : isListing p ≡ true) where
   pub listing-follows : (buf : List ℕ) (σ : Machine) (e : Entry) → next rules σ e ≡ some (at (asks (AskedLater.new (listed p))))
       → Follows σ e (asks (AskedLater.new (listed p))) buf (begins p buf)
   unfolding begins movedLater beside asking waitsAt listed search.begun search.asked search.commandAt keptLater tvrLater tsiLater Knows
-      replyLater bufferLater unsuppliedLater commandLater withStand changed begunListing stateAt early situationWith begun
+      replyLater bufferLater unsuppliedLater unsuppliedAskingLater commandLater withStand changed begunListing stateAt early situationWith begun
   listing-follows buf σ e n =
       record {
         taken = n;

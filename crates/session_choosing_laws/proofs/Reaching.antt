@@ -29,7 +29,8 @@ use Rattle.session_state.specs.declared.State.{State}
 use Rattle.session_moves.specs.Moves.{speakerOf}
 use Rattle.session_laws.specs.Bits.{Even}
 use Rattle.session_choosing.specs.Moves.{MovedLater}
-use Rattle.session_choosing_laws.specs.Agreeing.{Machine, speakerLater, tvrLater, tsiLater, StandsAt}
+use Rattle.rulebook_choosing.specs.Machine.{Machine}
+use Rattle.session_choosing_laws.specs.Agreeing.{speakerLater, tvrLater, tsiLater, StandsAt}
 use Rattle.session_choosing_laws.specs.Logging.{logged, landing, Follows, Reached}
 use Rattle.session_choosing_laws.proofs.Stepping.{run-on, fresh-stands}
 use Rattle.session_choosing_laws.proofs.Telling.{searching-at, asked-at, heard-at, decided-at, closed-never}

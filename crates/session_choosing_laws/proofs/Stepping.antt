@@ -50,7 +50,8 @@ use Rattle.session_events.specs.Events.{step}
 use Rattle.session_laws.proofs.Stepping as today
 use Rattle.session_choosing.specs.Moves.{movedLater}
 use Rattle.session_choosing.specs.Events.{choosingIn, startLater, wordLater, laterAt, stepLater}
-use Rattle.session_choosing_laws.specs.Agreeing.{Machine, speakerLater, keptLater, Alike, Knows, StandsAt, Agrees}
+use Rattle.rulebook_choosing.specs.Machine.{Machine}
+use Rattle.session_choosing_laws.specs.Agreeing.{speakerLater, keptLater, Alike, Knows, StandsAt, Agrees}
 use Rattle.session_choosing_laws.specs.Logging.{logged, landing, Follows}
 use Rattle.session_choosing_laws.proofs.Carrying.{was-stands, asks-before, hears-before, carried}
 use Rattle.session_choosing_laws.proofs.Finding.{found-follows}

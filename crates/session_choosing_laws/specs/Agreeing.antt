@@ -11,12 +11,10 @@ use Rattle.select_list.specs.Order.{Candidate, shownOf}
 use Rattle.select_search.specs.Search.{mostExchanges}
 use Rattle.select_laws.specs.Cut.{roomNow, roomNext, AmongShown}
 use Rattle.sessions.specs.Rules.{asks, hears, decides}
-use Rattle.sessions.specs.Machine as Under
-use Rattle.sessions.specs.Machine.{at, owes, done}
-use Rattle.rulebook.specs.Situation.{Situation}
 use Rattle.rulebook.specs.Phase.{tvrOf, tsiOf}
 use Rattle.rulebook.specs.Later.{AskedLater, HeardLater}
 use Rattle.rulebook_choosing.specs.Choosing.{Choosing, ChoosingPhase}
+use Rattle.rulebook_choosing.specs.Machine.{Machine, at, owes, done}
 use Rattle.session_phase.specs.Waiting.{isDecided}
 use Rattle.session_phase.specs.declared.Speaker.{Speaker}
 use Rattle.session_phase.specs.declared.Speaker.the-variants.{Shopper}
@@ -26,9 +24,6 @@ use Rattle.session_state.specs.Reading.{early}
 use Rattle.session_state.specs.declared.State.{State}
 use Rattle.session_moves.specs.Moves.{questionOf, speakerOf}
 use Rattle.session_laws.specs.Agreeing as Today
-
-abbrev pub Machine : Type 0
-Machine = Under.Machine (AskedLater Choosing) (HeardLater Choosing) Situation
 
 -- whose word is due, and what a state keeps of a phase
 unfoldable pub speakerLater : HeardLater Choosing → Speaker

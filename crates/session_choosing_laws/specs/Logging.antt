@@ -13,15 +13,15 @@ use Rattle.select_list.specs.Order.{Candidate}
 use Rattle.sessions.specs.Rules.{asks, hears, decides}
 use Rattle.sessions.specs.Session.{LeadsTo}
 use Rattle.sessions.specs.Machine.{at, owes, done, next, run}
-use Rattle.rulebook_zeros.specs.Zeros.{unsuppliedIn}
-use Rattle.rulebook.specs.Later.{AskedLater}
 use Rattle.rulebook_choosing.specs.Choosing.{ChoosingPhase}
 use Rattle.rulebook_choosing.specs.Session.{rules}
+use Rattle.rulebook_choosing.specs.Machine.{Machine}
+use Rattle.choosing_zeros.specs.Zeros.{unsuppliedLater}
 use Rattle.session_phase.specs.declared.Reply.{Reply}
 use Rattle.session_phase.specs.declared.Reply.the-variants.{Command, Due, Decided as DecidedReply}
 use Rattle.session_state.specs.declared.State.{State}
 use Rattle.session_choosing.specs.Moves.{MovedLater}
-use Rattle.session_choosing_laws.specs.Agreeing.{Machine, StandsAt}
+use Rattle.session_choosing_laws.specs.Agreeing.{StandsAt}
 
 -- the command or the decision that is due
 unfoldable pub logged : ChoosingPhase → List Entry
@@ -44,13 +44,6 @@ unfoldable pub bufferLater : ChoosingPhase → List ℕ → List ℕ
 bufferLater (asks w) buf = laid (rules .commandOf w) 0 buf
 bufferLater (hears h) buf = buf
 bufferLater (decides outcome reason z) buf = buf
-
--- the entries filled with zeros in the command that is due: a selection's own have no list (02, R-6 and R-12)
-unfoldable pub unsuppliedLater : ChoosingPhase → ℕ
-unsuppliedLater (asks (AskedLater.was w)) = unsuppliedIn (asks w)
-unsuppliedLater (asks (AskedLater.new x)) = 0
-unsuppliedLater (hears h) = 0
-unsuppliedLater (decides outcome reason z) = 0
 
 -- an event takes the machine to a phase; the state and the list left behind stand there, and the reply, the buffer and what is added to the
 -- entries filled with zeros are the phase's
