@@ -7,11 +7,10 @@ use Prim.Native.Nat.{ℕ}
 use Rattle.answer_common.specs.Answer.{outerBad}
 use Rattle.select_search.specs.declared.Step.{Step}
 use Rattle.select_search.specs.declared.Step.the-variants.{Environment, Directory, Listed, Final}
-use Rattle.sessions.specs.Rules.{asks, hears, decides}
 use Rattle.rulebook.specs.Situation.{Situation}
 use Rattle.rulebook.specs.Later.{AskedLater, HeardLater}
-use Rattle.rulebook_zeros.specs.Zeros.{unsuppliedAsking}
-use Rattle.rulebook_choosing.specs.Choosing.{Choosing, ChoosingPhase}
+use Rattle.choosing_zeros.specs.Zeros.{unsuppliedLater}
+use Rattle.rulebook_choosing.specs.Choosing.{Choosing}
 use Rattle.rulebook_choosing.specs.Stated.{tvrIn, tsiIn}
 use Rattle.card_seen.specs.Seen.{Place, environment, directory, application, expectedAt}
 use Rattle.card_seen.specs.Given as today
@@ -29,15 +28,8 @@ unfoldable pub placeOf : AskedLater Choosing → Place
 placeOf (AskedLater.was w) = today.placeOf w
 placeOf (AskedLater.new x) = placeAt (x .search .stand .step)
 
--- the fourth number (02, R-6): no command of a search has a list to fill
-unfoldable pub unsuppliedIn : ChoosingPhase → ℕ
-unsuppliedIn (asks (AskedLater.was w)) = unsuppliedAsking w
-unsuppliedIn (asks (AskedLater.new x)) = 0
-unsuppliedIn (hears h) = 0
-unsuppliedIn (decides outcome reason s) = 0
-
 abbrev pub view : View (AskedLater Choosing) (HeardLater Choosing) Situation
-view = record { placeOf = placeOf; tvrOf = tvrIn; tsiOf = tsiIn; unsuppliedIn = unsuppliedIn }
+view = record { placeOf = placeOf; tvrOf = tvrIn; tsiOf = tsiIn; unsuppliedIn = unsuppliedLater }
 
 -- alike answers (02, R-13). While the application is chosen an answer that is not the one expected object leads on as well, and a record
 -- that is no 70 leads elsewhere than an empty 70: so the one object is itself a named one, and stands in both answers or in neither

@@ -1,6 +1,6 @@
 -- At a phase of today's rules everything is as it was: what a state knows, the reply, the buffer, and the entries filled with zeros.
 -- Assumes nothing.
-use mathlib.Core.Path.{_≡_, refl, _∙_}
+use mathlib.Core.Path.{_≡_, refl, sym, _∙_}
 use mathlib.Core.List.{List}
 use mathlib.Core.Option.{some}
 use Prim.Native.Nat.{ℕ}
