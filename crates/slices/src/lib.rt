@@ -1,4 +1,6 @@
 // Bytes in lent buffers: reads that are never out of range, and writes that never run past the end.
+#![tactic(auto)]
+
 ghost use Rattle.std.specs.Prelude.{◌≡◌, ◌<◌, length, get_or, take, drop, replicate};
 ghost use Rattle.slices.specs.Tests.{alike as alike_of};
 ghost use Rattle.slices.specs.Writing.{laid};
