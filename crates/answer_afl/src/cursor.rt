@@ -6,7 +6,7 @@ use crate::entries::records;
 use slices::byte;
 
 // A place among the records: which entry, from 0, and how many of its records are done.
-#[derive(Drop)]
+#[derive(Clone, Copy)]
 pub struct Cursor {
     pub entry: usize,
     pub done: usize,

@@ -6,7 +6,7 @@ use mathlib.Core.Bool.{Bool, true, false}
 use mathlib.Core.List.{List, ◌++◌}
 use Prim.Native.Nat.{ℕ, ◌≤◌}
 use lib.ListN.{length}
-use Rattle.slices.specs.Choice.{pick, first_of}
+use Rattle.slices.specs.Choice.{first_of}
 use Rattle.slices.proofs.Choice.{pick_yes, pick_no, either}
 use Rattle.tlv_head.specs.Head.{constructed}
 use Rattle.tlv_list.specs.Objects.{between, right_inside, objects, is_list}

@@ -2,7 +2,7 @@
 -- object, its value, or nothing in its stead, is a list again. Values have room for no more than the answer has bytes.
 -- Assumes nothing.
 use mathlib.Core.Path.{◌≡◌, refl, sym, ap, subst, fun_ext, ◌∙◌}
-use mathlib.Core.Bool.{true, false, false≢true}
+use mathlib.Core.Bool.{true, false≢true}
 use mathlib.Core.List.{List, [], ◌∷◌}
 use mathlib.Core.Option.{Option, none, some, get_or}
 use Prim.Native.Nat.{ℕ, ◌+◌, ◌-◌, ◌≤◌, ◌<◌}
@@ -52,7 +52,7 @@ pub data Held (n : ℕ) : List Object → Type 0 where
   and_then : {m : Object} {ms : List Object} → (constructed m.tag ≡ true → is_list m.value ≡ true) → length m.value + 2 ≤ n
       → Held n ms → Held n (m ∷ ms)
 
-wider : {ms : List Object} (n k : ℕ) → n ≤ k → Held n ms → Held k ms
+wider : (n k : ℕ) {ms : List Object} → n ≤ k → Held n ms → Held k ms
 wider n k h none_left = none_left
 wider n k h (and_then l s rest) = and_then l (omega arith) (wider n k h rest)
 

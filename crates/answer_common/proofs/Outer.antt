@@ -10,7 +10,7 @@ use native.Mathlib.Omega.{arith}
 use lib.Dec.{ltb}
 use lib.ListN.{length, drop, length-take}
 use borrow.Author.Tests.{ltb-false, le-ltb, not-true, not-false}
-use Rattle.slices.specs.Choice.{pick, first_of}
+use Rattle.slices.specs.Choice.{first_of}
 use Rattle.slices.proofs.Choice.{pick_yes, pick_no, picked, either}
 use Rattle.slices.specs.Tests.{is_some}
 use Rattle.tlv_list.specs.Objects.{Object, between, before, right_inside, objects, is_list, read_refusal}

@@ -18,7 +18,7 @@ pub const MOST: usize = 258;
 pub const VALUE_MOST: usize = MOST - 2 - 2 - 2;
 
 // What an answer is found to be: a reason, 1 to 3, or one object, which is not looked into.
-#[derive(Drop)]
+#[derive(Clone, Copy)]
 pub enum Single {
     Refused(usize),
     Object {

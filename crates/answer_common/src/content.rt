@@ -24,7 +24,7 @@ pub const NAMES: [usize; ALL_NAMES] = [
 pub const MANDATORY: [usize; 4] = [0x5A, 0x5F24, 0x8C, 0x8D];
 
 // How a value is cut or filled to the room that an object list gives it; what lists do not know is all zeros.
-#[derive(Drop)]
+#[derive(Clone, Copy)]
 pub enum Format {
     Numeric,
     CardNumber,
@@ -33,7 +33,7 @@ pub enum Format {
 }
 
 // The rules for values.
-#[derive(Drop)]
+#[derive(Clone, Copy)]
 pub enum Rule {
     // A number of bytes between two limits.
     Sizes(usize, usize),

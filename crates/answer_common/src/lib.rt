@@ -1,4 +1,6 @@
 // What every answer of the card is asked: its size, its status and its one object, and the named objects in that.
+#![tactic(auto)]
+
 pub mod answer;
 pub mod content;
 pub mod forms;

@@ -1,4 +1,6 @@
 // The answer to GENERATE AC.
+#![tactic(auto)]
+
 ghost use Rattle.std.specs.Prelude.{◌≡◌, not, [], ◌∷◌, ◌++◌, get_or};
 ghost use Rattle.slices.specs.Choice.{first_of};
 ghost use Rattle.slices.specs.Tables.{any_of};

@@ -1,4 +1,6 @@
 // The answer to GET PROCESSING OPTIONS.
+#![tactic(auto)]
+
 ghost use Rattle.std.specs.Prelude.{◌≡◌, ◌++◌};
 ghost use Rattle.slices.specs.Choice.{first_of};
 ghost use Rattle.answer_common.specs.Answer.{frame};

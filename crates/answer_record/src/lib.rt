@@ -1,4 +1,6 @@
 // The answer to READ RECORD, and what all records together must tell.
+#![tactic(auto)]
+
 ghost use Rattle.std.specs.Prelude.{◌≡◌, not, map};
 ghost use Rattle.slices.specs.Tests.{is_some};
 ghost use Rattle.slices.specs.Tables.{any_of};

@@ -1,7 +1,7 @@
 -- Of an answer that has no reason the list by place is the one that it asks for.
 -- Assumes nothing.
 use mathlib.Core.Path.{◌≡◌, sym, ap, ◌∙◌}
-use mathlib.Core.Bool.{true, false, false≢true}
+use mathlib.Core.Bool.{true, false≢true}
 use mathlib.Core.List.{List, [], ◌∷◌}
 use Prim.Native.Nat.{ℕ}
 use lib.Dec.{eqb}
@@ -11,7 +11,7 @@ use Rattle.tlv_list.specs.Lookup.{Lookup}
 use Rattle.start_fields.specs.Reading.{Terminal}
 use Rattle.answer_common.specs.Named.{listed, standing, direct, value_of}
 use Rattle.answer_common.proofs.Good.{Answered, answered, inside_by}
-use Rattle.answer_select.specs.Select.{select_tag, inner, pdol_of, pdol_in, pdol_read, select_lines, select_reason}
+use Rattle.answer_select.specs.Select.{select_tag, pdol_of, pdol_in, pdol_read, select_lines, select_reason}
 use Rattle.answer_select.proofs.Inside.{select_found, inner_found}
 
 the_only : (tag : ℕ) → listed tag (select_tag ∷ []) ≡ true → eqb tag select_tag ≡ true

@@ -1,4 +1,6 @@
 // Commands and answers, as T=0 and T=1 both have them (000, I-5.4).
+#![tactic(auto)]
+
 ghost use Rattle.std.specs.Prelude.{◌≡◌};
 ghost use Rattle.apdu.specs.Commands.{case_of, data_of, asked as asked_of};
 ghost use Rattle.apdu.specs.Answers.{is_status, is_warning, handed as handed_of};
@@ -11,7 +13,7 @@ pub const DATA_MOST: usize = 255;
 pub const ANSWER_MOST: usize = 4354;
 
 // The four cases of a command, 1 to 4 in their order, and none of them.
-#[derive(Drop)]
+#[derive(Clone, Copy)]
 pub enum Case {
     One,
     Two,

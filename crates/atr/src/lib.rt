@@ -9,7 +9,7 @@ use atr_sets::{first_rule, place_of};
 use slices::{byte, part};
 
 // The protocol in use, with its own parameters.
-#[derive(Drop)]
+#[derive(Clone, Copy)]
 pub enum Protocol {
     T0 { wi: usize },
     T1 { ifsc: usize, bwi: usize, cwi: usize },
@@ -17,7 +17,7 @@ pub enum Protocol {
 
 // What an answer tells: F and D, N, the least interval in etu, whether TA2 was there, the protocol, and where the historical
 // bytes start and end in the capture.
-#[derive(Drop)]
+#[derive(Clone, Copy)]
 pub struct Told {
     pub f: usize,
     pub d: usize,
@@ -30,21 +30,21 @@ pub struct Told {
 }
 
 // The rules broken, a bit for each and the lowest for rule 1; the first of them, and its place in the capture.
-#[derive(Drop)]
+#[derive(Clone, Copy)]
 pub struct Broken {
     pub rules: usize,
     pub first: usize,
     pub place: usize,
 }
 
-#[derive(Drop)]
+#[derive(Clone, Copy)]
 pub enum Reading {
     Accepted(Told),
     Refused(Broken),
 }
 
 // An answer to reset as it was captured: the convention by TS, and the reading.
-#[derive(Drop)]
+#[derive(Clone, Copy)]
 pub struct Reset {
     pub inverse: bool,
     pub reading: Reading,

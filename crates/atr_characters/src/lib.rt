@@ -1,4 +1,6 @@
 // The characters of an answer to reset: where each stands in the capture, and what it says.
+#![tactic(auto)]
+
 mod bytes;
 
 ghost use Rattle.std.specs.Prelude.{◌≡◌, ◌+◌, ◌<◌, ◌≤◌, ◌^◌, length};
@@ -14,7 +16,7 @@ pub const ABSENT: usize = 256;
 
 // One level: its characters, each ABSENT where it is not announced or not there; where each stands or would stand; and where
 // the next level starts.
-#[derive(Drop)]
+#[derive(Clone, Copy)]
 pub struct Level {
     pub ta: usize,
     pub tb: usize,
@@ -28,7 +30,7 @@ pub struct Level {
 }
 
 // All levels: what follows them, and whether one of their TD names a protocol other than T=0.
-#[derive(Drop)]
+#[derive(Clone, Copy)]
 pub struct Interface {
     pub next: usize,
     pub other: bool,
@@ -93,7 +95,7 @@ fn walk(capture: &[u8], inverse: bool) -> Interface
 
 // What the rules ask of a capture: how many bytes it has; the first three levels; where the historical bytes start and end;
 // whether a TCK is due; what follows all that is announced; and what T0 to TCK give by exclusive or.
-#[derive(Drop)]
+#[derive(Clone, Copy)]
 pub struct Located {
     pub size: usize,
     pub first: Level,

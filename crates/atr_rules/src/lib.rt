@@ -1,4 +1,6 @@
 // The rules of an answer to reset, as bits: the lowest for number 1, in the order of the characters.
+#![tactic(auto)]
+
 ghost use Rattle.std.specs.Prelude.{◌≡◌, ◌%◌, ◌^◌, ◌<◌};
 ghost use Rattle.atr_rules.specs.Lines.{first_lines, second_lines, third_lines, last_lines, lines_of, set_of};
 

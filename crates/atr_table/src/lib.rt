@@ -1,4 +1,6 @@
 // Line bytes turned to data bytes, for cards of the inverse convention.
+#![tactic(auto)]
+
 mod table;
 
 ghost use Rattle.std.specs.Prelude.{◌≡◌};

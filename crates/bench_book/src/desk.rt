@@ -14,14 +14,14 @@ pub const ROOM: usize = 2_101_760;
 const LONG: usize = 0x1_0000_0000;
 
 // The book's end, the bytes lent to it, and how many bytes have been put together.
-#[derive(Drop)]
+#[derive(Clone, Copy)]
 pub struct Desk {
     pub book: Book,
     pub room: usize,
     pub size: usize,
 }
 
-#[derive(Drop)]
+#[derive(Clone, Copy)]
 pub struct Numbers {
     pub a: usize,
     pub b: usize,
@@ -60,7 +60,7 @@ pub fn enter(d: Desk, n: Numbers, stored: &mut [u8; ROOM]) -> Desk {
     after.desk
 }
 
-#[derive(Drop)]
+#[derive(Clone, Copy)]
 struct After {
     desk: Desk,
     book: Book,

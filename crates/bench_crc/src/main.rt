@@ -1,6 +1,8 @@
 // The check of patterns of 0 to 600 bytes, one line for each: name, length, check. The file that expected.py makes with
 // another CRC-32 is what must come out.
-use libc::STDOUT_FILENO;
+#![tactic(auto)]
+
+use std::io;
 
 const LONGEST: usize = 600;
 
@@ -23,24 +25,25 @@ const BLOCK: u8 = 4;
 
 const CUT: u8 = 5;
 
-fn main() {
-    line(b"digits", 9, tape_crc::whole(b"123456789"));
-    all_lengths(b"zeros", ZEROS);
-    all_lengths(b"ones", ONES);
-    all_lengths(b"count", COUNT);
-    all_lengths(b"mixed", MIXED);
-    all_lengths(b"block", BLOCK);
-    all_lengths(b"cut", CUT);
+fn main(rt: HostRuntime) -> io::Result<()> {
+    line(&rt, b"digits", 9, tape_crc::whole(b"123456789"))?;
+    all_lengths(&rt, b"zeros", ZEROS)?;
+    all_lengths(&rt, b"ones", ONES)?;
+    all_lengths(&rt, b"count", COUNT)?;
+    all_lengths(&rt, b"mixed", MIXED)?;
+    all_lengths(&rt, b"block", BLOCK)?;
+    all_lengths(&rt, b"cut", CUT)
 }
 
-fn all_lengths(name: &[u8], run: u8) {
+fn all_lengths(rt: &impl Print, name: &[u8], run: u8) -> io::Result<()> {
     let mut buf = [0u8; LONGEST];
     fill(&mut buf, run);
     let mut n = 0;
     while n <= LONGEST {
-        line(name, n, check(run, &buf[..n]));
+        line(rt, name, n, check(run, &buf[..n]))?;
         n += 1;
     }
+    Ok(())
 }
 
 fn fill(buf: &mut [u8], run: u8) {
@@ -75,11 +78,7 @@ fn in_two_parts(s: &[u8]) -> u32 {
     tape_crc::running(r, &s[n..]) ^ START
 }
 
-fn line(name: &[u8], n: usize, check: u32) {
-    io::write_all(STDOUT_FILENO, name);
-    io::write_all(STDOUT_FILENO, b" ");
-    io::print_decimal(STDOUT_FILENO, n as u64);
-    io::write_all(STDOUT_FILENO, b" ");
-    io::print_hex(STDOUT_FILENO, check as u64, 8);
-    io::write_all(STDOUT_FILENO, b"\n");
+fn line(rt: &impl Print, name: &[u8], n: usize, check: u32) -> io::Result<()> {
+    rt.write_all(name)?;
+    println!(rt; " {n} {check:08x}")
 }

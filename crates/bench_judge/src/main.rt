@@ -6,7 +6,7 @@ use libc::{STDIN_FILENO, STDOUT_FILENO};
 use slices::{byte, part};
 use verdict_line::{LONGEST, line};
 
-#[derive(Drop)]
+#[derive(Clone, Copy)]
 enum Frame {
     Size(usize),
     End,

@@ -24,7 +24,7 @@ use verdict_line::{LONGEST as LINE, line as line_of};
 const NUMBER: u32 = 7;
 
 // A session, the writer of its tape, and the tape's file; whether there is a next line.
-#[derive(Drop)]
+#[derive(Clone, Copy)]
 struct Played {
     session: Session,
     writer: Writer,
@@ -175,7 +175,7 @@ fn last(text: &[u8]) -> bool {
 }
 
 // The next block of each: the same, and more may follow; the same, and the last; not the same.
-#[derive(Drop)]
+#[derive(Clone, Copy)]
 enum Held {
     Same,
     Ended,

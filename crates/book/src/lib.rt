@@ -1,4 +1,6 @@
 // The campaign book: what the judge said of each tape, entered one block after the other, and counted.
+#![tactic(auto)]
+
 ghost use Rattle.std.specs.Prelude.{◌≡◌, min};
 ghost use Rattle.book.specs.Counting.{empty, counted, raised, one_more, total_of};
 ghost use Rattle.book.specs.Entering.{entered, stored, reply_of, step_of, bytes_after};
@@ -11,7 +13,7 @@ use tape_read::{BLOCK, block_at};
 pub const ENTRIES: u32 = 4096;
 
 // The end of a book: how many of its blocks are used, and how many tapes were entered with each verdict.
-#[derive(Drop)]
+#[derive(Clone, Copy)]
 pub struct Book {
     pub used: u32,
     pub pass: u32,
@@ -21,7 +23,7 @@ pub struct Book {
 }
 
 // What becomes of an entry that is handed in: it is entered, or refused by one of three names.
-#[derive(Drop)]
+#[derive(Clone, Copy)]
 pub enum Reply {
     Entered,
     NoVerdict,
@@ -30,7 +32,7 @@ pub enum Reply {
 }
 
 // The end of the book afterwards, and the reply.
-#[derive(Drop)]
+#[derive(Clone, Copy)]
 pub struct Step {
     pub book: Book,
     pub reply: Reply,

@@ -1,4 +1,6 @@
 // One block of the campaign book: an entry as 512 bytes, and what any bytes hold.
+#![tactic(auto)]
+
 ghost use Rattle.std.specs.Prelude.{◌≡◌, not};
 ghost use Rattle.tape_read.specs.Blocks.{field};
 ghost use Rattle.book_block.specs.Entries.{is_verdict};
@@ -35,7 +37,7 @@ const PADDING_AT: usize = 20;
 const PADDING: usize = CHECK_AT - PADDING_AT;
 
 // What one block holds: the number of a tape, and what the judge said of it.
-#[derive(Drop)]
+#[derive(Clone, Copy)]
 pub struct Entry {
     pub tape: u32,
     pub verdict: u8,

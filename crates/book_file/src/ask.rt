@@ -15,7 +15,7 @@ pub const CHECK: u8 = 4;
 pub const ADD_MANY: u8 = 5;
 
 // The command, and the tape number behind it.
-#[derive(Drop)]
+#[derive(Clone, Copy)]
 pub struct Words {
     pub what: u8,
     pub number: usize,

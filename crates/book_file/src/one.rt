@@ -8,7 +8,7 @@ use tape_read::block_at;
 use text_lines::line_end;
 
 // The book afterwards, and whether more can be entered: not where a block could not be stored.
-#[derive(Drop)]
+#[derive(Clone, Copy)]
 pub struct Turn {
     pub book: Book,
     pub goes_on: bool,

@@ -2,7 +2,7 @@
 use libc::{STDERR_FILENO, STDIN_FILENO};
 use tape_read::BLOCK;
 
-#[derive(Drop)]
+#[derive(Clone, Copy)]
 pub enum Input {
     Bytes(usize),
     Missing,

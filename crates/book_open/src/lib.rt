@@ -20,7 +20,7 @@ pub const TWICE: u8 = 7;
 // The most bytes of a book.
 pub const MOST: usize = ENTRIES as usize * BLOCK;
 
-#[derive(Drop)]
+#[derive(Clone, Copy)]
 pub enum Opening {
     Opened(Book),
     Refused(usize, u8),

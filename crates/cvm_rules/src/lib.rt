@@ -1,10 +1,12 @@
 // One rule of a verification list (8E): its method, its condition, and what it comes to.
+#![tactic(auto)]
+
 pub mod conditions;
 pub mod methods;
 pub mod turns;
 
 // The methods of 003, Table A-3, by name.
-#[derive(Drop)]
+#[derive(Clone, Copy)]
 pub enum Method {
     Fail,
     OfflinePin,
@@ -16,7 +18,7 @@ pub enum Method {
 }
 
 // What the terminal was told of the transaction, and what it has.
-#[derive(Drop)]
+#[derive(Clone, Copy)]
 pub struct Circumstances {
     // 9F02 and 9F03, in the smallest unit
     pub amount: u64,
@@ -30,7 +32,7 @@ pub struct Circumstances {
 }
 
 // What a rule comes to: bits for byte 3 of the TVR, and whether the list ends with it.
-#[derive(Drop)]
+#[derive(Clone, Copy)]
 pub struct Turn {
     pub bits: u8,
     pub ends: bool,

@@ -1,9 +1,11 @@
 // Cryptograms: asked for, given, and which answers a request allows.
+#![tactic(auto)]
+
 ghost use Rattle.std.specs.Prelude.{◌≡◌};
 ghost use Rattle.decide_cryptogram.specs.Cryptograms.{p1_of, given_by, answers_first, answers_second, allowed_by};
 
 // A cryptogram, asked for or given.
-#[derive(Drop)]
+#[derive(Clone, Copy)]
 pub enum Cryptogram {
     Aac,
     Tc,
@@ -11,14 +13,14 @@ pub enum Cryptogram {
 }
 
 // What 9F27 says: a cryptogram, or the type that stands for none.
-#[derive(Drop)]
+#[derive(Clone, Copy)]
 pub enum Given {
     Of(Cryptogram),
     Reserved,
 }
 
 // The first GENERATE AC or the second, and what it asks for.
-#[derive(Drop)]
+#[derive(Clone, Copy)]
 pub enum Request {
     First(Cryptogram),
     Second(Cryptogram),

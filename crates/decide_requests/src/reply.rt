@@ -5,7 +5,7 @@ ghost use Rattle.decide_requests.specs.Replies.{code_in, reply_of, is_reply, res
 
 use decide_cryptogram::Cryptogram;
 
-#[derive(Drop)]
+#[derive(Clone, Copy)]
 pub enum HostReply {
     Approve,
     Decline,
@@ -13,7 +13,7 @@ pub enum HostReply {
 }
 
 // What three bytes say: a reply, or nothing that is one.
-#[derive(Drop)]
+#[derive(Clone, Copy)]
 pub enum HostHeard {
     Said(HostReply),
     Nothing,

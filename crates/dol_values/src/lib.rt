@@ -1,12 +1,14 @@
 // What the terminal knows for an object list: which tags are START's own, the format of each, and how a value is cut or filled to its
 // room.
+#![tactic(auto)]
+
 pub mod shape;
 pub mod supply;
 
 use start_fields::fields::Field;
 
 // The field of START that a tag stands for, where it is one of START's.
-#[derive(Drop)]
+#[derive(Clone, Copy)]
 pub enum Own {
     Of(Field),
     Nothing,

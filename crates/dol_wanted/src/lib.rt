@@ -1,4 +1,6 @@
 // What an object list asks for.
+#![tactic(auto)]
+
 ghost use Rattle.std.specs.Prelude.{◌≡◌, ◌+◌, ◌<◌, ◌≤◌};
 ghost use Rattle.dol_wanted.specs.Wanted.{size_at, most, asks, fillable, tally};
 

@@ -1,1 +1,3 @@
 // What the card has told, as the rules speak of it: definitions alone.
+
+#![tactic(auto)]

@@ -11,7 +11,7 @@ use tape_read::{BLOCK, block_at};
 use verdict::Finding;
 
 // A judgement under way: what is known of the blocks so far, and how far their entries were followed.
-#[derive(Drop)]
+#[derive(Clone, Copy)]
 pub struct UnderWay {
     pub reader: Reader,
     pub dialogue: Judgement,

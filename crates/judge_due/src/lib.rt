@@ -16,7 +16,7 @@ pub const TOO_SHORT: u8 = 255;
 
 // The kind of the entry that is due, 0 where nothing is; and how many bytes it has where they are known, or how many are wanted of what is
 // counted in a word, else 0.
-#[derive(Drop)]
+#[derive(Clone, Copy)]
 pub struct DueNext {
     pub kind: u8,
     pub size: usize,

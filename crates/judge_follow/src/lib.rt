@@ -7,7 +7,7 @@ use session_state::State;
 
 // The command that is due stands in the first bytes of `command`; `zeros` counts the list entries that were filled with zeros for want
 // of a value.
-#[derive(Drop)]
+#[derive(Clone, Copy)]
 pub struct Judgement {
     pub stage: Stage,
     pub state: State,

@@ -7,7 +7,7 @@ use tape_read::BLOCK;
 use text_input::{Filled, fill};
 use verdict::Finding;
 
-#[derive(Drop)]
+#[derive(Clone, Copy)]
 pub enum Judged {
     Found(Finding),
     Failed,

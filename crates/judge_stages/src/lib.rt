@@ -1,4 +1,6 @@
 // What the next entry of a tape must be, and what is said of a tape that ends there.
+#![tactic(auto)]
+
 ghost use Rattle.std.specs.Prelude.{◌≡◌};
 ghost use Rattle.verdict.specs.Saying.{says};
 ghost use Rattle.verdict.specs.declared.Verdict.{Verdict as Said};
@@ -8,7 +10,7 @@ use verdict::{Ruling, Verdict};
 
 // What the next entry must be: the word of somebody other than the card, a command, the card's answer, the decision; or how the
 // reading ended: with a decision, with a closing silence, or at the entry that cannot be.
-#[derive(Drop)]
+#[derive(Clone, Copy)]
 pub enum Stage {
     Word,
     Command(usize),

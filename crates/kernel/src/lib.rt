@@ -6,13 +6,13 @@ use session_state::State;
 
 // What can be read off a session is read off its state; beside it, how many entries of the lists filled so far are zeros for want of a
 // value.
-#[derive(Drop)]
+#[derive(Clone, Copy)]
 pub struct Session {
     pub state: State,
     pub zeros: usize,
 }
 
-#[derive(Drop)]
+#[derive(Clone, Copy)]
 pub struct Step {
     pub session: Session,
     pub reply: Reply,

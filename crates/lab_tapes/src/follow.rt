@@ -12,7 +12,7 @@ use text_input::{Filled, fill};
 use verdict::Finding;
 
 // What was found in the end; or a read failed; or a line was not written.
-#[derive(Drop)]
+#[derive(Clone, Copy)]
 pub enum Followed {
     Found(Finding),
     Failed,
@@ -20,7 +20,7 @@ pub enum Followed {
 }
 
 // So many bytes of a block; or a read failed; or a line was not written.
-#[derive(Drop)]
+#[derive(Clone, Copy)]
 enum Input {
     Bytes(usize),
     Failed,

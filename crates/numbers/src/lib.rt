@@ -1,5 +1,7 @@
 // The numbers that 01 and 02 give to things, by their names.
 // The kinds of entries on a tape.
+#![tactic(auto)]
+
 pub const START: u8 = 1;
 
 pub const COMMAND: u8 = 2;

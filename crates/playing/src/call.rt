@@ -16,7 +16,7 @@ use text_lines::after_word;
 
 // The session and the writer after a line, and whether there is a next one: not at the end of the input, and not where a line or
 // a block was not written.
-#[derive(Drop)]
+#[derive(Clone, Copy)]
 pub struct Turn {
     pub session: Session,
     pub writer: Writer,

@@ -1,4 +1,6 @@
 // What makes a whole tape unreadable, of one tape and of many: its length first, then block by block up to the first bad one.
+#![tactic(auto)]
+
 mod behind;
 mod block;
 mod register;

@@ -4,7 +4,7 @@ pub mod meet;
 use verdict::Ruling;
 
 // Whether what is due stands there; where it does not, what is said of the tape.
-#[derive(Drop)]
+#[derive(Clone, Copy)]
 pub struct Met {
     pub there: bool,
     pub said: Ruling,

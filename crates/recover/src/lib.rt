@@ -1,5 +1,7 @@
 // What is left of a damaged tape: the good blocks of any bytes, one after the other, in steps of a block from the start. A block is
 // tested as `tape_read` tests it where its own number and session number are the ones due.
+#![tactic(auto)]
+
 ghost use Rattle.std.specs.Prelude.{◌≡◌, ◌/◌, ◌<◌, length};
 ghost use Rattle.tape_read.specs.Entries.{block_size};
 ghost use Rattle.tape_read.specs.Tapes.{block_at};
@@ -10,7 +12,7 @@ use tape_read::{BLOCK, PAYLOAD_AT, block_at, code, kind, number, session};
 
 // A good block, with the step it stands at, what it says of itself, and where in the lent bytes its payload starts and how long it is;
 // or no further one.
-#[derive(Drop)]
+#[derive(Clone, Copy)]
 pub enum Found {
     Block {
         step: usize,

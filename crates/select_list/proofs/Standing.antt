@@ -6,7 +6,6 @@ use Prim.Native.Nat.{ℕ, ◌+◌, ◌%◌, ◌≤◌, ◌<◌}
 use native.Mathlib.Omega.{arith}
 use lib.Dec.{eqb, leb}
 use borrow.Author.Tests.{le-leb, lt-leb}
-use Rattle.slices.specs.Choice.{pick}
 use Rattle.slices.proofs.Choice.{pick_yes, pick_no, picked, either}
 use Rattle.select_list.specs.Order.{priority, confirms, standing_of}
 use Rattle.select_list.specs.Steps.{mark_of}

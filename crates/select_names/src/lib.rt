@@ -1,4 +1,6 @@
 // Whether a card's application is one that the terminal supports.
+#![tactic(auto)]
+
 ghost use Rattle.std.specs.Prelude.{◌≡◌};
 ghost use Rattle.start_list.specs.Listing.{applications_in, listed_at};
 ghost use Rattle.select_names.specs.Names.{begins_with, matches as matches_of, supported};

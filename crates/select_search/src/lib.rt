@@ -8,7 +8,7 @@ pub mod turns;
 
 // The command that is due: the environment selected; a record of the directory read; an AID of START selected, by its place in the list,
 // for its first occurrence or the next; an application of the list selected, by its place, and whether the shopper took it.
-#[derive(Drop)]
+#[derive(Clone, Copy)]
 pub enum Step {
     Environment,
     Directory { file: u8, record: u8 },
@@ -17,7 +17,7 @@ pub enum Step {
 }
 
 // The exchanges made, the one that is due included; whether an application that the shopper took has fallen out.
-#[derive(Drop)]
+#[derive(Clone, Copy)]
 pub struct Stand {
     pub exchanges: u8,
     pub step: Step,
@@ -26,7 +26,7 @@ pub struct Stand {
 
 // What follows: the next exchange; a choice of the shopper's; GET PROCESSING OPTIONS, with the list 9F38 of the answer that was heard; or
 // the end, with its reason.
-#[derive(Drop)]
+#[derive(Clone, Copy)]
 pub enum Turn {
     Asks(Stand),
     Shows(Stand),

@@ -10,7 +10,7 @@ use session_state::State;
 
 // The state afterwards, what the call is answered with, and how many entries of the list in the command that is now due are zeros for
 // want of a value.
-#[derive(Drop)]
+#[derive(Clone, Copy)]
 pub struct Step {
     pub state: State,
     pub reply: Reply,

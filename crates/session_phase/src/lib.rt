@@ -8,7 +8,7 @@ pub use say::{is_allowed, refusal_by};
 use words::Word;
 
 // What the card was asked.
-#[derive(Drop)]
+#[derive(Clone, Copy)]
 pub enum Question {
     Select,
     Options,
@@ -19,7 +19,7 @@ pub enum Question {
 
 // Who else can have the next word: the terminal with START; after it whoever has the word that is due, and how many are wanted of what is
 // counted in it; or the shopper, with the choice among so many shown.
-#[derive(Drop)]
+#[derive(Clone, Copy)]
 pub enum Speaker {
     Terminal,
     Says(Word, usize),
@@ -28,7 +28,7 @@ pub enum Speaker {
 
 // An answer of the card's, to a command of the selection or to another question, or somebody else's word; or the session is over, with its
 // outcome and its reason or 0, or closed by silence.
-#[derive(Drop)]
+#[derive(Clone, Copy)]
 pub enum Waiting {
     Searching,
     ForCard(Question),
@@ -39,7 +39,7 @@ pub enum Waiting {
 
 // A command of so many bytes stands in the buffer and its answer is due; an entry of this kind is due; the session is decided; it
 // was closed by silence; or the call was turned away with a number of 01's table.
-#[derive(Drop)]
+#[derive(Clone, Copy)]
 pub enum Reply {
     Command(usize),
     Due(u8),

@@ -1,17 +1,16 @@
 -- What a store tells after a value was kept, and after a record's objects were: no slot but the value's own is touched.
 -- Assumes nothing.
 use mathlib.Core.Path.{◌≡◌, refl, sym, ap, ◌∙◌}
-use mathlib.Core.Bool.{true, false, not, false≢true}
+use mathlib.Core.Bool.{true, false, false≢true}
 use mathlib.Core.List.{List, [], ◌∷◌, ◌++◌}
 use mathlib.Core.Option.{Option, none, some}
-use Prim.Native.Nat.{ℕ, zero, suc, ◌+◌, ◌-◌, ◌≤◌, ◌<◌}
+use Prim.Native.Nat.{ℕ, zero, suc, ◌+◌, ◌≤◌, ◌<◌}
 use native.Mathlib.Omega.{arith}
 use lib.Dec.{eqb, ltb}
 use lib.ListN.{length, get_or, take, drop, replicate, length-append, length-replicate, get_or-replicate, get_or-eq_default}
 use lib.Seq.{take_at, length-take-le, get_or-take, get_or-drop}
 use borrow.Author.Tests.{eqb-true, eqb-false, ltb-true, ltb-false}
-use Rattle.slices.specs.Choice.{pick}
-use Rattle.slices.specs.Writing.{put, zeros}
+use Rattle.slices.specs.Writing.{zeros}
 use Rattle.slices.proofs.Choice.{pick_yes, pick_no, picked, either}
 use Rattle.slices.proofs.Tests.{first_held}
 use Rattle.slices.proofs.Writing.{zeros_length}

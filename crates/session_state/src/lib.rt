@@ -9,7 +9,7 @@ use session_records::{Run, Store};
 use start_choosing::LISTING;
 use start_fields::fields::FULL;
 
-#[derive(Drop)]
+#[derive(Clone, Copy)]
 pub struct State {
     pub waiting: Waiting,
     // START's bytes, of which the first `size` count

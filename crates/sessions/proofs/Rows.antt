@@ -38,7 +38,7 @@ module _ {A H S : Type 0} (rules : Rules A H S) (R : Phase A H S → Phase A H S
   part_in_row zero alone = alone
   part_in_row (suc n) alone = alone
   part_in_row zero (onward g rest) = alone
-  part_in_row (suc n) (onward g rest) = onward g (part_in_row n rest)
+  part_in_row (suc n) (onward {p = p} {q = q} {ps = ps} g rest) = onward g (part_in_row {ps = q ∷ ps} n rest)
 
   pub reading_in_row : (es : List Entry) (ps : List (Phase A H S)) → Reads rules es ps → InRow R ps
   unfolding Reads

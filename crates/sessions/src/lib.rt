@@ -1,1 +1,3 @@
 // What a session is, whatever the rules: definitions and laws only, see specs/.
+
+#![tactic(auto)]

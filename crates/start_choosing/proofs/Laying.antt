@@ -4,7 +4,7 @@ use mathlib.Core.Path.{◌≡◌, sym, ap, ◌∙◌}
 use mathlib.Core.List.{List, ◌++◌, append-nil}
 use Prim.Native.Nat.{ℕ, ◌+◌}
 use native.Mathlib.Omega.{arith}
-use lib.ListN.{length, length-append, drop, drop_of_length-le}
+use lib.ListN.{length, length-append, drop_of_length-le}
 use Rattle.slices.specs.Writing.{put, laid}
 use Rattle.slices.proofs.Writing.{put_length, put_start, put_step, laid_fits}
 

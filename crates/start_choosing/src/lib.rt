@@ -1,4 +1,6 @@
 // START with the terminal's list of applications, 207 bytes: what it holds beside its list, and whether it is valid.
+#![tactic(auto)]
+
 ghost use Rattle.std.specs.Prelude.{◌≡◌};
 ghost use Rattle.start_choosing.specs.Start.{alone_in, valid_listing};
 

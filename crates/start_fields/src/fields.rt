@@ -22,7 +22,7 @@ pub fn is_length(n: usize) -> bool
 }
 
 // The fields that are runs of bytes.
-#[derive(Drop)]
+#[derive(Clone, Copy)]
 pub enum Field {
     Amount,
     OtherAmount,
@@ -41,7 +41,7 @@ pub enum Field {
 }
 
 // The fields that are one byte, a binary number.
-#[derive(Drop)]
+#[derive(Clone, Copy)]
 pub enum Octet {
     Kind,
     Random,

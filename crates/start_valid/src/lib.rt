@@ -1,4 +1,6 @@
 // Whether a START is valid, a function for each condition.
+#![tactic(auto)]
+
 ghost use Rattle.std.specs.Prelude.{◌≡◌};
 ghost use Rattle.start_fields.specs.Reading.{reading_of, aid_length_in, aid_room_in};
 ghost use Rattle.start_valid.specs.Start.{valid_kind, valid_digits, valid_random, valid_percentages};

@@ -1,4 +1,6 @@
 // T=0: an exchange begins with a command, whose header goes out first.
+#![tactic(auto)]
+
 ghost use Rattle.std.specs.Prelude.{◌≡◌};
 ghost use Rattle.t0_begin.specs.Begin.{header_of, command_of, state_at, nowhere, replied, begun_by, begun_as};
 
@@ -7,7 +9,7 @@ use slices::{byte, lay};
 use t0_state::{Command, Counts, Header, Phase, Refusal, Sent, State, Trailer};
 
 // What is waited for: a procedure byte, the length behind '61' or '6C', the second byte of a status, so many bytes of data.
-#[derive(Drop)]
+#[derive(Clone, Copy)]
 pub enum Wait {
     Procedure,
     Length,
@@ -17,14 +19,14 @@ pub enum Wait {
 
 // So many bytes, at the start of the lent buffer, are to be sent, and then something is waited for; the answer is complete and
 // has so many bytes; or a refusal.
-#[derive(Drop)]
+#[derive(Clone, Copy)]
 pub enum Reply {
     Go { send: usize, wait: Wait },
     Answer(usize),
     Refused(Refusal),
 }
 
-#[derive(Drop)]
+#[derive(Clone, Copy)]
 pub struct Step {
     pub state: State,
     pub reply: Reply,

@@ -8,7 +8,7 @@ use t0_begin::Reply;
 use t0_state::{Phase, Refusal, State};
 
 // The exchange afterwards, how many bytes of the piece it took, and what it then says.
-#[derive(Drop)]
+#[derive(Clone, Copy)]
 pub struct Taken {
     pub state: State,
     pub taken: usize,

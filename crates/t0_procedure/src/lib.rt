@@ -1,4 +1,6 @@
 // T=0: a procedure byte, or the first byte of a status, moves the exchange on.
+#![tactic(auto)]
+
 ghost use Rattle.std.specs.Prelude.{◌≡◌, ◌-◌, ◌≤◌};
 ghost use Rattle.t0_procedure.specs.Procedure.{refused, onward, moving, on_all, on_next, on_wait, on_get, on_six_c, on_procedure};
 

@@ -6,7 +6,7 @@ use crate::{Header, Sent, State};
 use apdu::{is_status, is_warning};
 
 // Move all the bytes that are left, or the next one; '60', '61', '6C'; a status begins; or none of these.
-#[derive(Drop)]
+#[derive(Clone, Copy)]
 pub enum Meaning {
     All,
     Next,

@@ -1,11 +1,13 @@
 // An exchange by T=0: what it keeps between two bytes of the card's, and what one such byte says.
+#![tactic(auto)]
+
 pub mod bytes;
 pub mod change;
 
 // The header that the card is answering: that of a command of case 1 to 4, or GET RESPONSE.
 use apdu::DATA_MOST;
 
-#[derive(Drop)]
+#[derive(Clone, Copy)]
 pub enum Sent {
     Case1,
     Case2,
@@ -15,7 +17,7 @@ pub enum Sent {
 }
 
 // How many bytes go with the header, either way, and how many of them no procedure byte has moved yet.
-#[derive(Drop)]
+#[derive(Clone, Copy)]
 pub struct Header {
     pub sent: Sent,
     pub size: usize,
@@ -23,7 +25,7 @@ pub struct Header {
 }
 
 // The command's header without its length, and its data with zeros behind.
-#[derive(Drop)]
+#[derive(Clone, Copy)]
 pub struct Command {
     pub cla: u8,
     pub ins: u8,
@@ -33,7 +35,7 @@ pub struct Command {
 }
 
 // How often the card has said '60' and '61', and whether it has said '6C'.
-#[derive(Drop)]
+#[derive(Clone, Copy)]
 pub struct Counts {
     pub waits: usize,
     pub gets: usize,
@@ -41,7 +43,7 @@ pub struct Counts {
 }
 
 // The status that ends the answer: the last one, or a warning that came before GET RESPONSE.
-#[derive(Drop)]
+#[derive(Clone, Copy)]
 pub enum Trailer {
     Last,
     Kept(u8, u8),
@@ -49,7 +51,7 @@ pub enum Trailer {
 
 // What the next byte is: a procedure byte or the first of a status; the length behind '61' or '6C'; the second byte of a
 // status; data, of which so many bytes are due. Or the exchange is over.
-#[derive(Drop)]
+#[derive(Clone, Copy)]
 pub enum Phase {
     Procedure,
     Length61,
@@ -59,7 +61,7 @@ pub enum Phase {
     Over,
 }
 
-#[derive(Drop)]
+#[derive(Clone, Copy)]
 pub struct State {
     pub command: Command,
     pub header: Header,
@@ -71,7 +73,7 @@ pub struct State {
 }
 
 // Why a command or a byte is turned away.
-#[derive(Drop)]
+#[derive(Clone, Copy)]
 pub enum Refusal {
     Command,
     Ins,
@@ -85,7 +87,7 @@ pub enum Refusal {
 
 // Nothing; send the header with a length; send data of the command, from a place on, so many bytes; keep a byte of the
 // answer's; the answer is complete with these status bytes; or refuse.
-#[derive(Drop)]
+#[derive(Clone, Copy)]
 pub enum Act {
     Nothing,
     Header(u8),
@@ -95,7 +97,7 @@ pub enum Act {
     Refuse(Refusal),
 }
 
-#[derive(Drop)]
+#[derive(Clone, Copy)]
 pub struct Turn {
     pub state: State,
     pub act: Act,

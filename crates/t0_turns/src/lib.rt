@@ -1,4 +1,6 @@
 // One byte of the card's, one turn on: the exchange afterwards, and what is then to be done.
+#![tactic(auto)]
+
 ghost use Rattle.std.specs.Prelude.{◌≡◌, ◌≤◌};
 ghost use Rattle.t0_turns.specs.Turns.{closed_on, on_length, on_repeat, ending_in, on_status, phase_after, on_data, after_byte};
 

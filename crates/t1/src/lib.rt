@@ -14,7 +14,7 @@ use t1_turns::{on_ask, on_block, on_hello, on_send, on_silence};
 
 // Nothing is to be sent; so many bytes of the lent buffer are; they are, and so many of the block's field were taken; the message
 // is whole, with so many bytes, the last of them from this field; how this end stopped; a refusal.
-#[derive(Drop)]
+#[derive(Clone, Copy)]
 pub enum Reply {
     Nothing,
     Send(usize),
@@ -24,7 +24,7 @@ pub enum Reply {
     Refused(Refusal),
 }
 
-#[derive(Drop)]
+#[derive(Clone, Copy)]
 pub struct Step {
     pub state: State,
     pub reply: Reply,

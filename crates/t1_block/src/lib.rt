@@ -1,4 +1,6 @@
 // Blocks of T=1 (000, I-5.2.4.1): what a received one says or what is wrong with it, and how one is written.
+#![tactic(auto)]
+
 mod faults;
 mod kinds;
 mod writing;
@@ -12,7 +14,7 @@ use slices::{byte, part};
 pub use writing::{LONGEST, write};
 
 // What an S-block asks for, or answers.
-#[derive(Drop)]
+#[derive(Clone, Copy)]
 pub enum What {
     Resynch,
     Ifs,
@@ -21,7 +23,7 @@ pub enum What {
 }
 
 // An I-block with its number and whether more follows, an R-block with its number, an S-block, or none of these.
-#[derive(Drop)]
+#[derive(Clone, Copy)]
 pub enum Kind {
     Information(bool, bool),
     Ready(bool),
@@ -32,7 +34,7 @@ pub enum Kind {
 
 // Too few or too many characters; LRC; LEN 'FF'; NAD; PCB; an I-block without a field or with too long a one; another field
 // that is not as it must be. Or nothing.
-#[derive(Drop)]
+#[derive(Clone, Copy)]
 pub enum Fault {
     Sound,
     Under,
@@ -47,7 +49,7 @@ pub enum Fault {
 }
 
 // A received block: valid, or the code that an R-block is to carry.
-#[derive(Drop)]
+#[derive(Clone, Copy)]
 pub enum Heard {
     Valid(Kind),
     Bad(u8),

@@ -1,11 +1,13 @@
 // One end of a T=1 line, terminal or card: what it keeps between two blocks.
+#![tactic(auto)]
+
 pub mod change;
 pub mod limits;
 
 use apdu::ANSWER_MOST;
 use t1_block::What;
 
-#[derive(Drop)]
+#[derive(Clone, Copy)]
 pub enum Role {
     Terminal,
     Card,
@@ -13,7 +15,7 @@ pub enum Role {
 
 // The terminal's first request is due; a request of our own is open; a message of ours is due; an I-block of ours is out; a
 // message comes in, or a card's first one is awaited; the end.
-#[derive(Drop)]
+#[derive(Clone, Copy)]
 pub enum Phase {
     Start,
     Asking,
@@ -24,7 +26,7 @@ pub enum Phase {
 }
 
 // The block that went out last: none yet, the I-block, an R-block by its PCB, an S-block with its value.
-#[derive(Drop)]
+#[derive(Clone, Copy)]
 pub enum Last {
     Nothing,
     Information,
@@ -34,28 +36,28 @@ pub enum Last {
 }
 
 // The number of our next I-block, and that of the I-block we expect.
-#[derive(Drop)]
+#[derive(Clone, Copy)]
 pub struct Numbers {
     pub next: bool,
     pub expected: bool,
 }
 
 // The longest information field that the other end takes, and that we take.
-#[derive(Drop)]
+#[derive(Clone, Copy)]
 pub struct Sizes {
     pub theirs: u8,
     pub ours: u8,
 }
 
 // How often the I-block has gone out, and how often in a row the R-block or request.
-#[derive(Drop)]
+#[derive(Clone, Copy)]
 pub struct Counts {
     pub information: usize,
     pub same: usize,
 }
 
 // A message of ours with zeros behind it, and the piece of it that is out.
-#[derive(Drop)]
+#[derive(Clone, Copy)]
 pub struct Message {
     pub bytes: [u8; ANSWER_MOST],
     pub length: usize,
@@ -63,7 +65,7 @@ pub struct Message {
     pub size: usize,
 }
 
-#[derive(Drop)]
+#[derive(Clone, Copy)]
 pub struct State {
     pub role: Role,
     pub phase: Phase,
@@ -77,7 +79,7 @@ pub struct State {
 }
 
 // How an end of the line stops.
-#[derive(Drop)]
+#[derive(Clone, Copy)]
 pub enum End {
     Limit,
     Abort,
@@ -86,7 +88,7 @@ pub enum End {
 
 // Why an event is turned away: the end has stopped; not what is due; a message with no bytes or too many; a value that may
 // not be asked for.
-#[derive(Drop)]
+#[derive(Clone, Copy)]
 pub enum Refusal {
     Closed,
     NotDue,
@@ -96,7 +98,7 @@ pub enum Refusal {
 
 // Nothing goes out; a block goes out; its field is kept and a block goes out; its value is taken and a block goes out; its field
 // is kept and the message is whole, with so many bytes; the end; or a refusal.
-#[derive(Drop)]
+#[derive(Clone, Copy)]
 pub enum Act {
     Nothing,
     Send,
@@ -107,7 +109,7 @@ pub enum Act {
     Refuse(Refusal),
 }
 
-#[derive(Drop)]
+#[derive(Clone, Copy)]
 pub struct Turn {
     pub state: State,
     pub act: Act,

@@ -1,4 +1,6 @@
 // CRC-32 (IEEE 802.3), four bytes at a time from stored tables of remainders.
+#![tactic(auto)]
+
 mod table;
 mod table_after_one;
 mod table_after_three;

@@ -1,4 +1,6 @@
 // A tape read piece by piece: which block is due, and what makes the tape unreadable. One piece at a time is looked at and none is kept.
+#![tactic(auto)]
+
 ghost use Rattle.std.specs.Prelude.{◌≡◌, ◌≤◌};
 ghost use Rattle.tape_read.specs.Entries.{blocks_most};
 ghost use Rattle.tape_feed.specs.Feeding.{begun, session_due, looked, passed as passed_by, ended as ended_by};
@@ -9,7 +11,7 @@ use tape_read::{BLOCK, BLOCKS, code, session};
 
 // The blocks so far; the session number of block 0; the place and the code of the first bad block, code 0 where there is none; and
 // whether the tape ended inside a block.
-#[derive(Drop)]
+#[derive(Clone, Copy)]
 pub struct Reader {
     pub blocks: usize,
     pub session: u32,
@@ -19,14 +21,14 @@ pub struct Reader {
 }
 
 // One piece further, and whether the piece was a good block.
-#[derive(Drop)]
+#[derive(Clone, Copy)]
 pub struct Taken {
     pub reader: Reader,
     pub good: bool,
 }
 
 // What makes a tape unreadable; code 0: nothing does.
-#[derive(Drop)]
+#[derive(Clone, Copy)]
 pub struct Damage {
     pub place: usize,
     pub code: usize,

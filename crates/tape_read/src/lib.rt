@@ -1,4 +1,6 @@
 // The tape: entries in blocks of 512 bytes, read from any bytes.
+#![tactic(auto)]
+
 mod read;
 
 ghost use Rattle.std.specs.Prelude.{◌≡◌, not};

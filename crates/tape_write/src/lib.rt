@@ -1,4 +1,6 @@
 // A tape written entry by entry, each in a block after the last.
+#![tactic(auto)]
+
 ghost use Rattle.std.specs.Prelude.{◌≡◌, ◌≤◌, length};
 ghost use Rattle.slices.specs.Writing.{put};
 ghost use Rattle.tape_read.specs.Entries.{entry, block_size, payload_most};
@@ -9,14 +11,14 @@ use numbers::{REFUSED_ENTRY, REFUSED_ROOM};
 use tape_read::{BLOCK, BLOCKS, CHECK_AT, PAYLOAD, PAYLOAD_AT, four_bytes, no_kind};
 
 // How many blocks have been used, and the session number that each block carries.
-#[derive(Drop)]
+#[derive(Clone, Copy)]
 pub struct Writer {
     pub used: usize,
     pub session: u32,
 }
 
 // The writer afterwards, and 0 or the number under which the entry was turned away.
-#[derive(Drop)]
+#[derive(Clone, Copy)]
 pub struct Appended {
     pub writer: Writer,
     pub refusal: u8,

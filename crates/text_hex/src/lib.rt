@@ -1,4 +1,6 @@
 // Bytes in hexadecimal.
+#![tactic(auto)]
+
 ghost use Rattle.std.specs.Prelude.{◌≡◌, ◌≤◌, ◌<◌, length};
 ghost use Rattle.slices.specs.Writing.{put};
 ghost use Rattle.text_hex.specs.Digits.{digit, digit_for, pair, unhexed_for, hexed_for};

@@ -1,4 +1,6 @@
 // The words for the kinds of entries, for programs that say what is due.
+#![tactic(auto)]
+
 ghost use Rattle.std.specs.Prelude.{◌≡◌, length};
 ghost use Rattle.slices.specs.Writing.{laid};
 ghost use Rattle.text_kinds.specs.Kinds.{word_of, counts as is_counted};
@@ -10,6 +12,7 @@ use slices::lay;
 pub const LONGEST: usize = 8;
 
 // The word at the start of a buffer, and its length; where it has no room nothing is written.
+#[tactic(auto, unfolding(slices::specs::Tables::beside, slices::specs::Choice::pick))]
 pub fn word(kind: u8, out: &mut [u8]) -> usize
     ensures size { result ≡ length (word_of kind) }
     ensures text { out.new ≡ laid (word_of kind) 0 out.old }

@@ -1,4 +1,6 @@
 // Bytes as text, for programs that read and print a line at a time.
+#![tactic(auto)]
+
 pub mod decimal;
 mod lines;
 mod numbers;

@@ -1,51 +1,56 @@
 // Printing to standard output, for programs that answer a line at a time. Of what is written no contract can speak: a caller
-// learns that the function ends and hands nothing back.
-ghost use Rattle.std.specs.Prelude.{◌≡◌};
+// learns that the function ends and, where all was written, hands nothing back. Each piece is written at once.
+#![tactic(auto)]
 
-use libc::STDOUT_FILENO;
+mod fault;
+
+ghost use Rattle.std.specs.Prelude.{◌≡◌, IfOk};
+
+pub use fault::fail;
+use std::io;
 use text_hex::hex;
 
-pub fn text(s: &[u8])
-    ensures { result ≡ tt }
+pub fn text(rt: &impl Print, s: &[u8]) -> io::Result<()>
+    ensures { IfOk result (λ r. r ≡ tt) }
 {
-    io::write_all(STDOUT_FILENO, s);
+    rt.write_all(s)
 }
 
-pub fn number(n: usize)
-    ensures { result ≡ tt }
+pub fn number(rt: &impl Print, n: usize) -> io::Result<()>
+    ensures { IfOk result (λ r. r ≡ tt) }
 {
-    io::print_decimal(STDOUT_FILENO, n as u64);
+    rt.print(n)
 }
 
 // Bytes in hexadecimal.
-pub fn bytes(s: &[u8])
-    ensures { result ≡ tt }
+pub fn bytes(rt: &impl Print, s: &[u8]) -> io::Result<()>
+    ensures { IfOk result (λ r. r ≡ tt) }
 {
     let mut out = [0u8; 10000];
     let n = hex(s, &mut out);
-    text(&out[0..n]);
+    text(rt, &out[0..n])
 }
 
 // The same, and `-` for none.
-pub fn bytes_or_dash(s: &[u8])
-    ensures { result ≡ tt }
+pub fn bytes_or_dash(rt: &impl Print, s: &[u8]) -> io::Result<()>
+    ensures { IfOk result (λ r. r ≡ tt) }
 {
     if s.len() == 0 {
-        text(b"-");
+        text(rt, b"-")
     } else {
-        bytes(s);
+        bytes(rt, s)
     }
 }
 
 // A tag of one or two bytes.
-pub fn tag(t: usize)
-    ensures { result ≡ tt }
+pub fn tag(rt: &impl Print, t: usize) -> io::Result<()>
+    ensures { IfOk result (λ r. r ≡ tt) }
 {
     let both = [(t / 256 % 256) as u8, (t % 256) as u8];
     if t < 256 {
-        bytes(&both[1..2]);
+        bytes(rt, &both[1..2])
     } else {
-        bytes(&both[0..2]);
+        bytes(rt, &both[0..2])
     }
 }
 
@@ -53,11 +58,13 @@ pub fn tag(t: usize)
 pub const UNTOUCHED: u8 = 0xA5;
 
 // Says so where a byte from a place on was touched.
-pub fn touched(buf: &[u8], from: usize)
-    ensures { result ≡ tt }
+pub fn touched(rt: &impl Print, buf: &[u8], from: usize) -> io::Result<()>
+    ensures { IfOk result (λ r. r ≡ tt) }
 {
     if is_touched(buf, from) {
-        text(b" touched");
+        text(rt, b" touched")
+    } else {
+        Ok(())
     }
 }
 

@@ -1,9 +1,11 @@
 // The head of a data object: its tag and its length, and the object that stands at a place.
+#![tactic(auto)]
+
 pub mod head;
 pub mod tag;
 
 // What the reader finds at a place of a list.
-#[derive(Drop)]
+#[derive(Clone, Copy)]
 pub enum Next {
     // An object: its tag, and its value from `start` up to `end`, which is where to go on.
     Member {

@@ -7,7 +7,6 @@ use mathlib.Core.List.{List}
 use mathlib.Core.Option.{Option, none, some}
 use Prim.Native.Nat.{ℕ}
 use lib.ListN.{drop}
-use Rattle.slices.specs.Choice.{pick}
 use Rattle.slices.proofs.Choice.{pick_yes, pick_no}
 use Rattle.tlv_head.specs.Head.{constructed}
 use Rattle.slices.specs.Tests.{is_some}

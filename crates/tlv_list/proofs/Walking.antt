@@ -4,11 +4,10 @@
 use mathlib.Core.Path.{◌≡◌, refl, sym, ap, ◌∙◌}
 use mathlib.Core.List.{List, [], ◌∷◌, map}
 use mathlib.Core.Option.{Option, none, some}
-use Prim.Native.Nat.{ℕ, zero, suc, ◌+◌, ◌-◌, ◌≤◌}
+use Prim.Native.Nat.{ℕ, zero, suc, ◌+◌, ◌≤◌}
 use native.Mathlib.Omega.{arith}
 use lib.Dec.{eqb}
 use lib.ListN.{length, drop, drop_of_length-le}
-use Rattle.slices.specs.Choice.{pick}
 use Rattle.slices.proofs.Choice.{pick_yes, pick_no, picked, either}
 use Rattle.tlv_list.specs.Objects.{Object, between, before, right_inside, objects}
 use Rattle.tlv_list.specs.Place.{Place, object_at, follow, walk, places_from, next_at}

@@ -1,10 +1,12 @@
 // Lists of data objects: which bytes are one, what stands at a place of it, and an object looked up by its tag.
+#![tactic(auto)]
+
 mod list;
 pub mod lookup;
 pub mod place;
 
 // What stands under a tag in a list: its value's place, where it stands once.
-#[derive(Drop)]
+#[derive(Clone, Copy)]
 pub enum Found {
     Absent,
     Once { start: usize, end: usize },
@@ -12,7 +14,7 @@ pub enum Found {
 }
 
 // What stands under four tags in a list, found in one pass; nothing where the bytes are no list.
-#[derive(Drop)]
+#[derive(Clone, Copy)]
 pub struct Members {
     pub list: bool,
     pub first: Found,
@@ -22,7 +24,7 @@ pub struct Members {
 }
 
 // What a look-up answers: refusal 9, or what stands in the list.
-#[derive(Drop)]
+#[derive(Clone, Copy)]
 pub enum Sought {
     Refused,
     InList(Found),

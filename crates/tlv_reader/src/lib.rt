@@ -1,5 +1,7 @@
 // The held reader: the lent answer and a place in it, in one value. 01, "Data objects" and "What shape each place takes".
-// Whatever takes or makes such a value is proved by hand, so it has no branch and hands slice and place to a plain function.
+// Whatever takes or makes such a value has no branch: it hands slice and place to a plain function.
+#![tactic(auto)]
+
 ghost use Rattle.std.specs.Prelude.{◌≡◌};
 ghost use Rattle.tlv_list.specs.Place.{next_at};
 ghost use Rattle.tlv_reader.specs.Held.{place_after, value_at, next_of, value_of, moved_on, nth_from};
@@ -7,7 +9,7 @@ ghost use Rattle.tlv_reader.specs.Held.{place_after, value_at, next_of, value_of
 use tlv_head::Next;
 use tlv_list::place::{next, value};
 
-#[derive(Drop)]
+#[derive(Clone, Copy)]
 pub struct Reader<'a> {
     pub src: &'a [u8],
     pub at: usize,

@@ -1,4 +1,6 @@
 // The writer: one object at the start of a lent buffer, with the shortest length form.
+#![tactic(auto)]
+
 ghost use Rattle.std.specs.Prelude.{◌≡◌, ◌+◌, ◌<◌, ◌≤◌, length};
 ghost use Rattle.slices.specs.Writing.{laid, put};
 ghost use Rattle.tlv_write.specs.Written.{is_tag, tag_bytes, length_bytes, fits_tag, written};
@@ -10,7 +12,7 @@ use tlv_head::tag::{has_two_bytes, is_constructed};
 use tlv_list::place::list_refusal;
 
 // What the writer did: bytes written, or why it did not write.
-#[derive(Drop)]
+#[derive(Clone, Copy)]
 pub enum Wrote {
     Bytes(usize),
     BadObject,

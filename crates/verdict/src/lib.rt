@@ -1,6 +1,8 @@
 // What is said of a tape: a verdict, a place and a code (01, "The tape"), and beside these how many entries of its object lists were
 // filled with zeros for want of a value (02, R-6).
-#[derive(Drop)]
+#![tactic(auto)]
+
+#[derive(Clone, Copy)]
 pub enum Verdict {
     Pass,
     Fail,
@@ -8,14 +10,14 @@ pub enum Verdict {
     Unreadable,
 }
 
-#[derive(Drop)]
+#[derive(Clone, Copy)]
 pub struct Ruling {
     pub verdict: Verdict,
     pub place: usize,
     pub code: usize,
 }
 
-#[derive(Drop)]
+#[derive(Clone, Copy)]
 pub struct Finding {
     pub ruling: Ruling,
     pub zeros: usize,

@@ -1,4 +1,6 @@
 // The line that says a verdict.
+#![tactic(auto)]
+
 ghost use Rattle.std.specs.Prelude.{◌≡◌, ◌+◌, ◌≤◌, length};
 ghost use Rattle.slices.specs.Writing.{put, laid};
 ghost use Rattle.verdict_line.specs.Line.{word_of, decimal, field_of, line_of, line_size};

@@ -10,7 +10,7 @@ use numbers::{HOST, REFUSED_HOST, REFUSED_RESULTS, RESULTS};
 use slices::byte;
 
 // The issuer's reply; the results of cardholder verification.
-#[derive(Drop)]
+#[derive(Clone, Copy)]
 pub enum Word {
     Host,
     Results,

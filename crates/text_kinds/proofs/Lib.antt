@@ -1,2 +1,0 @@
--- Why the word for each kind is the table's.
-pub mod Spelling
