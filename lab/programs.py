@@ -1,8 +1,8 @@
 """The proved programs: whether one is fresh, building it, what is known of it, and the words that start it. In one place.
 
 A program is fresh where the sources it was built from, and the program itself, have the contents that its stamp tells; times play no
-part. The stamp (target/lab/NAME.json) is written when `rt` has proved and built it. A tree without sources, as `bin/install` makes it, has
-stamps and programs alone.
+part. The stamp (target/lab/NAME.json) is written when `rt` has proved and built it; the program is then copied from its crate's out/ to
+target/bin/, and started from there. A tree without sources, as `bin/install` makes it, has stamps and programs alone.
 """
 import fcntl
 import functools
@@ -19,7 +19,10 @@ from lab.words import Undone, voice
 
 ROOT = os.path.dirname(os.path.dirname(os.path.realpath(__file__)))
 STAMPS = os.path.join(ROOT, "target", "lab")
-PROVED = re.compile(r"rt: (\w+) proved \(")
+# What `rt run` says of a crate that it has proved, of the whole check, and of the program once it is linked.
+PROVED = re.compile(r"crate (\w+): modules ")
+CHECKED = re.compile(r"logic=")
+BUILT = re.compile(r"rt: running out/(\w+)")
 
 
 def installed():
@@ -36,8 +39,8 @@ def crates():
     with open(os.path.join(ROOT, "crates.txt"), encoding="utf-8") as lines:
         for line in lines:
             name, colon, rest = line.partition("#")[0].partition(":")
-            if colon:
-                known[name.strip()] = rest.split()
+            if colon and name.split():
+                known[name.split()[0]] = rest.split()
     return known
 
 
@@ -148,52 +151,70 @@ def build(names):
 
 
 def build_all(names):
-    for name in names:
-        stamp = stamp_of(name)
-        if stamp and os.path.exists(path_of(name)) and sha256_of(path_of(name)) != stamp["sha256"]:
-            os.unlink(path_of(name))
-        if not os.path.exists(path_of(name)) and os.path.exists(os.path.join(ROOT, "target", "stamp", name)):
-            os.unlink(os.path.join(ROOT, "target", "stamp", name))
     sources = {name: sources_of(name) for name in names}
     commit, changes = git("rev-parse", "HEAD"), git("status", "--porcelain")
     parts = len(closure(names, crates()))
     log = os.path.join(STAMPS, "build.log")
     voice.note(f"proving and building {' and '.join(names)}: {parts} parts, each proved once; the log is {log}")
-    began, done = time.monotonic(), 0
+    began, done, checks = time.monotonic(), set(), {}
+
+    def told(line):
+        found = PROVED.match(line)
+        if found and found.group(1) not in done:
+            done.add(found.group(1))
+            voice.progress(f"{len(done)} of {parts}: {found.group(1)}, {time.monotonic() - began:.0f} s")
+
     with open(log, "w", encoding="utf-8", errors="replace") as file:
-        process = subprocess.Popen(["rt", "check", *names], cwd=ROOT, stdin=subprocess.DEVNULL, stdout=subprocess.PIPE,
-                                   stderr=subprocess.STDOUT, text=True, errors="replace")
-        try:
-            for line in process.stdout:
-                file.write(line)
-                file.flush()
-                found = PROVED.match(line)
-                if found:
-                    done += 1
-                    voice.progress(f"{done} of {parts}: {found.group(1)}, {time.monotonic() - began:.0f} s")
-        except BaseException:
-            process.kill()
-            raise
-        status = process.wait()
+        for name in names:
+            status, checks[name] = build_one(name, file, told)
+            if status is not None:
+                break
     took = time.monotonic() - began
-    if status != 0:
+    if status is not None:
         with open(log, encoding="utf-8") as file:
             for line in file.read().splitlines()[-12:]:
                 voice.note("    ", line)
         raise Undone(f"{' and '.join(names)} could not be built (status {status} after {took:.0f} s): the whole log is {log}")
     for name in names:
-        write_stamp(name, sources[name], commit, changes, took)
+        write_stamp(name, sources[name], commit, changes, took, checks[name])
     voice.note(f"built after {took:.0f} s")
 
 
-def write_stamp(name, sources, commit, changes, took):
+def build_one(name, log, told):
+    """Has `rt run` prove and link a program, and puts it where it is started from; the status where that failed, and the check's last line.
+    `rt run` also starts the program: it finds no arguments and an empty input there, and what it says is thrown away."""
+    home = os.path.join(ROOT, "crates", name)
+    for old in (path_of(name), os.path.join(home, "out", name + ".stamp")):
+        if os.path.exists(old):
+            os.unlink(old)
+    check, built = None, False
+    process = subprocess.Popen(["rt", "run"], cwd=home, stdin=subprocess.DEVNULL, stdout=subprocess.DEVNULL, stderr=subprocess.PIPE,
+                               text=True, errors="replace")
+    try:
+        for line in process.stderr:
+            log.write(line)
+            log.flush()
+            told(line)
+            if not built:
+                check = line.strip() if CHECKED.match(line) else check
+                built = BUILT.match(line) is not None
+    except BaseException:
+        process.kill()
+        raise
+    status = process.wait()
+    if not built:
+        return status, check
+    os.makedirs(os.path.dirname(path_of(name)), exist_ok=True)
+    shutil.copy2(os.path.join(home, "out", name), path_of(name) + ".new")
+    os.replace(path_of(name) + ".new", path_of(name))
+    return None, check
+
+
+def write_stamp(name, sources, commit, changes, took, check):
     if sources_of(name) != sources:
         raise Undone(f"{name}: its sources changed while it was built")
-    try:
-        with open(os.path.join(ROOT, "target", "log", name + ".say"), encoding="utf-8") as file:
-            check = [line for line in file.read().splitlines() if line.startswith("logic=")][-1]
-    except (OSError, IndexError):
-        raise Undone(f"{name}: the check left no last line in target/log/{name}.say") from None
+    if not check or not check.startswith("logic=proved "):
+        raise Undone(f"{name}: the check left no last line in its log")
     stamp = {"program": name, "sources": sources, "sha256": sha256_of(path_of(name)), "commit": commit or "unknown",
              "clean": changes == "", "kit": kit_identity(), "check": check, "seconds": round(took)}
     place = os.path.join(STAMPS, name + ".json")

@@ -87,7 +87,7 @@ class Crate:
         return any(token in names for names in named_by)
 
 
-LISTED = [line.split(":")[0] for line in (ROOT / "crates.txt").read_text().splitlines() if re.match(r"\w+:", line)]
+LISTED = re.findall(r"^(\w+)[^#:\n]*:", (ROOT / "crates.txt").read_text(), re.M)
 CRATES = {name: Crate(name) for name in LISTED}
 EDITS = {edit for crate in CRATES.values() for edit in crate.edits}
 

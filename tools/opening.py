@@ -21,11 +21,11 @@ HEAD = """-- The machine of the rulebook with every definition under it open, so
 -- Assumes nothing.
 use mathlib.Core.List.{List}
 use mathlib.Core.Option.{Option}
-use Rattle·tape_read.specs.Entries.{Entry}
-use Rattle·sessions.specs.Machine.{run}
-use Rattle·rulebook·specs.specs.Phase.{opens}
-use Rattle·rulebook·specs.specs.Session.{rules}
-use Rattle·rulebook·specs.specs.Machine.{Machine, at}
+use Rattle.tape_read.specs.Entries.{Entry}
+use Rattle.sessions.specs.Machine.{run}
+use Rattle.rulebook.specs.Phase.{opens}
+use Rattle.rulebook.specs.Session.{rules}
+use Rattle.rulebook.specs.Machine.{Machine, at}
 """
 
 
@@ -63,7 +63,7 @@ def text():
             if (module, name) != ("Machine", "run"):
                 modules.setdefault(module, []).append(name)
         for module, found in modules.items():
-            where = f"Rattle·{crate}" + ("·specs.specs" if crate == "rulebook" else ".specs") + f".{module}"
+            where = f"Rattle.{crate}.specs.{module}"
             short = [f"o{len(names) + place}" for place in range(len(found))]
             for lot in wrapped([f"{name} as {alias}," for name, alias in zip(found, short)], f"use {where}.{{"):
                 imports.append(lot.replace("{ ", "{").rstrip(",") + "}")

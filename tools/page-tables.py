@@ -61,7 +61,7 @@ def crates():
         found = re.match(r"# level (\d+)$", line)
         level = found.group(1) if found else level
         if ":" in line and not line.startswith("#"):
-            rows.append(crate_row(line.split(":")[0].strip(), level))
+            rows.append(crate_row(line.split(":")[0].split()[0], level))
     return [(f"`{name}`", *rest) for name, *rest in sorted(rows)]
 
 

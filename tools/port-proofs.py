@@ -26,6 +26,7 @@ def clauses():
             req = re.findall(r"(?m)^ *requires (\w+) \{", m.group(2))
             if ens or req:
                 found[m.group(1)] = (ens, req)
+            found[(path.split("/")[1], m.group(1))] = (ens, req)
     return found
 
 
@@ -45,6 +46,26 @@ def lent():
     return found
 
 
+def taken():
+    """All parameters of each function of the repository, in their order."""
+    found = {}
+    for path in sorted(glob.glob("crates/*/src/*.rt")):
+        for m in re.finditer(r"(?m)^ *(?:pub(?:\(crate\))? )?fn (\w+)(?:<[^>]*>)?\(([^)]*)\)", open(path, encoding="utf-8").read()):
+            found[m.group(1)] = [re.sub(r"^(&(?:'\w+ )?)?(mut )?", "", p.strip()).split(":")[0] for p in m.group(2).split(",") if p.strip()]
+    return found
+
+
+def arrays():
+    """The parameters of each function that are arrays by value."""
+    found = {}
+    for path in sorted(glob.glob("crates/*/src/*.rt")):
+        for m in re.finditer(r"(?m)^ *(?:pub(?:\(crate\))? )?fn (\w+)(?:<[^>]*>)?\(((?:[^()]|\([^)]*\))*)\)", open(path, encoding="utf-8").read()):
+            found[m.group(1)] = re.findall(r"(\w+): \[", m.group(2))
+    return found
+
+
+ARRAYS = {}
+ALL = {}
 MUTS = {}
 CLAUSES = {}
 WORDS = {"well_formed"}
@@ -91,7 +112,8 @@ def recorded(body, names):
             last = body[cut:].strip()
             if re.sub(r"\s+", " ", last) in EASY or last.startswith(("record", "elim", "simp", "rw ", "omega", "search", "?")):
                 return body
-            rows = "; ".join(f"{n} = both.{k}" for k, n in enumerate(names))
+            last_one = len(names) - 1
+            rows = "; ".join(f"{n} = both{'.1' * k}{'.0' if k < last_one else ''}" for k, n in enumerate(names))
             return f"{body[:cut]}\n    let both = {last} in\n    record {{ {rows} }}"
         head, tail = body[:places[0]], body[places[0]:]
     parts = split_tuple(tail)
@@ -225,6 +247,11 @@ class Function:
             self.parent[plain(place)] = plain(parent) if parent else None
             self.step[plain(place)] = (plain(old), new)
         self.place_new = {plain(p[0]): q for p, q in zip(facts["places"], facts["places_by_name"])}
+        self.callee = {}
+        for place, parent, (old, new), who, _ in facts["places"]:
+            if who:
+                parts = who.split("::")
+                self.callee[new] = (parts[0], parts[-1])
         self.needs = facts["needs"]
         self.at = [plain(a[0]) for a in facts["asked_at"]]
         self.typed = {}
@@ -308,21 +335,31 @@ class Function:
                 return m.group(0)
             if old in self.typed and m.group(3) == ".given":
                 return f"{m.group(1)}.type_inv.{self.typed[old]}"
-            new = steps.get(old) or self.all_steps().get(old) or steps.get(old.lower())
+            new = steps.get(old) or self.all_steps().get(old) or steps.get(old.lower()) or steps.get(re.sub(r"^Is", "", old).lower())
             return f"{m.group(1)}.{new}{m.group(3) or ''}" if new else m.group(0)
 
         body = re.sub(rf"(?<![\w'.-])({re.escape(var)})\.([\w'-]+)(\.[\w'-]+)?", word, body)
         body = re.sub(rf"(?<![\w'.-])({re.escape(var)})\.(if-not-[\w'-]+|[\w'-]+-test-not-[\w'-]+)\.(true|false)(?![\w'.-])", lambda m: f"(ap not {m.group(0)})" if re.sub(r"(-\d+)?$", "", re.sub(r".*not-", "", m.group(2))) in MUTS else m.group(0), body)
 
+        def placed_new(callee, path, whole):
+            row = ALL.get(callee, [])
+            k = path.count("1")
+            return row[k] if k < len(row) else whole
+
+        body = re.sub(rf"(?<![\w'.-])({re.escape(var)})\.([\w'-]+)\.new\.((?:1\.)+)0(?![\w'-])", lambda m: f"{m.group(1)}.{m.group(2)}.new.{placed_new(re.sub(r'-.*', '', m.group(2)), m.group(3), m.group(3) + '0')}", body)
+        for m in list(re.finditer(rf"let ([\w'-]+) = {re.escape(var)}\.([\w'-]+) in", body)):
+            body = re.sub(rf"(?<![\w'.-]){re.escape(m.group(1))}\.new\.((?:1\.)+)0(?![\w'-])", lambda n: f"{m.group(1)}.new.{placed_new(re.sub(r'-.*', '', m.group(2)), n.group(1), n.group(1) + '0')}", body)
+
         def base(step):
-            return re.sub(r"-.*", "", step)
+            who = self.callee.get(step)
+            return who if who in CLAUSES else re.sub(r"-.*", "", step)
 
         def fielded(callee, what, k):
             names = CLAUSES.get(callee, ([], []))
             if what in ("ensures", "requires"):
                 row = names[0 if what == "ensures" else 1]
                 return row[k] if len(row) > 1 and k < len(row) else str(k)
-            row = MUTS.get(callee, [])
+            row = MUTS.get(callee[1] if isinstance(callee, tuple) else callee, [])
             return row[k] if k < len(row) else str(k)
 
         body = re.sub(rf"(?<![\w'.-])({re.escape(var)})\.([\w'-]+)\.(ensures|requires|new|auto)\.(\d+)(?![\w'-])", lambda m: f"{m.group(1)}.{m.group(2)}.{m.group(3)}.{fielded(base(m.group(2)), m.group(3), int(m.group(4)))}", body)
@@ -330,6 +367,18 @@ class Function:
             body = re.sub(rf"(?<![\w'.-]){re.escape(m.group(1))}\.(ensures|requires|new|auto)\.(\d+)(?![\w'-])", lambda n: f"{m.group(1)}.{n.group(1)}.{fielded(base(m.group(2)), n.group(1), int(n.group(2)))}", body)
         for m in list(re.finditer(rf"let ([\w'-]+) = {re.escape(var)}\.([\w'-]+)\.(ensures|new|auto) in", body)):
             body = re.sub(rf"(?<![\w'.-]){re.escape(m.group(1))}\.(\d+)(?![\w'-])", lambda n: f"{m.group(1)}.{fielded(base(m.group(2)), m.group(3), int(n.group(1)))}", body)
+        def nested(whole, names):
+            return f"{whole}.{names[0]}" if len(names) == 1 else f"({whole}.{names[0]}, {nested(whole, names[1:])})"
+
+        def pair(m):
+            names = CLAUSES.get(base(m.group(2)), ([], []))[0]
+            return nested(m.group(0), names) if len(names) > 1 else m.group(0)
+
+        body = re.sub(rf"(?<![\w'.-])({re.escape(var)})\.([\w'-]+)\.ensures(?![\w'.-])(?! in\b)", pair, body)
+        for m in list(re.finditer(rf"let ([\w'-]+) = {re.escape(var)}\.([\w'-]+) in", body)):
+            names = CLAUSES.get(base(m.group(2)), ([], []))[0]
+            if len(names) > 1:
+                body = re.sub(rf"(?<![\w'.-]){re.escape(m.group(1))}\.ensures(?![\w'.-])", lambda n: nested(n.group(0), names), body)
         body = re.sub(rf"(?<![\w'.-]){re.escape(var)}\.args\.result(?![\w'-])", f"{var}.args.res", body)
         for m in re.finditer(rf"let ([\w'-]+) = {re.escape(var)}\.args in", body):
             body = re.sub(rf"(?<![\w'.-]){re.escape(m.group(1))}\.result(?![\w'-])", f"{m.group(1)}.res", body)
@@ -381,9 +430,20 @@ def convert(crate, name, facts, keep):
             measures.append(a)
         else:
             goals.append(a)
+    said = []
+    # an array that is passed by value had the name of a place of its own
+    whole = "\n".join(d["text"] for d in decls)
+    places = sorted({int(n) for n in re.findall(r"\.t(\d+)(?![\w'-])", whole)})
+    arrays = ARRAYS.get(name.split(".")[-1], [])
+    if places and len(places) == len(arrays):
+        table = {f"t{n}": a for n, a in zip(places, arrays)}
+        for d in decls:
+            d["text"] = re.sub(r"\.(t\d+)(?![\w'-])", lambda m: "." + table.get(m.group(1), m.group(1)), d["text"])
+            d["lines"] = d["text"].split("\n")
+    elif places:
+        said.append(f"{name}: places {places}, arrays {arrays}")
     used = set(inv + measures)
     needs = f.needs
-    said = []
     if len(goals) != len(needs):
         said.append(f"{name}: {len(goals)} old goals, {len(needs)} today")
     # lemmas over what a path shares: said again in each answer that uses them
@@ -604,6 +664,8 @@ def main():
     keep = "--keep" in sys.argv
     CLAUSES.update(clauses())
     MUTS.update(lent())
+    ALL.update(taken())
+    ARRAYS.update(arrays())
     for path in glob.glob(f"crates/{[w for w in sys.argv[1:] if not w.startswith('--')][0]}/src/*.rt"):
         WORDS.update(re.findall(r"\b[a-z]\w*_\w+\b", open(path, encoding="utf-8").read()))
     words = [w for w in sys.argv[1:] if not w.startswith("--")]

@@ -20,12 +20,12 @@ MUTABLE = re.compile(r"&(?:'\w+ )?mut\b")
 
 # Promises that are not an equation of the whole answer: why they fit one answer all the same.
 OTHERWISE = {
-    "tlv_write write": "`one-answer` in `crates/tlv_write/proofs/Refusals.antt`: refusal and size together are the answer",
-    "book_judged judged": "`entered-once` in `crates/book_judged/proofs/Theorem.antt`: no tape has two entries under one number",
-    "quick_judge judge": "`quick-plain` in `crates/quick_judge/proofs/Same.antt`: no tape has two findings",
-    "judge judge": "`judged-once` in `crates/verdict_judged/proofs/Once.antt`: no tape has two answers",
-    "lab due::lab_judge": "`found-once` in `crates/lab/proofs/Once.antt`: no tape has two findings",
-    "lab due::lab_judge_quick": "`found-once` in `crates/lab/proofs/Once.antt`: no tape has two findings",
+    "tlv_write write": "`one_answer` in `crates/tlv_write/proofs/Refusals.antt`: refusal and size together are the answer",
+    "book_judged judged": "`entered_once` in `crates/book_judged/proofs/Theorem.antt`: no tape has two entries under one number",
+    "quick_judge judge": "`quick_plain` in `crates/quick_judge/proofs/Same.antt`: no tape has two findings",
+    "judge judge": "`judged_once` in `crates/verdict_judged/proofs/Once.antt`: no tape has two answers",
+    "lab due::lab_judge": "`found_once` in `crates/lab/proofs/Once.antt`: no tape has two findings",
+    "lab due::lab_judge_quick": "`found_once` in `crates/lab/proofs/Once.antt`: no tape has two findings",
 }
 
 # Those that fit more than one answer: docs/EXCEPTIONS.md names each and says why.
@@ -35,12 +35,12 @@ EXCEPTIONS = {
     "judge_reading judge_file": "all: of what comes from a file no contract can speak",
     "playing next": "all: of a file and of standard output no contract can speak",
     "playing answer": "all: of a file and of standard output no contract can speak",
-    "select_list joining::clear": "bytes behind the rows that count; the list that they read as, `listIn`, is an equation",
-    "select_list joining::join": "bytes behind the rows that count; the list that they read as, `listIn`, is an equation",
-    "select_list joining::remove": "bytes behind the rows that count; the list that they read as, `listIn`, is an equation",
-    "select_search turns::begin": "bytes behind the rows that count; the list that they read as, `listIn`, is an equation",
-    "select_search turns::heard": "bytes behind the rows that count; the list that they read as, `listIn`, is an equation",
-    "session_choosing event::step": "bytes behind the rows that count; the list that they read as, `listIn`, and all else are one equation",
+    "select_list joining::clear": "bytes behind the rows that count; the list that they read as, `list_in`, is an equation",
+    "select_list joining::join": "bytes behind the rows that count; the list that they read as, `list_in`, is an equation",
+    "select_list joining::remove": "bytes behind the rows that count; the list that they read as, `list_in`, is an equation",
+    "select_search turns::begin": "bytes behind the rows that count; the list that they read as, `list_in`, is an equation",
+    "select_search turns::heard": "bytes behind the rows that count; the list that they read as, `list_in`, is an equation",
+    "session_choosing event::step": "bytes behind the rows that count; the list that they read as, `list_in`, and all else are one equation",
 }
 
 HEAD = """# Every public function
@@ -108,6 +108,18 @@ def outside(text, marks):
     return any(len(split(f" {text} ", mark)) > 1 for mark in marks)
 
 
+def clauses(text):
+    """Each clause of a signature, `requires` or `ensures`, with a name or without one, up to the body's bracket."""
+    at = re.search(r"\b(?:requires|ensures)\b|\{|$", text).start()
+    while True:
+        found = re.compile(r"\s*(requires|ensures)\b[^{]*\{").match(text, at)
+        if not found:
+            return
+        closes = bracketed(text, found.end() - 1)
+        yield found.group(1), text[found.end():closes].strip()
+        at = closes + 1
+
+
 class Function:
     """A signature and its promise: what is lent by `&mut`, what is handed back, and each fact that is promised."""
 
@@ -116,43 +128,50 @@ class Function:
         closes = bracketed(text, opens)
         self.name = re.search(r"\bfn (\w+)", text).group(1)
         rest = text[closes + 1:]
-        head = re.split(r"\b(?:requires|ensures)\b", rest)[0].rstrip().rstrip("{").strip()
+        head = re.split(r"\b(?:requires|ensures|where)\b|\{", rest)[0].strip()
         self.result = head[2:].strip() if head.startswith("->") else None
-        self.requires = re.search(r"\brequires\b", rest) is not None
-        self.lent, self.facts = [], []
+        self.requires, self.lent, self.facts = False, [], []
         for param in split(text[opens + 1:closes], ","):
             name, _, kind = param.partition(":")
             held = any(re.search(rf"\b{holder}\b", kind) for holder in holders)
             if held or MUTABLE.search(kind or name):
                 self.lent.append(name.split()[-1])
-        for variable, clause in re.findall(r"ensures[^{]*\{ λ (\w+)\.\s+⌜ (.*?) ⌝ \}", rest, re.S):
+        for kind, clause in clauses(rest):
+            self.requires = self.requires or kind == "requires"
             clause = bare(" ".join(clause.split()))
             parts = [clause] if outside(clause, "→⊎∨") else split(clause, "×")
-            self.facts += [(variable, bare(part)) for part in parts]
+            self.facts += [bare(part) for part in parts] if kind == "ensures" else []
 
     def equations(self):
         """Left and right side of each fact that is an equation from what was there at the call."""
-        for variable, fact in self.facts:
+        for fact in self.facts:
             sides = split(fact, "≡")
-            if len(sides) != 2 or outside(fact, "→⊎∨×") or ".exit" in sides[1]:
+            if len(sides) != 2 or outside(fact, "→⊎∨×") or re.search(r"\.new\b", sides[1]):
                 continue
-            if not re.search(rf"(?<![\w.]){variable}(?!\w)", sides[1]):
-                yield variable, bare(sides[0]), sides[1]
+            if not re.search(r"(?<![\w.])result(?!\w)", sides[1]):
+                yield bare(sides[0]), sides[1]
+
+    def where_ok(self):
+        """What is promised of the value where the result is `Ok`."""
+        for fact in self.facts:
+            found = re.fullmatch(r"IfOk result \(λ (\w+)\. \1 ≡ (.*)\)", fact)
+            if found:
+                yield found.group(2)
 
 
 def seen(function, fields, joins):
     """What the promise has equations for, in words, and what it leaves open. `fields` are those of the result's struct, `joins`
     the definitions that hold a whole result and what one `&mut` holds afterwards."""
     words, told, open_ = [], set(), set(function.lent) | ({"result"} if function.result else set())
-    for variable, left, right in function.equations():
-        lent = re.fullmatch(r"now \((\w+) \.exit\)", left)
-        joined = re.fullmatch(rf"(\w+) {variable}((?: \(now \(\w+ \.exit\)\))+)", left)
-        buffers = re.findall(r"now \((\w+) \.exit\)", joined.group(2)) if joined else []
-        field = re.fullmatch(rf"{variable} \.(\w+)", left)
-        if left == variable and function.result:
+    for left, right in function.equations():
+        lent = re.fullmatch(r"(\w+)\.new", left)
+        joined = re.fullmatch(r"(\w+) result((?: \w+\.new)+)", left)
+        buffers = re.findall(r"(\w+)\.new", joined.group(2)) if joined else []
+        field = re.fullmatch(r"result\.(\w+)", left)
+        if left == "result" and function.result:
             words.append(f"result ≡ {named(right)}")
             open_.discard("result")
-        elif left == f"now {variable}" and re.match(r"&(?:'\w+ )?\[", function.result or ""):
+        elif left == "result.now" and re.match(r"&(?:'\w+ )?\[", function.result or ""):
             words.append(f"part handed back ≡ {named(right)}")
             open_.discard("result")
         elif field:
@@ -164,8 +183,9 @@ def seen(function, fields, joins):
             left_in = " and ".join(f"`{buffer}`" for buffer in buffers)
             words.append(f"all that the call leaves, every field handed back and {left_in}, ≡ {named(right)}")
             open_ -= {"result", *buffers}
-        elif re.fullmatch(rf"\w+ {variable}", left):
+        elif re.fullmatch(r"\w+ result", left):
             words.append(f"`{left.split()[0]}` of it ≡ {named(right)}")
+    words += [f"the value where it is Ok ≡ {named(value)}" for value in function.where_ok()]
     if told and fields and told >= set(fields):
         words.append("result, field by field")
         open_.discard("result")
@@ -176,13 +196,11 @@ def seen(function, fields, joins):
 
 def named(definition):
     """The definition that an equation's right side begins with."""
-    return "`" + re.match(r"\(*([^\s()]+(?: \.\w+)*)", definition).group(1) + "`"
+    return "`" + re.match(r"\(*([^\s()]+)", definition).group(1) + "`"
 
 
 def crates():
-    for line in (ROOT / "crates.txt").read_text().splitlines():
-        if ":" in line and not line.startswith("#"):
-            yield line.split(":")[0].strip()
+    yield from re.findall(r"^(\w+)[^#:\n]*:", (ROOT / "crates.txt").read_text(), re.M)
 
 
 def sources(crate):
@@ -205,18 +223,18 @@ def fields_of(name, crate, text):
 
 def joins_in(text, crate, fields):
     """The definitions that a source names, of the form `f r b .. = record {..}`, which hold all of r and of each b."""
-    for home, file, names in re.findall(r"^ghost use Rattle·(\w+?)(?:·specs)?\.specs\.(\w+)\.\{([^}]*)\}", text, re.M):
+    for home, file, names in re.findall(r"^ghost use Rattle\.(\w+)\.specs\.(\w+)\.\{([^}]*)\}", text, re.M):
         path = ROOT / "crates" / home / "specs" / (file + ".antt")
         body = path.read_text() if path.exists() else ""
-        for name in re.findall(r"\w+", names):
-            found = re.search(rf"^{name} (\w+)((?: \w+)+) = record \{{ (.*) \}}$", body, re.M)
+        for name, _, here in (part.strip().partition(" as ") for part in names.split(",")):
+            found = re.search(rf"^{re.escape(name)} (\w+)((?: \w+)+) = record \{{ (.*) \}}$", body, re.M)
             if found and holds_all(found.group(3), found.group(1), found.group(2).split(), fields):
-                yield name
+                yield here or name
 
 
 def holds_all(body, result, buffers, fields):
     values = {part.partition("=")[2].strip() for part in body.split(";")}
-    return set(buffers) <= values and (result in values or (bool(fields) and {f"{result} .{field}" for field in fields} <= values))
+    return set(buffers) <= values and (result in values or (bool(fields) and {f"{result}.{field}" for field in fields} <= values))
 
 
 def reachable(lib):
@@ -241,8 +259,7 @@ def functions(crate, holders):
             found = re.match(r"^\s*pub (?:extern \"C\" )?fn (\w+)", line)
             if not found or not (owner or module == "lib" or module in modules or (module, found.group(1)) in names):
                 continue
-            end = next(n for n in range(at, len(lines)) if lines[n].strip() == "{" or lines[n].endswith(" {"))
-            function = Function("\n".join(lines[at:end + 1]), holders)
+            function = Function("\n".join(lines[at:]), holders)
             kind = re.sub(r"<.*>", "", function.result or "").replace("Self", owner or "Self")
             fields = fields_of(kind, crate, text) if kind.isidentifier() else {}
             prefix = owner or ("" if module == "lib" or (module, function.name) in names else module)
@@ -277,28 +294,30 @@ def page():
 
 # Made-up functions, with what the reader must find left open. The result's struct is said to have the fields `state` and `due`.
 MADE_UP = [
-    ("pub fn f(s: &[u8]) -> usize\n ensures { λ r. ⌜ (r ≡ g (now (s .entry))) × (r < 256) ⌝ }", set()),
-    ("pub fn f(s: &[u8]) -> &[u8]\n ensures { λ r. ⌜ now r ≡ take 3 (now (s .entry)) ⌝ }", set()),
-    ("pub fn f(buf: &mut [u8], at: usize)\n ensures { λ _. ⌜ now (buf .exit) ≡ laid at (now (buf .entry)) ⌝ }", set()),
-    ("pub fn f(\n a: &mut [u8],\n b: &mut [u8],\n) -> u8\n ensures { λ r. ⌜ r ≡ g ⌝ }\n ensures { λ _. ⌜ now (a .exit) ≡ h ⌝ }", {"b"}),
-    ("pub fn f(buf: &mut [u8]) -> usize\n ensures { λ r. ⌜ r ≡ sizeOf (now (buf .entry)) ⌝ }", {"buf"}),
-    ("pub fn read(&mut self) -> u8\n ensures { λ n. ⌜ n ≡ nextOf (now (self .entry)) ⌝ }", {"self"}),
-    ("pub fn f(buf: &'a mut [u8])\n ensures { λ _. ⌜ length (now (buf .exit)) ≡ 4 ⌝ }", {"buf"}),
-    ("pub fn f(s: State, held: Holder) -> u8\n ensures { λ r. ⌜ r ≡ g s ⌝ }", {"held"}),
-    ("pub fn f(s: &[u8]) -> usize\n ensures { λ r. ⌜ r ≡ 0 → (s ≡ s) ⌝ }", {"result"}),
-    ("pub fn f(s: &[u8]) -> usize\n ensures { λ r. ⌜ (r ≡ 0) ⊎ (r ≡ 1) ⌝ }", {"result"}),
-    ("pub fn f(s: &[u8]) -> usize\n ensures { λ r. ⌜ (r ≡ 0) × (r ≡ r) → (r ≡ 1) ⌝ }", {"result"}),
-    ("pub fn f(s: &[u8]) -> usize\n ensures { λ r. ⌜ r ≡ r + 0 ⌝ }", {"result"}),
-    ("pub fn f(s: &[u8]) -> usize\n ensures { λ r. ⌜ r < 4 ⌝ }", {"result"}),
-    ("pub fn f(s: &[u8]) -> Value\n ensures { λ r. ⌜ held r ≡ valueFor s ⌝ }", {"result"}),
-    ("pub fn f(buf: &mut [u8]) -> usize\n ensures { λ r. ⌜ r ≡ length (now (buf .exit)) ⌝ }", {"buf", "result"}),
-    ("pub fn f() -> Step\n ensures { λ r. ⌜ (r .state ≡ fresh) × (r .due ≡ 0) ⌝ }", set()),
-    ("pub fn f() -> Step\n ensures { λ r. ⌜ r .state ≡ fresh ⌝ }", {"result"}),
-    ("pub fn f(buf: &mut [u8]) -> Step\n ensures { λ r. ⌜ played r (now (buf .exit)) ≡ moved s (now (buf .entry)) ⌝ }", set()),
-    ("pub fn f(buf: &mut [u8]) -> Step\n ensures { λ r. ⌜ summed r (now (buf .exit)) ≡ moved s ⌝ }", {"buf", "result"}),
-    ("pub fn f(a: &mut [u8], b: &mut [u8]) -> Step\n ensures { λ r. ⌜ played r (now (a .exit)) ≡ moved s ⌝ }", {"b"}),
-    ("pub fn f(a: &mut [u8], b: &mut [u8]) -> Step\n ensures { λ r. ⌜ played r (now (a .exit)) (now (b .exit)) ≡ moved s ⌝ }", set()),
+    ("pub fn f(s: &[u8]) -> usize\n ensures { (result ≡ g s.now) × (result < 256) }", set()),
+    ("pub fn f(s: &[u8]) -> &[u8]\n ensures { result.now ≡ take 3 s.now }", set()),
+    ("pub fn f(buf: &mut [u8], at: usize)\n ensures { buf.new ≡ laid at buf.old }", set()),
+    ("pub fn f(\n a: &mut [u8],\n b: &mut [u8],\n) -> u8\n ensures value { result ≡ g }\n ensures a_after { a.new ≡ h }\n{ a[0] }", {"b"}),
+    ("pub fn f(buf: &mut [u8]) -> usize\n ensures { result ≡ size_of buf.old }", {"buf"}),
+    ("pub fn read(&mut self) -> u8\n ensures { result ≡ next_of self.old }", {"self"}),
+    ("pub fn f(buf: &'a mut [u8])\n ensures { length buf.new ≡ 4 }", {"buf"}),
+    ("pub fn f(s: State, held: Holder) -> u8\n ensures { result ≡ g s }", {"held"}),
+    ("pub fn f(s: &[u8]) -> usize\n ensures { result ≡ 0 → (s ≡ s) }", {"result"}),
+    ("pub fn f(s: &[u8]) -> usize\n ensures { (result ≡ 0) ⊎ (result ≡ 1) }", {"result"}),
+    ("pub fn f(s: &[u8]) -> usize\n ensures { (result ≡ 0) × (result ≡ result) → (result ≡ 1) }", {"result"}),
+    ("pub fn f(s: &[u8]) -> usize\n ensures { result ≡ result + 0 }", {"result"}),
+    ("pub fn f(s: &[u8]) -> usize\n ensures { result < 4 }", {"result"}),
+    ("pub fn f(s: &[u8]) -> Value\n ensures { held result ≡ value_for s }", {"result"}),
+    ("pub fn f(buf: &mut [u8]) -> usize\n ensures { result ≡ length buf.new }", {"buf", "result"}),
+    ("pub fn f() -> Step\n ensures { (result.state ≡ fresh) × (result.due ≡ 0) }", set()),
+    ("pub fn f() -> Step\n ensures { result.state ≡ fresh }", {"result"}),
+    ("pub fn f(buf: &mut [u8]) -> Step\n ensures { played result buf.new ≡ moved s buf.old }", set()),
+    ("pub fn f(buf: &mut [u8]) -> Step\n ensures { summed result buf.new ≡ moved s }", {"buf", "result"}),
+    ("pub fn f(a: &mut [u8], b: &mut [u8]) -> Step\n ensures { played result a.new ≡ moved s }", {"b"}),
+    ("pub fn f(a: &mut [u8], b: &mut [u8]) -> Step\n ensures { played result a.new b.new ≡ moved s }", set()),
+    ("pub fn f(rt: &impl Print) -> Result<(), E>\n ensures { IfOk result (λ r. r ≡ tt) }", {"result"}),
     ("pub fn f(s: &[u8]) -> usize {", {"result"}),
+    ("pub fn f(s: &[u8]) -> usize {\n 0\n}\npub fn g() -> usize\n ensures { result ≡ 0 }\n{ 0 }", {"result"}),
 ]
 
 
@@ -310,8 +329,8 @@ def selftest():
         if open_ != expected:
             bad += 1
             print(f"left open {sorted(open_)}, and should be {sorted(expected)}:\n{text}\n")
-    joins = [("state = r .state; due = r .due; buffer = out", True), ("answer = r; tape = out", True),
-             ("state = r .state; buffer = out", False), ("state = r .state; due = r .due; buffer = length out", False)]
+    joins = [("state = r.state; due = r.due; buffer = out", True), ("answer = r; tape = out", True),
+             ("state = r.state; buffer = out", False), ("state = r.state; due = r.due; buffer = length out", False)]
     for body, expected in joins:
         if holds_all(body, "r", ["out"], fields) != expected:
             bad += 1

@@ -45,7 +45,7 @@ class Made(Trial):
         for name in ("rt", "gcc", "rustc"):
             if shutil.which(name) is None:
                 return f"{name} is not here"
-        subprocess.run(["rt", "staticlib", "lab"], cwd=ROOT, check=True, capture_output=True, timeout=3000)
+        subprocess.run([ROOT / "tools" / "static-library"], check=True, capture_output=True, timeout=3000)
         made = Made.folder_of_all
         subprocess.run(["gcc", "-std=c11", "-O2", "-Wall", "-Wextra", "-Werror", "-I", LIBRARY, LIBRARY / "example.c", ARCHIVE,
                         "-o", made / "c"], check=True)
@@ -88,14 +88,14 @@ class Declarations(Trial):
             self.assertIn("x86-64 Linux alone", (LIBRARY / name).read_text()[:60])
 
     def test_a_type_that_is_not_known_stops_it(self):
-        form = '#[no_mangle]\npub extern "C" fn lab_x({}){}\n    ensures {{ }}\n{{\n}}\n'
+        form = '#[unsafe(no_mangle)]\npub extern "C" fn lab_x({}){}\n    ensures {{ }}\n{{\n}}\n'
         for parameters, result in (("a: &[u32]", ""), ("a: &mut u32", ""), ("a: Entry", ""), ("a: &mut [u8; 4]", ""), ("a", ""),
                                    ("a: u8", " -> Found"), ("a: &[u8]", " -> &[u8]"), ("a: i32", "")):
             (self.folder / "lib.rt").write_text(form.format(parameters, result))
             done = self.headers("--check", "--source", str(self.folder))
             self.assertEqual((done.returncode, done.stdout), (2, ""), (parameters, result))
             self.assertIn("known", done.stderr)
-        (self.folder / "lib.rt").write_text("#[no_mangle]\npub extern fn lab_x()\n{\n}\n")
+        (self.folder / "lib.rt").write_text("#[unsafe(no_mangle)]\npub extern fn lab_x()\n{\n}\n")
         self.assertEqual(self.headers("--check", "--source", str(self.folder)).returncode, 2)
         (self.folder / "lib.rt").write_text("")
         self.assertEqual(self.headers("--check", "--source", str(self.folder)).returncode, 2)

@@ -213,7 +213,7 @@ class Trees(Trial):
         tree = self.folder / "tree"
         tree.mkdir()
         for name in ("bin", "lab", "crates", "samples"):
-            shutil.copytree(ROOT / name, tree / name, symlinks=True)
+            shutil.copytree(ROOT / name, tree / name, symlinks=True, ignore=shutil.ignore_patterns("out"))
         shutil.copy(ROOT / "crates.txt", tree)
         (tree / "target/bin").mkdir(parents=True)
         (tree / "target/lab").mkdir()
@@ -261,7 +261,7 @@ class Trees(Trial):
         os.unlink(tree / "target/bin/lab_tapes")
         kit = self.folder / "kit/bin"
         kit.mkdir(parents=True)
-        (kit / "rt").write_text("#!/bin/sh\necho 'rt: slices proved (1 s)'\necho 'the seventh seal'\nexit 1\n")
+        (kit / "rt").write_text("#!/bin/sh\nexec >&2\necho 'crate slices: modules loaded=7 checked=1'\necho 'the seventh seal'\nexit 1\n")
         (kit / "rt").chmod(0o755)
         return tree, dict(os.environ, PATH=f"{kit}:{os.environ['PATH']}", RATTLE_HOME="")
 

@@ -1,5 +1,7 @@
 // Reading an answer to reset: from the captured bytes, and whether the reset was cold or warm, either what the answer tells or the
 // rules that it breaks.
+#![tactic(auto)]
+
 ghost use Rattle.std.specs.Prelude.{◌≡◌};
 ghost use Rattle.atr.specs.Reading.{is_inverse, ts_broken, or_else, protocol_of, interval_of, told_of, read_reset, historical_of};
 

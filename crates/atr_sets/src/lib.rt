@@ -1,4 +1,6 @@
 // Sets of rules, a bit for each number and the lowest for 1: the first, whether one is in it, and where its character stands.
+#![tactic(auto)]
+
 ghost use Rattle.std.specs.Prelude.{◌≡◌};
 ghost use Rattle.atr_rules.specs.Names.{numbers};
 ghost use Rattle.atr_sets.specs.Sets.{lowest, has_rule, place_of};

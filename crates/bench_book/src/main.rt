@@ -11,6 +11,8 @@
 //
 // Out: for ENTER and RUN the (last) reply and the four counts with their sum; for STORED the blocks used, the CRC-32 of their bytes and
 // that of the rest of the room; for OPEN the blocks and the counts, or the block and the number of the fault.
+#![tactic(auto)]
+
 mod desk;
 
 use book::Book;

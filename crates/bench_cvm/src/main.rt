@@ -4,37 +4,41 @@
 //
 // START's first 21 bytes, the values of the tags and the bytes handed in are in hexadecimal, `-` for none. Each line of standard
 // output has the number of rules, and TVR byte 3 in hexadecimal, or that the bytes handed in are refused.
+#![tactic(auto)]
+
 use cvm::list::{are_results, in_application_currency, rules_in};
 use cvm::verify::verify;
 use cvm_rules::Circumstances;
-use libc::STDIN_FILENO;
 use slices::byte;
 use start_fields::fields;
 use start_fields::fields::Field;
+use std::io;
 use text_hex::unhex;
+use text_input::read_full;
 use text_lines::{after_word, line_end};
 
-fn main() {
+fn main(rt: HostRuntime) -> io::Result<()> {
     let mut input = [0u8; 524288];
-    let n = io::read_full(STDIN_FILENO, &mut input);
-    answer_all(&input[..n]);
+    let n = read_full(&rt, &mut input);
+    answer_all(&rt, &input[..n])
 }
 
-fn answer_all(s: &[u8]) {
+fn answer_all(rt: &impl Print, s: &[u8]) -> io::Result<()> {
     let mut at = 0;
     while at < s.len() {
         let end = line_end(s, at);
-        answer(&s[at..end]);
+        answer(rt, &s[at..end])?;
         at = end + 1;
     }
+    Ok(())
 }
 
-fn answer(line: &[u8]) {
+fn answer(rt: &impl Print, line: &[u8]) -> io::Result<()> {
     let mut start = [0u8; 21];
     let n = unhex(line, &mut start);
     let words = after_word(line);
     let c = circumstances(&start[0..n], words);
-    print_verified(c, after_word(after_word(words)));
+    print_verified(rt, c, after_word(after_word(words)))
 }
 
 // From START, and the words that begin with 9F33 and 9F42.
@@ -60,22 +64,22 @@ fn is_home(start: &[u8], words: &[u8]) -> bool {
     )
 }
 
-fn print_verified(c: Circumstances, words: &[u8]) {
+fn print_verified(rt: &impl Print, c: Circumstances, words: &[u8]) -> io::Result<()> {
     let mut list = [0u8; 512];
     let n = unhex(words, &mut list);
     let mut results = [0u8; 512];
     let m = unhex(after_word(words), &mut results);
-    print_line(c, &list[0..n], &results[0..m]);
+    print_line(rt, c, &list[0..n], &results[0..m])
 }
 
-fn print_line(c: Circumstances, list: &[u8], results: &[u8]) {
-    text_print::number(rules_in(list));
+fn print_line(rt: &impl Print, c: Circumstances, list: &[u8], results: &[u8]) -> io::Result<()> {
+    text_print::number(rt, rules_in(list))?;
     if are_results(rules_in(list), results) {
         let bits = [verify(list, results, c)];
-        text_print::text(b" ");
-        text_print::bytes(&bits);
+        text_print::text(rt, b" ")?;
+        text_print::bytes(rt, &bits)?;
     } else {
-        text_print::text(b" refused");
+        text_print::text(rt, b" refused")?;
     }
-    text_print::text(b"\n");
+    text_print::text(rt, b"\n")
 }

@@ -1,4 +1,6 @@
 // The judge's answer as an entry of the campaign book.
+#![tactic(auto)]
+
 ghost use Rattle.std.specs.Prelude.{◌≡◌};
 ghost use Rattle.book_answer.specs.Answers.{verdict_number, entry_of};
 

@@ -1,1 +1,3 @@
 // Laws of the campaign book: no code, see specs/ and proofs/.
+
+#![tactic(auto)]

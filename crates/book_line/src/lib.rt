@@ -1,4 +1,6 @@
 // The judge's line as an entry of the campaign book.
+#![tactic(auto)]
+
 ghost use Rattle.std.specs.Prelude.{◌≡◌};
 ghost use Rattle.book_line.specs.Lines.{word_in, verdict_named, closes, nothing, fields_said, entry_said};
 

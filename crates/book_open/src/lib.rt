@@ -1,4 +1,6 @@
 // A campaign book reopened from any bytes: its end as it was, or the block at which the bytes are refused, and why.
+#![tactic(auto)]
+
 ghost use Rattle.std.specs.Prelude.{◌≡◌, ◌≤◌, ◌*◌, ◌+◌, length};
 ghost use Rattle.tape_read.specs.Entries.{block_size};
 ghost use Rattle.tape_read.specs.Tapes.{block_at};

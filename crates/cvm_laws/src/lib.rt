@@ -1,1 +1,3 @@
 // Cardholder verification has definitions and laws here: see specs/ and proofs/.
+
+#![tactic(auto)]

@@ -7,7 +7,7 @@ use mathlib.Core.Option
 use Prim.Native.Nat.{ℕ, zero, suc, ◌/◌, ◌%◌, ◌≤◌, ◌<◌}
 use native.Mathlib.Omega.{arith}
 use lib.Bits.{bit_or, or_zero_r, or_shr, or_mod}
-use lib.ListN.{length, get_or, take, length-take}
+use lib.ListN.{length, get_or, length-take}
 use Rattle.start_fields.specs.Reading.{Terminal}
 use Rattle.answer_common.specs.Answer.{value_most}
 use Rattle.facts.specs.Facts.{Facts}

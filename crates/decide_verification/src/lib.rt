@@ -1,4 +1,6 @@
 // Cardholder verification in a session: whether results are due, how many, and what they set in TVR and TSI.
+#![tactic(auto)]
+
 ghost use Rattle.std.specs.Prelude.{◌≡◌, get_or};
 ghost use Rattle.start_fields.specs.Reading.{reading_of, bytes_of};
 ghost use Rattle.session_records.specs.Slots.{told_in};

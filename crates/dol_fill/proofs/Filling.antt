@@ -1,11 +1,10 @@
 -- An object list, filled: its bytes go by the entry at the front and the rest, and are as many as it asks for.
 -- Assumes nothing.
-use Rattle.std.proofs.Common.{◌≡◌, ℕ, ◌+◌, ◌-◌, ◌<◌, ◌≤◌, min, true, false, leb, List, [], ◌∷◌, ◌++◌, length, take, drop, replicate, sym, refl, ap, ◌∙◌, ap₂, arith, length-append, length-drop, length-take, le-leb}
+use Rattle.std.proofs.Common.{◌≡◌, ℕ, ◌+◌, ◌-◌, ◌<◌, ◌≤◌, min, true, List, [], ◌∷◌, ◌++◌, length, take, drop, replicate, sym, refl, ap, ◌∙◌, ap₂, arith, length-append, length-drop, length-take, le-leb}
 use mathlib.Core.Bool.{false≢true}
 use mathlib.Core.Option.{Option, none, some}
 use lib.ListN.{length-replicate}
 use borrow.Author.Tests.{lt-leb}
-use Rattle.slices.specs.Choice.{pick}
 use Rattle.slices.specs.Writing.{zeros, put}
 use Rattle.slices.proofs.Choice.{pick_yes, pick_no}
 use Rattle.slices.proofs.Writing.{zeros_length, put_step}

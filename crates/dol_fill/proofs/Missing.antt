@@ -4,7 +4,6 @@
 use Rattle.std.proofs.Common.{◌≡◌, ℕ, zero, suc, ◌+◌, ◌*◌, ◌<◌, ◌≤◌, true, false, ltb, List, [], length, get_or, drop, refl, ap, ◌∙◌, arith, length-drop, ltb-false, ltb-true}
 use mathlib.Core.Bool.{false≢true}
 use mathlib.Core.Option.{Option, none, some}
-use Rattle.slices.specs.Choice.{pick}
 use Rattle.slices.specs.Tests.{is_some}
 use Rattle.slices.proofs.Choice.{pick_yes, pick_no, picked, either}
 use Rattle.slices.proofs.Cutting.{none_left}

@@ -11,6 +11,8 @@
 //     ANSWER bytes     the whole answer up to 496 bytes, of a longer one its first 259, which end the session with reason 1
 //     SILENCE          where there is no answer, there is none to hand on
 //     ERROR why        the line is none of these: nothing may be handed on
+#![tactic(auto)]
+
 use apdu::handed;
 use slices::{alike, part};
 use text_hex::unhex;

@@ -7,7 +7,7 @@ use Prim.Native.Nat.{ℕ, ◌≤◌, ◌<◌}
 use lib.Dec.{eqb}
 use lib.ListN.{length}
 use borrow.Author.Tests.{lt-ltb, le-ltb}
-use Rattle.slices.specs.Choice.{pick, first_of}
+use Rattle.slices.specs.Choice.{first_of}
 use Rattle.slices.proofs.Choice.{pick_yes, pick_no}
 use Rattle.start_valid.specs.Start.{begins_session}
 use Rattle.numbers.specs.Tables.{start, answer, silence}

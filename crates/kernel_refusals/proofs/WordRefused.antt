@@ -9,7 +9,7 @@ use native.Mathlib.Omega.{arith}
 use lib.Dec.{eqb}
 use lib.ListN.{length}
 use borrow.Author.Tests.{eqb-true, eqb-false, ne_eqb, not-true, not-false}
-use Rattle.slices.specs.Choice.{pick, first_of}
+use Rattle.slices.specs.Choice.{first_of}
 use Rattle.slices.proofs.Choice.{pick_yes, pick_no, picked, either}
 use Rattle.numbers.specs.Tables.{answer, silence, refused_choice}
 use Rattle.tape_read.specs.Entries.{Entry}

@@ -1,4 +1,6 @@
 // When a call of a session is turned away. The event is handed in as the entry that it would be on a tape, by its kind and payload.
+#![tactic(auto)]
+
 ghost use Rattle.std.specs.Prelude.{◌≡◌};
 ghost use Rattle.tape_read.specs.Entries.{entry};
 ghost use Rattle.slices.specs.Choice.{first_of};

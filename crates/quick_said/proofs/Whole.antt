@@ -18,11 +18,11 @@ use Rattle.rulebook_zeros.specs.Zeros.{unsupplied_in}
 use Rattle.verdict_under.specs.Progress as Any
 use Rattle.verdict_under.specs.Summing as Sums
 use Rattle.verdict_under.proofs.Zeroing as Numbers
-use Rattle.rulebook_zeros.specs.Summing.{new_in, zeros_of}
+use Rattle.rulebook_zeros.specs.Summing.{zeros_of}
 use Rattle.rulebook_zeros.proofs.Most.{zeros_most}
 use Rattle.verdict_judged.specs.Judged.{Judged}
 use Rattle.verdict_judged.specs.Zeroed.{Zeroed}
-use Rattle.verdict_judged.specs.Progress.{begun, reads_all, concluded, finally, verdict_of}
+use Rattle.verdict_judged.specs.Progress.{begun, reads_all, concluded, finally}
 use Rattle.verdict_judged.proofs.Meaning.{verdict_right, zeros_in, zeroed_right}
 use Rattle.quick_said.specs.Said.{entries_from, zeros_after, said_from, found_from}
 

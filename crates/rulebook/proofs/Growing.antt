@@ -11,7 +11,6 @@ use Rattle.decide_verification.proofs.Laws.{results_kept, performed_kept}
 use Rattle.decide_tvr.proofs.Rows.{joined_self, kept_on}
 use Rattle.decide_tvr.proofs.Laws.{tvr_kept, tsi_kept, tsi_kept_on}
 use Rattle.sessions.proofs.Rows.{reading_in_row}
-use Rattle.sessions.specs.Session as Under
 use Rattle.rulebook.specs.Situation.{Situation, begun}
 use Rattle.words.specs.declared.Word.{Word}
 use Rattle.rulebook.specs.Phase.{Asked, Heard, terminal, says, Phase, asks, hears, situation_of, tvr_of, tsi_of}

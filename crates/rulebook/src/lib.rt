@@ -1,1 +1,3 @@
 // The rulebook has definitions and laws only: see specs/.
+
+#![tactic(auto)]

@@ -16,7 +16,7 @@ use Rattle.tape_read.specs.Entries.{Entry, entry}
 use Rattle.start_valid.specs.Start.{begins_session}
 use Rattle.sessions.specs.Session as Under
 use Rattle.sessions.proofs.Breaks.{begins_empty}
-use Rattle.rulebook.specs.Session.{Session, Open, BreaksAt}
+use Rattle.rulebook.specs.Session.{Session, BreaksAt}
 use Rattle.rulebook.proofs.Opening.{reached}
 use Rattle.rulebook.specs.Roles.{given, begins, Kernel, RightKernel, Verdict, pass, inconclusive, fail, Judge, RightJudge}
 use Rattle.rulebook.proofs.Made.{start_of, select, selected, with_list, options, with_number, optioned, read_one, recorded, number}

@@ -1,4 +1,6 @@
 // The command that a search asks, laid into a lent buffer.
+#![tactic(auto)]
+
 ghost use Rattle.std.specs.Prelude.{◌≡◌, ◌≤◌, length};
 ghost use Rattle.slices.specs.Choice.{pick};
 ghost use Rattle.slices.specs.Writing.{laid};

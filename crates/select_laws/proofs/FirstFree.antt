@@ -12,7 +12,7 @@ use borrow.Author.Tests.{leb-false, lt-leb}
 use Rattle.slices.specs.Choice.{pick}
 use Rattle.slices.proofs.Choice.{pick_yes, pick_no, picked, either}
 use Rattle.select_answers.specs.Directory.{Met}
-use Rattle.select_list.specs.Order.{Candidate, priority, confirms, candidate_of, placed}
+use Rattle.select_list.specs.Order.{Candidate, confirms, candidate_of, placed}
 use Rattle.select_list.specs.Ordered.{Behind, Ordered}
 use Rattle.select_list.specs.Kept.{candidate_in, candidate_at}
 use Rattle.start_list.specs.Rows.{mark_in}

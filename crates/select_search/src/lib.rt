@@ -1,4 +1,6 @@
 // The search for an application: where it stands, and what an answer and a choice make of it. The list of applications is lent.
+#![tactic(auto)]
+
 mod directory;
 mod finals;
 mod going;

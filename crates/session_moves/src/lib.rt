@@ -1,5 +1,7 @@
 // A step of a session: from a state to the state that waits for what comes next. The two commands that more than one step asks,
 // and the ends that more than one step has.
+#![tactic(auto)]
+
 pub mod command;
 pub mod ends;
 pub mod known;

@@ -1,4 +1,6 @@
 // What a session waits for, and what a call is answered with.
+#![tactic(auto)]
+
 mod due;
 mod say;
 

@@ -1,7 +1,7 @@
 -- What is kept of a good record is read as the facts with the same told: each value has room in its slot, and no name is told twice.
 -- Assumes nothing.
 use mathlib.Core.Path.{◌≡◌, refl, sym, ap, fun_ext, ◌∙◌}
-use mathlib.Core.Bool.{true, false, false≢true}
+use mathlib.Core.Bool.{true, false≢true}
 use mathlib.Core.List.{List, map}
 use mathlib.Core.Option.{Option, none, some}
 use Prim.Native.Nat.{ℕ}
@@ -12,7 +12,6 @@ use Rattle.slices.specs.Choice.{pick}
 use Rattle.slices.proofs.Choice.{pick_yes, pick_no, either}
 use Rattle.slices.specs.Tests.{is_some}
 use Rattle.tlv_list.specs.Place.{object_at, places_from}
-use Rattle.tlv_list.specs.Lookup.{twice}
 use Rattle.tlv_list.proofs.Walking.{places_members}
 use Rattle.tlv_head.specs.Head.{constructed, first_byte}
 use Rattle.start_fields.specs.Reading.{Terminal}

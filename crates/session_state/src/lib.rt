@@ -1,4 +1,6 @@
 // The state of a session: what it keeps, how it changes, and the outcome that it says.
+#![tactic(auto)]
+
 pub mod change;
 pub mod result;
 

@@ -1,5 +1,7 @@
 // T=0: a command goes to the card, and its bytes come back one by one or in pieces. The caller lends the room for what is to be
 // sent and for the answer.
+#![tactic(auto)]
+
 mod doing;
 
 ghost use Rattle.std.specs.Prelude.{◌≡◌};

@@ -1,4 +1,6 @@
 // T=0: a piece of a capture, of any length.
+#![tactic(auto)]
+
 ghost use Rattle.std.specs.Prelude.{◌≡◌};
 ghost use Rattle.t0_pieces.specs.Pieces.{is_over, is_closed, waiting_in, is_quiet, took, takes_from};
 

@@ -1,5 +1,7 @@
 // T=1: one end of the line, terminal or card. The state goes in by value at each event and comes back with what is to be sent; the
 // caller lends the room for the block and for the message that comes in.
+#![tactic(auto)]
+
 mod doing;
 
 ghost use Rattle.std.specs.Prelude.{◌≡◌};

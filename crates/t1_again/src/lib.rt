@@ -1,4 +1,6 @@
 // What goes out after a block that is invalid or not allowed: an R-block, or a block of ours once more; or the end.
+#![tactic(auto)]
+
 ghost use Rattle.std.specs.Prelude.{◌≡◌};
 ghost use Rattle.t1_again.specs.Again.{goes_out, ended_by, refused_as, ready_for, same_again, information_again, wrong as wrong_in};
 ghost use Rattle.t1_again.specs.Again.{is_size, asks_size, stays_open, exhausted as exhausted_in};

@@ -1,4 +1,6 @@
 // A block received where a request of our own is open.
+#![tactic(auto)]
+
 ghost use Rattle.std.specs.Prelude.{◌≡◌};
 ghost use Rattle.t1_block.specs.Blocks.{what_number};
 ghost use Rattle.t1_asking.specs.Asking.{is_response, settled, asked_instead, on_response, asked_kind, on_asking};

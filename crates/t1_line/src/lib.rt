@@ -1,4 +1,6 @@
 // A block received where no request of our own is open.
+#![tactic(auto)]
+
 mod fields;
 mod pieces;
 mod requests;

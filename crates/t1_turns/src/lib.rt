@@ -1,4 +1,6 @@
 // An event at one end of the line, one turn on: the end afterwards, and what is then to be done.
+#![tactic(auto)]
+
 mod ours;
 
 ghost use Rattle.std.specs.Prelude.{◌≡◌};

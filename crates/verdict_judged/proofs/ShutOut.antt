@@ -12,7 +12,7 @@ use Rattle.tape_read.specs.Tapes.{entries, read_tape, session_of, written}
 use Rattle.tape_read.proofs.Steps.{read_end, tape_ragged, tape_blocks}
 use Rattle.sessions.specs.Session as Under
 use Rattle.sessions.proofs.Breaks.{begins_empty}
-use Rattle.rulebook.specs.Session.{Open, BreaksAt}
+use Rattle.rulebook.specs.Session.{BreaksAt}
 use Rattle.rulebook.proofs.Made.{start_of, select, tc}
 use Rattle.rulebook.proofs.Offline.{offline, approved_offline}
 use Rattle.rulebook_worked.proofs.ShutOut.{breaks_at_0, breaks_at_1}

@@ -1,1 +1,3 @@
 // That every session can be stored on a tape: laws only, see proofs/.
+
+#![tactic(auto)]

@@ -3,9 +3,9 @@
 -- Assumes nothing.
 use mathlib.Core.Path.{◌≡◌, refl, sym, ap, ◌∙◌, subst}
 use mathlib.Core.List.{List, [], ◌∷◌, ◌++◌, append-nil, append_assoc}
-use mathlib.Core.Logic.{◌⊎◌, inl, inr, ⊎_elim}
+use mathlib.Core.Logic.{inl, inr, ⊎_elim}
 use mathlib.Core.Option.{Option, none, some}
-use Prim.Native.Nat.{ℕ, zero, suc, ◌+◌, ◌≤◌}
+use Prim.Native.Nat.{ℕ, suc, ◌+◌, ◌≤◌}
 use native.Mathlib.Nat.{add_assoc, zero-add}
 use native.Mathlib.Omega.{arith}
 use lib.ListN.{length, take, drop, get_or}
@@ -55,14 +55,14 @@ module _ {A H S : Type 0} (rules : Rules A H S) (count : Phase A H S → ℕ) wh
       let first : entry command c ≡ e = head_same _ e _ (d ∷ (es ++ rest)) h in
       let left : entry answer a ∷ fs ≡ d ∷ (es ++ rest) = tail_same _ e _ (d ∷ (es ++ rest)) h in
       let second : entry answer a ≡ d = head_same _ d _ (es ++ rest) left in
-      let on = play_sum play es rest (tail_same _ d _ (es ++ rest) left) in
+      let on = play_sum {p = turn w a} play es rest (tail_same _ d _ (es ++ rest) left) in
       let went = counted (at (asks w)) (owes w) (entry command c) e (d ∷ es) first
       (ap (λ (x : List ℕ). next rules (at (asks w)) (entry command x)) f ∙ takes_command rules w) in
       let came = counted (owes w) (at (turn w a)) (entry answer a) d es second (takes_answer rules w a ok) in
       ap (λ (n : ℕ). 0 + (count (turn w a) + n)) on ∙ (ap (λ (n : ℕ). 0 + n) (sym came) ∙ sym went)
   play_sum (heard {h = x} {k} {p} {es = fs} f fits ok play) (e ∷ es) rest h =
       let first : entry k p ≡ e = head_same _ e _ (es ++ rest) h in
-      let on = play_sum play es rest (tail_same _ e _ (es ++ rest) h) in
+      let on = play_sum {p = after x p} play es rest (tail_same _ e _ (es ++ rest) h) in
       let came = counted (at (hears x)) (at (after x p)) (entry k p) e es first (ap (λ (n : ℕ). next rules (at (hears x)) (entry n p)) f
       ∙ takes_heard rules x p fits ok) in
       ap (λ (n : ℕ). count (after x p) + n) on ∙ sym came

@@ -16,7 +16,7 @@ use Rattle.slices.specs.Writing.{zeros}
 use Rattle.slices.proofs.Choice.{pick_no, either}
 use Rattle.slices.proofs.Tests.{held, first_held}
 use Rattle.slices.proofs.Writing.{zeros_length}
-use Rattle.numbers.specs.Tables.{start, command, answer, silence, decision, results, is_kind}
+use Rattle.numbers.specs.Tables.{start, results, is_kind}
 use Rattle.tape_read.specs.Entries.{payload_most}
 use Rattle.tape_read.proofs.Extra.{zeros_bytes}
 use Rattle.decimal_dates.specs.Decimal.{zeros_only}

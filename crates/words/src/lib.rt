@@ -1,5 +1,7 @@
 // What somebody other than the card says after START: which words there are, the kind of the entry that has each, what may be said, and
 // the number with which anything else is turned away.
+#![tactic(auto)]
+
 ghost use Rattle.std.specs.Prelude.{◌≡◌};
 ghost use Rattle.words.specs.Words.{word_kind, word_allowed, word_refusal};
 ghost use Rattle.words.specs.Choice.{is_choice};

@@ -1,6 +1,6 @@
 -- `count::is_supplied` meets its contract: in a format that lists know, what is there is supplied; in no other is anything.
 -- Assumes nothing.
-use Rattle.std.proofs.Common.{◌≡◌, ℕ, false, List, sym, refl, ap, ◌∙◌, rules}
+use Rattle.std.proofs.Common.{◌≡◌, ℕ, false, List, sym, refl, ap, ◌∙◌}
 use mathlib.Core.Option.{Option, none, some}
 use Rattle.slices.specs.Tests.{is_some}
 use Rattle.start_fields.specs.Reading.{Terminal, reading_of}

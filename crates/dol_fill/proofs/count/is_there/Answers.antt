@@ -1,6 +1,6 @@
 -- `count::is_there` meets its contract: START's own is there where START has its bytes, and what is not its own is there once it is known.
 -- Assumes nothing.
-use Rattle.std.proofs.Common.{◌≡◌, ℕ, not, eqb, List, length, sym, ap, ◌∙◌, rules}
+use Rattle.std.proofs.Common.{◌≡◌, ℕ, not, eqb, List, length, sym, ap, ◌∙◌}
 use Rattle.slices.specs.Tests.{is_some}
 use Rattle.slices.proofs.Choice.{is_there_lem}
 use Rattle.start_fields.specs.Reading.{Terminal, reading_of, bytes_of}
@@ -16,6 +16,7 @@ module _ (t : Terminal) (known : Facts) (tag : ℕ) where
   own_there : (f : Field) → own_field tag ≡ Of f → not (eqb (length (bytes_of f t)) 0) ≡ is_some (value_for t known tag)
   unfolding value_for value_by
   own_there f e = sym (ap (λ (o : Own). is_some (value_by t (known tag) o)) e ∙ is_there_lem (bytes_of f t))
+
   known_there : own_field tag ≡ Nothing → is_some (known tag) ≡ is_some (value_for t known tag)
   unfolding value_for value_by
   known_there e = sym (ap (λ (o : Own). is_some (value_by t (known tag) o)) e)

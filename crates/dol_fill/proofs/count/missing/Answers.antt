@@ -1,6 +1,6 @@
 -- `count::missing` meets its contract: an entry counts exactly where its tag is not supplied.
 -- Assumes nothing.
-use Rattle.std.proofs.Common.{◌≡◌, ℕ, true, false, sym, ap, ◌∙◌, arith, rules}
+use Rattle.std.proofs.Common.{◌≡◌, ℕ, true, false, sym, ap, ◌∙◌, arith}
 use Rattle.slices.specs.Tests.{is_some}
 use Rattle.slices.proofs.Choice.{pick_yes, pick_no}
 use Rattle.start_fields.specs.Reading.{Terminal, reading_of}
@@ -14,6 +14,7 @@ module _ (t : Terminal) (k : Facts) (tag : ℕ) where
   there : is_some (supplied t k tag) ≡ true → 0 ≡ missing t k tag
   unfolding missing
   there y = sym (pick_yes _ _ _ y)
+
   not_there : is_some (supplied t k tag) ≡ false → 1 ≡ missing t k tag
   unfolding missing
   not_there n = sym (pick_no _ _ _ n)

@@ -1,7 +1,7 @@
 -- `count::missing_in` meets its contract. The loop's invariant: what was counted and what is still to be counted come to the count of the
 -- list; and no more is counted than bytes were passed.
 -- Assumes nothing.
-use Rattle.std.proofs.Common.{◌≡◌, ℕ, ◌+◌, ◌-◌, ◌≤◌, true, List, length, take, drop, ap, ◌∙◌, zero-add, arith, length-drop, length-take}
+use Rattle.std.proofs.Common.{◌≡◌, ℕ, ◌+◌, ◌-◌, ◌≤◌, List, length, take, drop, ap, ◌∙◌, zero-add, arith, length-drop, length-take}
 use Rattle.tlv_head.specs.Head.{tag_size}
 use Rattle.slices.specs.Tests.{is_some}
 use Rattle.slices.proofs.Cutting.{rest_part, none_left}
@@ -9,7 +9,7 @@ use Rattle.start_fields.specs.Reading.{reading_of}
 use Rattle.session_records.specs.Slots.{told_in}
 use Rattle.dol_wanted.specs.Wanted.{entries_of}
 use Rattle.dol_wanted.proofs.Entries.{turn_fits, turn_some, fillable_some}
-use Rattle.dol_fill.specs.Filled.{missing, missing_by}
+use Rattle.dol_fill.specs.Filled.{missing_by}
 use Rattle.dol_fill.proofs.Missing.{turn_missing, nothing_missing}
 use Rattle.dol_fill.proofs.count.missing_in.Goals as goal
 
@@ -28,30 +28,30 @@ overflow_add-count c =
 pub slice_bounds-rest-count : goal.slice_bounds-rest-count
 slice_bounds-rest-count c =
     let inside : c.tag_size-n.result + 1 ≤ length c.loop-rest.rest.now =
-        let l = c.loop-rest in
-        let h = turn_fits l.rest.now c.loop-rest-test.true l.invariant.0 in
-        let e = c.tag_size-n.ensures.0 in
-        omega arith
+    let l = c.loop-rest in
+    let h = turn_fits l.rest.now c.loop-rest-test.true l.invariant.0 in
+    let e = c.tag_size-n.ensures.0 in
+    omega arith
     in
     inside
 
 pub slice_bounds-rest-start : goal.slice_bounds-rest-start
 slice_bounds-rest-start c =
     let inside : c.tag_size-n.result + 1 ≤ length c.loop-rest.rest.now =
-        let l = c.loop-rest in
-        let h = turn_fits l.rest.now c.loop-rest-test.true l.invariant.0 in
-        let e = c.tag_size-n.ensures.0 in
-        omega arith
+    let l = c.loop-rest in
+    let h = turn_fits l.rest.now c.loop-rest-test.true l.invariant.0 in
+    let e = c.tag_size-n.ensures.0 in
+    omega arith
     in
     inside
 
 pub loop-rest-smaller : goal.loop-rest-smaller
 loop-rest-smaller c =
     let inside : c.tag_size-n.result + 1 ≤ length c.loop-rest.rest.now =
-        let l = c.loop-rest in
-        let h = turn_fits l.rest.now c.loop-rest-test.true l.invariant.0 in
-        let e = c.tag_size-n.ensures.0 in
-        omega arith
+    let l = c.loop-rest in
+    let h = turn_fits l.rest.now c.loop-rest-test.true l.invariant.0 in
+    let e = c.tag_size-n.ensures.0 in
+    omega arith
     in
     let h = inside in rw (length-take, length-drop) (omega arith)
 

@@ -1,16 +1,12 @@
 -- `count::missing_in` meets its contract. The loop's invariant: what was counted and what is still to be counted come to the count of the
 -- list; and no more is counted than bytes were passed.
 -- Assumes nothing.
-use Rattle.std.proofs.Common.{◌≡◌, ℕ, ◌+◌, ◌-◌, ◌≤◌, true, List, length, take, drop, ap, ◌∙◌, zero-add, arith, length-drop, length-take}
-use Rattle.tlv_head.specs.Head.{tag_size}
+use Rattle.std.proofs.Common.{◌≡◌, ◌+◌, ◌≤◌, true, length}
 use Rattle.slices.specs.Tests.{is_some}
-use Rattle.slices.proofs.Cutting.{rest_part, none_left}
 use Rattle.start_fields.specs.Reading.{reading_of}
 use Rattle.session_records.specs.Slots.{told_in}
 use Rattle.dol_wanted.specs.Wanted.{entries_of}
-use Rattle.dol_wanted.proofs.Entries.{turn_fits, turn_some, fillable_some}
-use Rattle.dol_fill.specs.Filled.{missing, missing_by}
-use Rattle.dol_fill.proofs.Missing.{turn_missing, nothing_missing}
+use Rattle.dol_fill.specs.Filled.{missing_by}
 use Rattle.dol_fill.proofs.count.missing_in.Given as goal
 
 abbrev pub invariant-loop-rest : goal.invariant-loop-rest

@@ -1,6 +1,6 @@
 -- `count::unsupplied` meets its contract: a list that can be filled is counted, and any other has none.
 -- Assumes nothing.
-use Rattle.std.proofs.Common.{sym, ◌∙◌, rules}
+use Rattle.std.proofs.Common.{sym, ◌∙◌}
 use Rattle.start_fields.specs.Reading.{reading_of}
 use Rattle.session_records.specs.Slots.{told_in}
 use Rattle.dol_fill.proofs.Missing.{unsupplied_yes, unsupplied_no}

@@ -1,8 +1,8 @@
 -- `fill::fill` meets its contract: what cannot be filled, or has no room, changes nothing.
 -- Assumes nothing.
-use Rattle.std.proofs.Common.{◌≡◌, ℕ, ◌+◌, ◌-◌, true, leb, List, [], length, sym, ap, ◌∙◌, arith, rules}
+use Rattle.std.proofs.Common.{◌≡◌, ℕ, ◌+◌, true, leb, List, [], length, sym, ap, ◌∙◌, arith}
 use Rattle.slices.specs.Choice.{pick}
-use Rattle.slices.specs.Writing.{put, laid}
+use Rattle.slices.specs.Writing.{laid}
 use Rattle.slices.proofs.Choice.{pick_same}
 use Rattle.slices.proofs.Writing.{laid_fits, laid_short, put_nothing}
 use Rattle.start_fields.specs.Reading.{reading_of}
@@ -28,9 +28,9 @@ returns-then-n-gt-MOST c =
 pub returns-then-buf-at : goal.returns-then-buf-at
 returns-then-buf-at c =
     let yes_all : (fillable c.args.list.now ≡ true) × (tally c.args.list.now ≡ total_of c.args.list.now) × (filling (reading_of c.args.start.now) (told_in c.args.known.now) c.args.list.now ≡ filled_list (reading_of c.args.start.now) (told_in c.args.known.now) c.args.list.now) =
-        let a = c.args in
-        let e = c.total-n.ensures.0 in
-        filling_yes (reading_of a.start.now) (told_in a.known.now) a.list.now (omega arith)
+    let a = c.args in
+    let e = c.total-n.ensures.0 in
+    filling_yes (reading_of a.start.now) (told_in a.known.now) a.list.now (omega arith)
     in
     let a = c.args in
     let t = reading_of a.start.now in
@@ -42,9 +42,9 @@ returns-then-buf-at c =
 pub returns-then-buf-at-2 : goal.returns-then-buf-at-2
 returns-then-buf-at-2 c =
     let yes_all : (fillable c.args.list.now ≡ true) × (tally c.args.list.now ≡ total_of c.args.list.now) × (filling (reading_of c.args.start.now) (told_in c.args.known.now) c.args.list.now ≡ filled_list (reading_of c.args.start.now) (told_in c.args.known.now) c.args.list.now) =
-        let a = c.args in
-        let e = c.total-n.ensures.0 in
-        filling_yes (reading_of a.start.now) (told_in a.known.now) a.list.now (omega arith)
+    let a = c.args in
+    let e = c.total-n.ensures.0 in
+    filling_yes (reading_of a.start.now) (told_in a.known.now) a.list.now (omega arith)
     in
     let a = c.args in
     let t = reading_of a.start.now in
@@ -58,9 +58,9 @@ returns-then-buf-at-2 c =
 pub fill_all-requires : goal.fill_all-requires
 fill_all-requires c =
     let yes_all : (fillable c.args.list.now ≡ true) × (tally c.args.list.now ≡ total_of c.args.list.now) × (filling (reading_of c.args.start.now) (told_in c.args.known.now) c.args.list.now ≡ filled_list (reading_of c.args.start.now) (told_in c.args.known.now) c.args.list.now) =
-        let a = c.args in
-        let e = c.total-n.ensures.0 in
-        filling_yes (reading_of a.start.now) (told_in a.known.now) a.list.now (omega arith)
+    let a = c.args in
+    let e = c.total-n.ensures.0 in
+    filling_yes (reading_of a.start.now) (told_in a.known.now) a.list.now (omega arith)
     in
     let all = yes_all in
     let n = c.total-n.ensures.0 in
@@ -70,9 +70,9 @@ fill_all-requires c =
 pub returns : goal.returns
 returns c =
     let yes_all : (fillable c.args.list.now ≡ true) × (tally c.args.list.now ≡ total_of c.args.list.now) × (filling (reading_of c.args.start.now) (told_in c.args.known.now) c.args.list.now ≡ filled_list (reading_of c.args.start.now) (told_in c.args.known.now) c.args.list.now) =
-        let a = c.args in
-        let e = c.total-n.ensures.0 in
-        filling_yes (reading_of a.start.now) (told_in a.known.now) a.list.now (omega arith)
+    let a = c.args in
+    let e = c.total-n.ensures.0 in
+    filling_yes (reading_of a.start.now) (told_in a.known.now) a.list.now (omega arith)
     in
     let a = c.args in
     let t = reading_of a.start.now in

@@ -1,7 +1,7 @@
 -- `fill::fill_all` meets its contract. The loop's invariant: what is still to be written, written from p on, gives the buffer that is
 -- wanted.
 -- Assumes nothing.
-use Rattle.std.proofs.Common.{◌≡◌, ℕ, ◌+◌, ◌-◌, ◌≤◌, true, List, [], length, take, drop, sym, refl, ap, ◌∙◌, arith, length-drop, length-take}
+use Rattle.std.proofs.Common.{◌≡◌, ℕ, ◌+◌, ◌-◌, ◌≤◌, List, [], length, take, drop, sym, refl, ap, ◌∙◌, arith, length-drop, length-take}
 use Rattle.tlv_head.specs.Head.{tag_size}
 use Rattle.slices.specs.Tests.{is_some}
 use Rattle.slices.specs.Writing.{put}
@@ -23,22 +23,22 @@ loop-rest-init c =
 pub fill_first-requires : goal.fill_first-requires
 fill_first-requires c =
     let room : c.loop-rest.p + size_at c.loop-rest.rest.now ≤ length c.loop-rest.buf =
-        let l = c.loop-rest in
-        let e = turn_total l.rest.now c.loop-rest-test.true l.invariant.0 in
-        let h = l.invariant.1 in
-        let k = l.invariant.2 in
-        omega arith
+    let l = c.loop-rest in
+    let e = turn_total l.rest.now c.loop-rest-test.true l.invariant.0 in
+    let h = l.invariant.1 in
+    let k = l.invariant.2 in
+    omega arith
     in
     room
 
 pub overflow_add-p : goal.overflow_add-p
 overflow_add-p c =
     let room : c.loop-rest.p + size_at c.loop-rest.rest.now ≤ length c.loop-rest.buf =
-        let l = c.loop-rest in
-        let e = turn_total l.rest.now c.loop-rest-test.true l.invariant.0 in
-        let h = l.invariant.1 in
-        let k = l.invariant.2 in
-        omega arith
+    let l = c.loop-rest in
+    let e = turn_total l.rest.now c.loop-rest-test.true l.invariant.0 in
+    let h = l.invariant.1 in
+    let k = l.invariant.2 in
+    omega arith
     in
     let h = room in
     let e = c.size_at-p.ensures.0 in
@@ -47,47 +47,47 @@ overflow_add-p c =
 pub slice_bounds-rest-count : goal.slice_bounds-rest-count
 slice_bounds-rest-count c =
     let fits : tag_size c.loop-rest.rest.now + 1 ≤ length c.loop-rest.rest.now =
-        turn_fits c.loop-rest.rest.now c.loop-rest-test.true c.loop-rest.invariant.0
+    turn_fits c.loop-rest.rest.now c.loop-rest-test.true c.loop-rest.invariant.0
     in
     let inside : c.tag_size-n.result + 1 ≤ length c.loop-rest.rest.now =
-        let h = fits in
-        let e = c.tag_size-n.ensures.0 in
-        omega arith
+    let h = fits in
+    let e = c.tag_size-n.ensures.0 in
+    omega arith
     in
     inside
 
 pub slice_bounds-rest-start : goal.slice_bounds-rest-start
 slice_bounds-rest-start c =
     let fits : tag_size c.loop-rest.rest.now + 1 ≤ length c.loop-rest.rest.now =
-        turn_fits c.loop-rest.rest.now c.loop-rest-test.true c.loop-rest.invariant.0
+    turn_fits c.loop-rest.rest.now c.loop-rest-test.true c.loop-rest.invariant.0
     in
     let inside : c.tag_size-n.result + 1 ≤ length c.loop-rest.rest.now =
-        let h = fits in
-        let e = c.tag_size-n.ensures.0 in
-        omega arith
+    let h = fits in
+    let e = c.tag_size-n.ensures.0 in
+    omega arith
     in
     inside
 
 pub loop-rest-smaller : goal.loop-rest-smaller
 loop-rest-smaller c =
     let fits : tag_size c.loop-rest.rest.now + 1 ≤ length c.loop-rest.rest.now =
-        turn_fits c.loop-rest.rest.now c.loop-rest-test.true c.loop-rest.invariant.0
+    turn_fits c.loop-rest.rest.now c.loop-rest-test.true c.loop-rest.invariant.0
     in
     let inside : c.tag_size-n.result + 1 ≤ length c.loop-rest.rest.now =
-        let h = fits in
-        let e = c.tag_size-n.ensures.0 in
-        omega arith
+    let h = fits in
+    let e = c.tag_size-n.ensures.0 in
+    omega arith
     in
     let h = inside in rw (length-take, length-drop) (omega arith)
 
 pub loop-rest-preserved : goal.loop-rest-preserved
 loop-rest-preserved c =
     let room : c.loop-rest.p + size_at c.loop-rest.rest.now ≤ length c.loop-rest.buf =
-        let l = c.loop-rest in
-        let e = turn_total l.rest.now c.loop-rest-test.true l.invariant.0 in
-        let h = l.invariant.1 in
-        let k = l.invariant.2 in
-        omega arith
+    let l = c.loop-rest in
+    let e = turn_total l.rest.now c.loop-rest-test.true l.invariant.0 in
+    let h = l.invariant.1 in
+    let k = l.invariant.2 in
+    omega arith
     in
     let a = c.args in
     let t = reading_of a.start.now in
@@ -110,9 +110,9 @@ loop-rest-preserved c =
       rw rest left,
       (let h = l.invariant.2 in omega arith),
       ap (λ (x : List ℕ). put (filled_by t (told_in a.known.now) (entries_of x)) (l.p + c.size_at-p.result)
-          c.fill_first.new.1.1.1.0) rest
+          c.fill_first.new.buf) rest
           ∙ (ap (λ (k : ℕ). put (filled_by t (told_in a.known.now) (entries_of (drop (tag_size r + 1) r))) (l.p + k)
-          c.fill_first.new.1.1.1.0) s
+          c.fill_first.new.buf) s
           ∙ (ap (put (filled_by t (told_in a.known.now) (entries_of (drop (tag_size r + 1) r))) (l.p + size_at r)) written
           ∙ (turn_put t (told_in a.known.now) r l.buf l.p c.loop-rest-test.true l.invariant.0 there ∙ l.invariant.3))),
     )

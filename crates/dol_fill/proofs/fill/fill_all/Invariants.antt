@@ -1,18 +1,13 @@
 -- `fill::fill_all` meets its contract. The loop's invariant: what is still to be written, written from p on, gives the buffer that is
 -- wanted.
 -- Assumes nothing.
-use Rattle.std.proofs.Common.{◌≡◌, ℕ, ◌+◌, ◌-◌, ◌≤◌, true, List, [], length, take, drop, sym, refl, ap, ◌∙◌, arith, length-drop, length-take}
-use Rattle.tlv_head.specs.Head.{tag_size}
+use Rattle.std.proofs.Common.{◌≡◌, ◌+◌, ◌≤◌, true, length}
 use Rattle.slices.specs.Tests.{is_some}
 use Rattle.slices.specs.Writing.{put}
-use Rattle.slices.proofs.Cutting.{rest_part, none_left}
-use Rattle.slices.proofs.Writing.{put_length, put_nothing}
 use Rattle.start_fields.specs.Reading.{reading_of}
 use Rattle.session_records.specs.Slots.{told_in}
-use Rattle.dol_wanted.specs.Wanted.{size_at, entries_of, total_by, total_of}
-use Rattle.dol_fill.specs.Filled.{first_bytes, filled, filled_by, filled_list}
-use Rattle.dol_wanted.proofs.Entries.{turn_fits, turn_some, turn_total, fillable_some, entries_empty}
-use Rattle.dol_fill.proofs.Filling.{turn_put, first_length}
+use Rattle.dol_wanted.specs.Wanted.{entries_of, total_by}
+use Rattle.dol_fill.specs.Filled.{filled_by, filled_list}
 use Rattle.dol_fill.proofs.fill.fill_all.Given as goal
 
 abbrev pub invariant-loop-rest : goal.invariant-loop-rest

@@ -1,6 +1,6 @@
 -- `fill::fill_entry` meets its contract: START's own, what is known, and where nothing is the room is all zeros.
 -- Assumes nothing.
-use Rattle.std.proofs.Common.{◌≡◌, ℕ, true, false, List, [], length, sym, ap, ◌∙◌, rules}
+use Rattle.std.proofs.Common.{◌≡◌, ℕ, true, false, List, [], length, sym, ap, ◌∙◌}
 use mathlib.Core.Option.{Option, get_or}
 use Rattle.slices.specs.Choice.{unless_empty}
 use Rattle.slices.specs.Tests.{is_some}
@@ -22,10 +22,12 @@ use Rattle.dol_fill.proofs.fill.fill_entry.Goals as goal
 module _ (n : ℕ) (t : Terminal) (known : Facts) (tag : ℕ) where
   abbrev by_own : Own → Option (List ℕ) → List ℕ
   by_own own other = entry_bytes n (with_format (format_of tag) (value_by t other own))
+
   own_bytes : (f : Field) → own_field tag ≡ Of f
       → entry_bytes n (with_format (format_of tag) (unless_empty (bytes_of f t))) ≡ entry_bytes n (supplied t known tag)
   unfolding supplied value_for value_by
   own_bytes f e = sym (ap (λ o. by_own o (known tag)) e)
+
   known_bytes : own_field tag ≡ Nothing → is_some (known tag) ≡ true
       → shaped (format_of tag) n (get_or (known tag) []) ≡ entry_bytes n (supplied t known tag)
   unfolding supplied value_for value_by
@@ -33,6 +35,7 @@ module _ (n : ℕ) (t : Terminal) (known : Facts) (tag : ℕ) where
       sym
       (ap (λ o. by_own o (known tag)) e
       ∙ (ap (by_own Nothing) (is_there_lem (known tag) h) ∙ shaped_entry (format_of tag) n (get_or (known tag) [])))
+
   not_there : own_field tag ≡ Nothing → is_some (known tag) ≡ false → zeros n ≡ entry_bytes n (supplied t known tag)
   unfolding supplied value_for value_by
   not_there e h =

@@ -1,6 +1,6 @@
 -- `fill::fill_first` meets its contract: the entry's place comes back holding its bytes, and nothing else moves.
 -- Assumes nothing.
-use Rattle.std.proofs.Common.{◌≡◌, ℕ, ◌+◌, ◌-◌, ◌≤◌, List, length, sym, ap, ◌∙◌, ap₂, arith, rules}
+use Rattle.std.proofs.Common.{◌≡◌, ℕ, ◌+◌, ◌≤◌, List, length, sym, ap, ◌∙◌, ap₂, arith}
 use Rattle.tlv_head.specs.Head.{tag_of}
 use Rattle.slices.specs.Writing.{put}
 use Rattle.slices.proofs.Writing.{put_back}
@@ -16,20 +16,20 @@ pub returns : goal.returns
 unfolding first_bytes
 returns c =
     let room : c.args.p + c.size_at.result ≤ length c.args.buf.now =
-        let e = c.size_at.ensures.0 in let h = c.requires in omega arith
+    let e = c.size_at.ensures.0 in let h = c.requires in omega arith
     in
     let Filled : Type 0 =
-        let a = c.args in
-        c.fill_entry.new.part ≡ first_bytes (reading_of a.start.now) (told_in a.known.now) a.list.now
+    let a = c.args in
+    c.fill_entry.new.part ≡ first_bytes (reading_of a.start.now) (told_in a.known.now) a.list.now
     in
     let first : Filled =
-        let a = c.args in
-        let tag = c.tag_of-tag in
-        let n = c.size_at in
-        c.fill_entry.ensures
-        ∙ ap₂ entry_bytes
-        (place_length a.buf.now a.p n.result (room) ∙ n.ensures.0)
-        (ap (supplied (reading_of a.start.now) (told_in a.known.now)) tag.ensures.0)
+    let a = c.args in
+    let tag = c.tag_of-tag in
+    let n = c.size_at in
+    c.fill_entry.ensures
+    ∙ ap₂ entry_bytes
+    (place_length a.buf.now a.p n.result (room) ∙ n.ensures.0)
+    (ap (supplied (reading_of a.start.now) (told_in a.known.now)) tag.ensures.0)
     in
     let a = c.args in
     let n = c.size_at in

@@ -1,6 +1,6 @@
 -- `fill::fill_own` meets its contract: no bytes are no value, and the room is all zeros; any others are shaped.
 -- Assumes nothing.
-use Rattle.std.proofs.Common.{length, sym, ap, ◌∙◌, arith, rules}
+use Rattle.std.proofs.Common.{length, sym, ap, ◌∙◌, arith}
 use Rattle.slices.specs.Writing.{zeros}
 use Rattle.slices.proofs.Choice.{there, not_there}
 use Rattle.dol_values.specs.Known.{with_format}

@@ -1,0 +1,15 @@
+-- `directory::is_complete` meets its contract.
+-- Assumes nothing.
+use mathlib.Core.Path.{sym, ap, ◌∙◌}
+use mathlib.Core.Bool.{not}
+use Prim.Native.Nat.{ℕ}
+use lib.Dec.{eqb}
+use Rattle.slices.proofs.Tables.{and_yes, and_no}
+use Rattle.select_search.proofs.directory.is_complete.Goals as goal
+
+pub returns-then-has_status : goal.returns-then-has_status
+returns-then-has_status c =
+    ap (λ (n : ℕ). not (eqb n 0)) c.count.ensures.0 ∙ sym (and_yes c.has_status.ensures _ c.if-has_status.true)
+
+pub returns-else-has_status : goal.returns-else-has_status
+returns-else-has_status c = sym (and_no c.has_status.ensures _ c.if-has_status.false)

@@ -1,0 +1,61 @@
+-- `turns::heard_at` meets its contract: each arm is the definition's.
+-- Assumes nothing.
+use mathlib.Core.Path.{◌≡◌, sym, ap, ◌∙◌}
+use mathlib.Core.List.{List}
+use Prim.Native.Nat.{ℕ}
+use Rattle.start_list.specs.Listing.{Applications, applications_in}
+use Rattle.select_list.specs.Kept.{list_in}
+use Rattle.select_list.proofs.Seen.{list_whole}
+use Rattle.select_search.specs.Search.{Search, Found}
+use Rattle.select_search.specs.Heard.{heard_at}
+use Rattle.select_search.specs.Turns.{search_of, kept}
+use Rattle.select_search.specs.declared.Step.{Step}
+use Rattle.select_search.specs.declared.Step.TheVariants.{Environment, Directory, Listed, Final}
+use Rattle.select_search.proofs.Turning.{environment_settles}
+use Rattle.select_search.proofs.turns.heard_at.Goals as goal
+
+at : (t : Applications) (s : Search) (a : List ℕ) (step x : Step) (f : Found) → step ≡ x → f ≡ kept (heard_at t s a x)
+    → f ≡ kept (heard_at t s a step)
+at t s a step x f e g = g ∙ sym (ap (λ (y : Step). kept (heard_at t s a y)) e)
+
+pub enum_told-1 : goal.enum_told-1
+enum_told-1 c = c.in-Environment.in-Environment-own.keys1
+
+pub enum_known-step : goal.enum_known-step
+enum_known-step c = c.in-Directory.in-Directory-own.keys2
+
+pub enum_known-step-in-Listed-1 : goal.enum_known-step-in-Listed-1
+enum_known-step-in-Listed-1 c = c.in-Listed.in-Listed-own.keys3
+
+pub enum_known-step-in-Final-1 : goal.enum_known-step-in-Final-1
+enum_known-step-in-Final-1 c = c.in-Final.in-Final-own.keys4
+
+pub returns-in-Environment : goal.returns-in-Environment
+unfolding heard_at
+returns-in-Environment c =
+    let b = c.args in
+    let s : Search = search_of b.stand (list_in b.list.now) in
+    at (applications_in b.start.now) s b.answer.now b.step Environment _ c.in-Environment.is
+    (environment_settles s b.answer.now c.after_environment.result (list_in b.list.now) b.answer.now
+    (sym (list_whole b.list.now)) c.after_environment.ensures)
+
+pub returns-in-Directory : goal.returns-in-Directory
+unfolding heard_at
+returns-in-Directory c =
+    let b = c.args in
+    at (applications_in b.start.now) (search_of b.stand (list_in b.list.now)) b.answer.now b.step
+    (Directory c.in-Directory.file c.in-Directory.record) _ c.in-Directory.is c.after_record.ensures
+
+pub returns-in-Listed : goal.returns-in-Listed
+unfolding heard_at
+returns-in-Listed c =
+    let b = c.args in
+    at (applications_in b.start.now) (search_of b.stand (list_in b.list.now)) b.answer.now b.step
+    (Listed c.in-Listed.aid c.in-Listed.again) _ c.in-Listed.is c.after_listed.ensures
+
+pub returns-in-Final : goal.returns-in-Final
+unfolding heard_at
+returns-in-Final c =
+    let b = c.args in
+    at (applications_in b.start.now) (search_of b.stand (list_in b.list.now)) b.answer.now b.step
+    (Final c.in-Final.place c.in-Final.taken) _ c.in-Final.is c.after_final.ensures

@@ -1,0 +1,15 @@
+-- `requests::on_abort` meets its contract: by the role. Assumes nothing.
+use mathlib.Core.Path.{◌∙◌}
+use Rattle.t1_state.specs.declared.Role.TheVariants.{Terminal, Card}
+use Rattle.t1_again.specs.Again.{for_role}
+use Rattle.t1_again.proofs.Roles.{by_role}
+use Rattle.t1_line.specs.Line.{on_request}
+use Rattle.t1_line.proofs.requests.on_abort.Goals as goal
+
+pub returns-in-Terminal : goal.returns-in-Terminal
+unfolding on_request for_role
+returns-in-Terminal c = c.ended_by.ensures ∙ by_role _ Terminal _ _ c.in-Terminal.is
+
+pub returns-in-Card : goal.returns-in-Card
+unfolding on_request for_role
+returns-in-Card c = c.wrong.ensures ∙ by_role _ Card _ _ c.in-Card.is

@@ -1,0 +1,48 @@
+-- `ours::on_hello` meets its contract: each arm is the definition's. Assumes nothing.
+use mathlib.Core.Path.{◌≡◌, sym, ap, ◌∙◌}
+use Rattle.t1_state.specs.declared.Phase.{Phase}
+use Rattle.t1_state.specs.declared.Phase.TheVariants.{Start, Asking, Due, Sent, Receiving, Over}
+use Rattle.t1_state.specs.declared.State.{State}
+use Rattle.t1_again.specs.Again.{goes_out}
+use Rattle.t1_turns.specs.Turns.{hello_in, on_hello}
+use Rattle.t1_turns.proofs.ours.on_hello.Goals as goal
+
+told : (s : State) (x : Phase) → s.phase ≡ x → hello_in x s ≡ on_hello s
+unfolding on_hello
+told s x e = sym (ap (λ (y : Phase). hello_in y s) e)
+
+pub returns-in-Start : goal.returns-in-Start
+unfolding hello_in
+returns-in-Start c =
+    let a = c.args in
+    c.goes_out.ensures ∙ (ap goes_out c.asks_for.ensures ∙ told a.s Start c.in-Start.is)
+
+pub returns-in-Asking : goal.returns-in-Asking
+unfolding hello_in
+returns-in-Asking c =
+    let a = c.args in
+    c.refused_as.ensures ∙ told a.s Asking c.in-Asking.is
+
+pub returns-in-Due : goal.returns-in-Due
+unfolding hello_in
+returns-in-Due c =
+    let a = c.args in
+    c.refused_as-in-Due.ensures ∙ told a.s Due c.in-Due.is
+
+pub returns-in-Sent : goal.returns-in-Sent
+unfolding hello_in
+returns-in-Sent c =
+    let a = c.args in
+    c.refused_as-in-Sent.ensures ∙ told a.s Sent c.in-Sent.is
+
+pub returns-in-Receiving : goal.returns-in-Receiving
+unfolding hello_in
+returns-in-Receiving c =
+    let a = c.args in
+    c.refused_as-in-Receiving.ensures ∙ told a.s Receiving c.in-Receiving.is
+
+pub returns-in-Over : goal.returns-in-Over
+unfolding hello_in
+returns-in-Over c =
+    let a = c.args in
+    c.refused_as-in-Over.ensures ∙ told a.s Over c.in-Over.is
