@@ -22,7 +22,9 @@ SIGNED = re.compile(r"(?:(?:unfoldable|abbrev|pub|private|opaque)\s+)*(?:(?:reco
 HOLDS = re.compile(r"(?:pub\s+)?(?:record|data|module)\b")
 # Words in the pages that name no definition.
 WORDS = {"requires", "ensures", "match", "const", "code", "crates.txt", "omega", "cc", "rw", "ap", "sym", "refl", "search", "unfolding", "unfoldable",
-         "abbrev", "where", "let", "ghost", "return"}
+         "abbrev", "where", "let", "ghost", "return", "Invariants.antt", "Answers.antt"}
+# Goals of a proof, which the checker names.
+WORDS |= {"returns", "returns-then-reader", "lay-requires", "bounds-s-i", "overflow_add-n", "loop-i-init", "loop-i-preserved", "loop-i-smaller"}
 
 
 def defined(text):
@@ -143,6 +145,9 @@ def tokens(cell):
 def is_no_name(token):
     if re.fullmatch(r"[A-Z]+\.md", token):
         return (ROOT / "docs" / token).exists()
+    # what a clause or a proof says of a variable, as `s.now` and `c.args.s`: a file's name begins with a capital
+    if re.fullmatch(r"[a-z]*\.[^\s()]+", token):
+        return True
     return bool(re.search(r"[\s/&\[='<>]", token)) or token.startswith(("--", "..")) or token.upper() == token or token in WORDS
 
 

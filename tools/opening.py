@@ -3,7 +3,7 @@
 are computed.
 
     tools/opening.py            writes the file
-    tools/opening.py --check    says whether the file is as the definitions are, and changes nothing
+    tools/opening.py --check    says whether the file is as the definitions are, however its lines are broken, and changes nothing
 
 Open are all definitions that are `unfoldable` in specs/ of the rulebook and of the crates that crates.txt names for it. What the
 file says is no claim, so nobody need read it; a new definition is in it as soon as this was run.
@@ -73,10 +73,17 @@ def text():
     return HEAD + "\n".join(imports + body) + "\nreached es = run rules es (at opens)\n"
 
 
+def said(text):
+    """What a file says, however its lines are broken: each name with its module, and all other words."""
+    groups = re.findall(r"^use (\S+)\.\{([^}]*)\}$", text, re.M)
+    rest = re.sub(r"^use .*$", "", text, flags=re.M)
+    return [(module, name.strip()) for module, names in groups for name in names.split(",")], rest.split()
+
+
 def main():
     new = text()
     if "--check" in sys.argv[1:]:
-        same = FILE.exists() and FILE.read_text() == new
+        same = FILE.exists() and said(FILE.read_text()) == said(new)
         print("Opening.antt is " + ("as the definitions are" if same else "not as the definitions are"))
         return 0 if same else 1
     FILE.write_text(new)

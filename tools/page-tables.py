@@ -38,7 +38,7 @@ def sentence(words):
 
 
 def has_code(text):
-    return any(line.strip() and not line.startswith("//") for line in text.splitlines())
+    return any(line.strip() and not line.startswith(("//", "#!")) for line in text.splitlines())
 
 
 def crate_row(name, level):
@@ -116,7 +116,7 @@ MADE_UP = [
 
 def selftest():
     bad = [text for text, expected in MADE_UP if sentence(comment(text, "//")) != expected]
-    bad += [text for text, expected in (("// a\n\n// b\n", False), ("// a\nmod b;\n", True)) if has_code(text) != expected]
+    bad += [text for text, expected in (("// a\n#![tactic(auto)]\n\n// b\n", False), ("// a\nmod b;\n", True)) if has_code(text) != expected]
     for text in bad:
         print(f"read wrongly:\n{text}")
     print(f"{len(MADE_UP) + 2} tried, {len(bad)} wrong")

@@ -52,19 +52,10 @@ def taken():
     for path in sorted(glob.glob("crates/*/src/*.rt")):
         for m in re.finditer(r"(?m)^ *(?:pub(?:\(crate\))? )?fn (\w+)(?:<[^>]*>)?\(([^)]*)\)", open(path, encoding="utf-8").read()):
             found[m.group(1)] = [re.sub(r"^(&(?:'\w+ )?)?(mut )?", "", p.strip()).split(":")[0] for p in m.group(2).split(",") if p.strip()]
+            found[(path.split("/")[1], m.group(1))] = found[m.group(1)]
     return found
 
 
-def arrays():
-    """The parameters of each function that are arrays by value."""
-    found = {}
-    for path in sorted(glob.glob("crates/*/src/*.rt")):
-        for m in re.finditer(r"(?m)^ *(?:pub(?:\(crate\))? )?fn (\w+)(?:<[^>]*>)?\(((?:[^()]|\([^)]*\))*)\)", open(path, encoding="utf-8").read()):
-            found[m.group(1)] = re.findall(r"(\w+): \[", m.group(2))
-    return found
-
-
-ARRAYS = {}
 ALL = {}
 MUTS = {}
 CLAUSES = {}
@@ -238,7 +229,8 @@ def public(text):
 
 
 class Function:
-    def __init__(self, facts, path):
+    def __init__(self, facts, path, crate):
+        self.crate = crate
         self.facts = facts
         self.path = path
         self.parent = {}
@@ -294,6 +286,8 @@ class Function:
         return out
 
     def turned(self, body, place, var="c"):
+        body = re.sub(r"\.«(\w+)»", r".\1", body)
+        body = re.sub(r"\.type_size(?=\.)", ".size-of", body)
         body = re.sub(r"\.before\b(?!-)", "", body)
         names = [var]
         while True:
@@ -383,7 +377,7 @@ class Function:
         for m in re.finditer(rf"let ([\w'-]+) = {re.escape(var)}\.args in", body):
             body = re.sub(rf"(?<![\w'.-]){re.escape(m.group(1))}\.result(?![\w'-])", f"{m.group(1)}.res", body)
         body = re.sub(r"(?<=\.)([a-z][\w]*(?:-\w+)+)(?![\w'-])", lambda m: m.group(1).replace("-", "_") if m.group(1).replace("-", "_") in WORDS and m.group(1) not in new_steps and m.group(1) not in now else m.group(0), body)
-        mine = CLAUSES.get(self.path.split(".")[-1])
+        mine = CLAUSES.get((self.crate, self.path.split(".")[-1]))
         if mine and len(mine[1]) > 1:
             body = re.sub(rf"(?<![\w'.-])({re.escape(var)})\.requires\.(\d+)(?![\w'-])", lambda m: f"{m.group(1)}.requires.{mine[1][int(m.group(2))]}", body)
         return body
@@ -407,7 +401,7 @@ def convert(crate, name, facts, keep):
         return None
     if os.path.exists(f"{folder}/Answers.antt"):
         return f"{name}: has answers already"
-    f = Function(facts, name)
+    f = Function(facts, name, crate)
     head, uses, decls = blocks(open(path, encoding="utf-8").read())
     spec = next((d for d in decls if re.search(r": (?:\{.*?\} → )*statement", d["text"].replace("\n", " "))), None)
     if spec is None:
@@ -431,17 +425,12 @@ def convert(crate, name, facts, keep):
         else:
             goals.append(a)
     said = []
-    # an array that is passed by value had the name of a place of its own
-    whole = "\n".join(d["text"] for d in decls)
-    places = sorted({int(n) for n in re.findall(r"\.t(\d+)(?![\w'-])", whole)})
-    arrays = ARRAYS.get(name.split(".")[-1], [])
-    if places and len(places) == len(arrays):
-        table = {f"t{n}": a for n, a in zip(places, arrays)}
-        for d in decls:
-            d["text"] = re.sub(r"\.(t\d+)(?![\w'-])", lambda m: "." + table.get(m.group(1), m.group(1)), d["text"])
-            d["lines"] = d["text"].split("\n")
-    elif places:
-        said.append(f"{name}: places {places}, arrays {arrays}")
+    # an array that is passed by value was named by its place among the parameters
+    row = ALL.get((crate, name.split(".")[-1]), [])
+    table = {f"t{k + 1}": p for k, p in enumerate(row)}
+    for d in decls:
+        d["text"] = re.sub(r"\.(t\d+)(?![\w'-])", lambda m: "." + table.get(m.group(1), m.group(1)), d["text"])
+        d["lines"] = d["text"].split("\n")
     used = set(inv + measures)
     needs = f.needs
     if len(goals) != len(needs):
@@ -518,7 +507,7 @@ def convert(crate, name, facts, keep):
     answers, dropped = {}, {}
     byold = {plain(o): n for o, n in needs}
     place_of = {n: p for (o, n), p in zip(needs, f.at)}
-    mine = CLAUSES.get(name.split(".")[-1], ([], []))[0]
+    mine = CLAUSES.get((crate, name.split(".")[-1]), ([], []))[0]
     for k, a in enumerate(goals):
         d = decl.get(a)
         new = None
@@ -563,7 +552,7 @@ def convert(crate, name, facts, keep):
             dropped[new] = [body1, unfolding]
             continue
         body = body if body[:1] in " \n" else (" " + body if "\n" not in body and len(body) < 100 else "\n    " + body)
-        answers[new] = "\n".join(comment + [f"pub {new} : goal.{new}"] + (["unfolding " + " ".join(unfolding)] if unfolding else []) + [f"{new} c ={body}"])
+        answers[new] = "\n".join(comment + [f"pub {new} : goal.{new}"] + (["unfolding " + " ".join(unfolding)] if unfolding else []) + [f"{new} {' '.join(['c'] + [x for x in params[1:] if x not in ('κs', 'κ')])} ={body}"])
     used |= set(shared)
     # lemmas of the file's own
     used.add(spec["name"])
@@ -639,6 +628,7 @@ def convert(crate, name, facts, keep):
         texts = {re.sub(r"^pub ", "", d["text"], flags=re.M) for d in moved}
         own = [t for t in own if t not in texts]
         keptuses.append(f"use {module}.Invariants.{{{', '.join(own_name(d) for d in moved)}}}")
+    answers = {n: re.sub(r"\.(record|data|open|ruleset)(?=\.(?:ensures|result|new|auto)\b)", r".«\1»", t) for n, t in answers.items()}
     written = "\n".join(answers.values())
     if "(ap not " in written:
         flat = " ".join(keptuses)
@@ -665,7 +655,6 @@ def main():
     CLAUSES.update(clauses())
     MUTS.update(lent())
     ALL.update(taken())
-    ARRAYS.update(arrays())
     for path in glob.glob(f"crates/{[w for w in sys.argv[1:] if not w.startswith('--')][0]}/src/*.rt"):
         WORDS.update(re.findall(r"\b[a-z]\w*_\w+\b", open(path, encoding="utf-8").read()))
     words = [w for w in sys.argv[1:] if not w.startswith("--")]

@@ -3,8 +3,8 @@
 repository's root.
 
     tools/recover-vectors.py            writes them
-    tools/recover-vectors.py --each     also runs target/bin/recover_tape on each stored case by itself, and, where it is built,
-                                        target/bin/judge_tape
+    tools/recover-vectors.py --each     also runs recover_tape and judge_tape on each stored case by itself; they are built first where
+                                        they must be
 
 The cases of crates/recover_tape/recover.jsonl come from outside: bytes, the blocks to be found as step, number, session number, kind
 and length of the payload, the tail, the judge's line, and for a good tape with blocks overwritten which steps are untouched. The reader below was
@@ -88,7 +88,7 @@ def damaged_sample():
 
 
 def said(program, data):
-    return subprocess.run([program], input=data, capture_output=True).stdout.decode()
+    return subprocess.run(program, input=data, capture_output=True).stdout.decode()
 
 
 cases = [json.loads(line) for line in open(FOLDER + "recover.jsonl")]
@@ -100,10 +100,14 @@ open(FOLDER + "stdout", "w").write(lines(whole))
 open("samples/damaged.tape", "wb").write(damaged_sample())
 print(len(cases), "cases,", len(whole) // STEP, "steps,", lines(whole).count("BLOCK"), "blocks")
 if sys.argv[1:] == ["--each"]:
-    judges = os.path.exists("target/bin/judge_tape")
+    sys.dont_write_bytecode = True
+    sys.path.insert(0, os.getcwd())
+    from lab import programs
+
+    recover, judge = programs.ready("recover_tape", "judge_tape")
     for case, data in zip(cases, tapes):
-        if said("target/bin/recover_tape", data) != lines(data):
+        if said(recover, data) != lines(data):
             sys.exit(f"{case['name']}: recover_tape says otherwise")
-        if judges and said("target/bin/judge_tape", data) != case["judge"] + "\n":
+        if said(judge, data) != case["judge"] + "\n":
             sys.exit(f"{case['name']}: judge_tape says otherwise")
-    print("each by itself as expected" + (", and judged so" if judges else ""))
+    print("each by itself as expected, and judged so")

@@ -46,6 +46,7 @@ module _ (inverse : Bool) (s : List ℕ) where
 
   -- one more byte joined
   pub joined_on : (x i : ℕ) → i < length s
-      → joined_from x (data_of inverse (drop i s)) ≡ joined_from (bit_xor x (data_byte inverse (get_or s i 0))) (data_of inverse (drop (i + 1) s))
+      → joined_from x (data_of inverse (drop i s))
+      ≡ joined_from (bit_xor x (data_byte inverse (get_or s i 0))) (data_of inverse (drop (i + 1) s))
   unfolding joined_from data_of
   joined_on x i h = rw (add-one, drop-cons s i 0 h)

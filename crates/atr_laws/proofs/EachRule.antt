@@ -1,4 +1,5 @@
--- Each rule by name is broken by a capture of its own, and by that capture no other rule is; and where LONG stands beside others. Computed.
+-- Each rule by name is broken by a capture of its own, and by that capture no other rule is; and where LONG stands beside others.
+-- Computed.
 -- Assumes nothing.
 use mathlib.Core.Path.{◌≡◌, refl}
 use mathlib.Core.Bool.{false}
@@ -23,17 +24,20 @@ all_of_them = refl
 each_alone : map (λ (b : Breaking). (read_reset b.capture false).reading) each_rule
     ≡ map (λ (b : Breaking). Refused (record { rules = 2 ^ (b.rule - 1); first = b.rule; place = b.place })) each_rule
 unfolding opposite turned data_byte data_of joined_from found_at level_of first_of after_of walked interface_of historical_end located_of
-    is_long first_lines second_lines third_lines last_lines lines_of set_of first_broken is_inverse ts_broken reading_of rules_of read_reset pick any_of
+    is_long first_lines second_lines third_lines last_lines lines_of set_of first_broken is_inverse ts_broken reading_of rules_of
+    read_reset pick any_of
 each_alone = refl
 
 -- EXTRA stands at 3 and LONG behind it
 long_behind_lem : (read_reset long_behind false).reading ≡ Refused (record { rules = 2 ^ 20 + 2 ^ 21; first = 21; place = 3 })
 unfolding opposite turned data_byte data_of joined_from found_at level_of first_of after_of walked interface_of historical_end located_of
-    is_long first_lines second_lines third_lines last_lines lines_of set_of first_broken is_inverse ts_broken reading_of rules_of read_reset pick any_of
+    is_long first_lines second_lines third_lines last_lines lines_of set_of first_broken is_inverse ts_broken reading_of rules_of
+    read_reset pick any_of
 long_behind_lem = refl
 
 -- LONG stands at 33, and CUT behind it
 long_and_cut_lem : (read_reset long_and_cut false).reading ≡ Refused (record { rules = 2 ^ 15 + 2 ^ 16; first = 16; place = 33 })
 unfolding opposite turned data_byte data_of joined_from found_at level_of first_of after_of walked interface_of historical_end located_of
-    is_long first_lines second_lines third_lines last_lines lines_of set_of first_broken is_inverse ts_broken reading_of rules_of read_reset pick any_of
+    is_long first_lines second_lines third_lines last_lines lines_of set_of first_broken is_inverse ts_broken reading_of rules_of
+    read_reset pick any_of
 long_and_cut_lem = refl

@@ -1,41 +1,43 @@
 // Questions to the held reader.
 use crate::read::{print_member, print_other};
+use std::io;
 use text_hex::unhex;
 use text_lines::{after_word, number};
 use tlv_head::Next;
 use tlv_list::place;
 
-pub fn list(words: &[u8]) {
+pub fn list(rt: &impl Print, words: &[u8]) -> io::Result<()> {
     let mut bytes = [0u8; 5000];
     let n = unhex(words, &mut bytes);
-    text_print::text(b"held");
-    print_all(&bytes[0..n]);
+    text_print::text(rt, b"held")?;
+    print_all(rt, &bytes[0..n])
 }
 
-fn print_all(s: &[u8]) {
+fn print_all(rt: &impl Print, s: &[u8]) -> io::Result<()> {
     let mut at = 0;
     while at < s.len() {
         match tlv_reader::next_from(s, at) {
-            Next::End => return,
-            Next::Broken => return,
+            Next::End => return Ok(()),
+            Next::Broken => return Ok(()),
             Next::Member { tag, start: _, end } => {
-                print_other(tag, tlv_reader::value_from(s, at));
+                print_other(rt, tag, tlv_reader::value_from(s, at))?;
                 at = end;
             }
         }
     }
+    Ok(())
 }
 
-pub fn nth(words: &[u8]) {
+pub fn nth(rt: &impl Print, words: &[u8]) -> io::Result<()> {
     let mut bytes = [0u8; 5000];
     let n = unhex(after_word(words), &mut bytes);
-    print_nth(number(words), &bytes[0..n]);
+    print_nth(rt, number(words), &bytes[0..n])
 }
 
-fn print_nth(n: usize, s: &[u8]) {
+fn print_nth(rt: &impl Print, n: usize, s: &[u8]) -> io::Result<()> {
     match tlv_reader::object_at(s, n) {
-        Next::End => text_print::text(b"-"),
-        Next::Broken => text_print::text(b"-"),
-        Next::Member { tag, start, end } => print_member(tag, place::value(s, start, end)),
+        Next::End => text_print::text(rt, b"-"),
+        Next::Broken => text_print::text(rt, b"-"),
+        Next::Member { tag, start, end } => print_member(rt, tag, place::value(s, start, end)),
     }
 }

@@ -6,40 +6,44 @@
 //     NTH n bytes            the one of them with n others before it
 //     DATA answer            the data field of a card's answer
 //     WRITE tag value room   the object written into a buffer of so many bytes, or the refusal
+#![tactic(auto)]
+
 mod holding;
 mod read;
 mod write;
 
-use libc::STDIN_FILENO;
 use slices::byte;
+use std::io;
+use text_input::read_full;
 use text_lines::{after_word, line_end};
 
-fn main() {
+fn main(rt: HostRuntime) -> io::Result<()> {
     let mut input = [0u8; 524288];
-    let n = io::read_full(STDIN_FILENO, &mut input);
-    answer_all(&input[..n]);
+    let n = read_full(&rt, &mut input);
+    answer_all(&rt, &input[..n])
 }
 
-fn answer_all(s: &[u8]) {
+fn answer_all(rt: &impl Print, s: &[u8]) -> io::Result<()> {
     let mut at = 0;
     while at < s.len() {
         let end = line_end(s, at);
-        answer(&s[at..end]);
+        answer(rt, &s[at..end])?;
         at = end + 1;
     }
+    Ok(())
 }
 
 // The first letter tells the question.
-fn answer(question: &[u8]) {
+fn answer(rt: &impl Print, question: &[u8]) -> io::Result<()> {
     let words = after_word(question);
     match byte(question, 0) as u8 {
-        b'L' => read::list(words),
-        b'F' => read::find(words),
-        b'H' => holding::list(words),
-        b'N' => holding::nth(words),
-        b'D' => read::data(words),
-        b'W' => write::write(words),
-        _ => text_print::text(b"?"),
+        b'L' => read::list(rt, words)?,
+        b'F' => read::find(rt, words)?,
+        b'H' => holding::list(rt, words)?,
+        b'N' => holding::nth(rt, words)?,
+        b'D' => read::data(rt, words)?,
+        b'W' => write::write(rt, words)?,
+        _ => text_print::text(rt, b"?")?,
     }
-    text_print::text(b"\n");
+    text_print::text(rt, b"\n")
 }

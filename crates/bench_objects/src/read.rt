@@ -1,81 +1,82 @@
 // Questions to the reader of data objects.
+use std::io;
 use text_hex::unhex;
 use text_lines::{after_word, hex_number};
 use tlv_head::Next;
 use tlv_list::{Found, Sought, lookup, place};
 
-pub fn list(words: &[u8]) {
+pub fn list(rt: &impl Print, words: &[u8]) -> io::Result<()> {
     let mut bytes = [0u8; 5000];
     let n = unhex(words, &mut bytes);
-    print_list(&bytes[0..n]);
+    print_list(rt, &bytes[0..n])
 }
 
-fn print_list(s: &[u8]) {
+fn print_list(rt: &impl Print, s: &[u8]) -> io::Result<()> {
     if place::list_refusal(s) == 9 {
-        text_print::text(b"refused 9");
-        return;
+        return text_print::text(rt, b"refused 9");
     }
     match place::next(s, 0) {
-        Next::End => text_print::text(b"-"),
-        Next::Broken => text_print::text(b"-"),
+        Next::End => text_print::text(rt, b"-"),
+        Next::Broken => text_print::text(rt, b"-"),
         Next::Member { tag, start, end } => {
-            print_member(tag, place::value(s, start, end));
-            print_others(s, end);
+            print_member(rt, tag, place::value(s, start, end))?;
+            print_others(rt, s, end)
         }
     }
 }
 
-fn print_others(s: &[u8], from: usize) {
+fn print_others(rt: &impl Print, s: &[u8], from: usize) -> io::Result<()> {
     let mut at = from;
     while at < s.len() {
         match place::next(s, at) {
-            Next::End => return,
-            Next::Broken => return,
+            Next::End => return Ok(()),
+            Next::Broken => return Ok(()),
             Next::Member { tag, start, end } => {
-                print_other(tag, place::value(s, start, end));
+                print_other(rt, tag, place::value(s, start, end))?;
                 at = end;
             }
         }
     }
+    Ok(())
 }
 
-pub fn print_other(tag: usize, value: &[u8]) {
-    text_print::text(b" ");
-    print_member(tag, value);
+pub fn print_other(rt: &impl Print, tag: usize, value: &[u8]) -> io::Result<()> {
+    text_print::text(rt, b" ")?;
+    print_member(rt, tag, value)
 }
 
-pub fn print_member(tag: usize, value: &[u8]) {
-    text_print::tag(tag);
-    text_print::text(b":");
-    text_print::bytes(value);
+pub fn print_member(rt: &impl Print, tag: usize, value: &[u8]) -> io::Result<()> {
+    text_print::tag(rt, tag)?;
+    text_print::text(rt, b":")?;
+    text_print::bytes(rt, value)
 }
 
-pub fn find(words: &[u8]) {
+pub fn find(rt: &impl Print, words: &[u8]) -> io::Result<()> {
     let mut bytes = [0u8; 5000];
     let n = unhex(after_word(words), &mut bytes);
-    print_sought(hex_number(words), &bytes[0..n]);
+    print_sought(rt, hex_number(words), &bytes[0..n])
 }
 
-fn print_sought(tag: usize, s: &[u8]) {
+fn print_sought(rt: &impl Print, tag: usize, s: &[u8]) -> io::Result<()> {
     match lookup::find(s, tag) {
-        Sought::Refused => text_print::text(b"refused 9"),
-        Sought::InList(found) => print_found(found, s),
+        Sought::Refused => text_print::text(rt, b"refused 9"),
+        Sought::InList(found) => print_found(rt, found, s),
     }
 }
 
-fn print_found(found: Found, s: &[u8]) {
+fn print_found(rt: &impl Print, found: Found, s: &[u8]) -> io::Result<()> {
     match found {
-        Found::Absent => text_print::text(b"absent"),
-        Found::Twice => text_print::text(b"twice"),
+        Found::Absent => text_print::text(rt, b"absent"),
+        Found::Twice => text_print::text(rt, b"twice"),
         Found::Once { start, end } => {
-            text_print::text(b"once ");
-            text_print::bytes_or_dash(place::value(s, start, end));
+            text_print::text(rt, b"once ")?;
+            text_print::bytes_or_dash(rt, place::value(s, start, end))
         }
     }
 }
 
-pub fn data(words: &[u8]) {
+pub fn data(rt: &impl Print, words: &[u8]) -> io::Result<()> {
     let mut bytes = [0u8; 5000];
     let n = unhex(words, &mut bytes);
-    text_print::bytes_or_dash(place::data_field(&bytes[0..n]));
+    text_print::bytes_or_dash(rt, place::data_field(&bytes[0..n]))
 }

@@ -21,7 +21,7 @@ use Rattle.select_search.specs.declared.Step.{Step}
 use Rattle.select_search.specs.declared.Step.TheVariants.{Environment, Directory, Listed, Final}
 use Rattle.rulebook_choosing.specs.Choosing.{Choosing, following, searched}
 use Rattle.card_seen.specs.Seen.{Shown, Seen, seen}
-use Rattle.card_seen.specs.Order.{Standing, nowhere, alone, repeated, standing}
+use Rattle.card_seen.specs.Order.{Standing, nowhere, alone, repeated}
 use Rattle.card_seen.proofs.Looking.{under}
 use Rattle.card_seen.proofs.Files.{inner_by}
 use Rattle.card_seen.proofs.Order.{lookup_of, under_standing, members_of, members_standing}

@@ -15,7 +15,7 @@ use Rattle.tlv_list.specs.Lookup.{Lookup, lookup}
 use Rattle.answer_common.specs.Answer.{is_one, inside, outer_bad}
 use Rattle.answer_common.specs.Content.{record_tag}
 use Rattle.answer_common.specs.Named.{members_in, listed, among, times, value_of}
-use Rattle.answer_select.specs.Select.{inner, pdol_of}
+use Rattle.answer_select.specs.Select.{pdol_of}
 use Rattle.select_names.specs.Names.{begins_with}
 use Rattle.select_answers.specs.Objects.{name_right, indicator_right, indicator_of, file_right}
 use Rattle.select_answers.specs.Files as files

@@ -2,7 +2,6 @@
 -- Assumes nothing.
 use mathlib.Core.Path.{refl}
 use mathlib.Core.List.{[], ◌∷◌, ◌++◌}
-use Rattle.tape_read.specs.Entries.{entry}
 use Rattle.rulebook.specs.Roles.{given}
 use Rattle.card_seen.specs.Seen as seen
 use Rattle.card_seen.proofs.Freedoms.{viewed}

@@ -10,7 +10,6 @@ use lib.ListN.{get_or}
 use Rattle.tlv_list.specs.Objects.{is_list}
 use Rattle.select_search.specs.declared.Step.TheVariants.{Directory}
 use Rattle.sessions.specs.Rules.{asks, hears, decides}
-use Rattle.rulebook.specs.Situation as situation
 use Rattle.rulebook.specs.Roles.{given}
 use Rattle.rulebook_choosing.specs.Choosing as choosing
 use Rattle.rulebook_choosing.specs.Choosing.{Choosing, ChoosingPhase, further, searched}

@@ -46,6 +46,6 @@ theorem = record {
           ((0, information_counts), ((5, counter_counts), ((5, cryptogram_counts), ((5, issuer_counts), tt)))),
     ),
   );
-  by_value = by_name ByValue by_value (also ByValue middle_names (0x9F27 ∷ []) middle (information_counts, tt));
+  by_value_lem = by_name ByValue by_value (also ByValue middle_names (0x9F27 ∷ []) middle (information_counts, tt));
   dressed = whole_pair;
 }

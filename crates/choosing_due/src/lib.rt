@@ -1,1 +1,3 @@
 // What is due after some entries, by the rules with choosing the application: definitions and laws only, see specs/ and proofs/.
+
+#![tactic(auto)]

@@ -15,6 +15,7 @@
 
 use apdu::handed;
 use slices::{alike, part};
+use std::io;
 use text_hex::unhex;
 use text_input::{Line, read_line};
 use text_lines::{after_word, word_end};
@@ -25,38 +26,37 @@ const LONGEST: usize = 9000;
 // More lines than there can be: nothing says that the input ends.
 const MOST: usize = 0x7FFF_FFFF_FFFF_FFFF;
 
-fn main() {
+fn main(rt: HostRuntime) -> io::Result<()> {
     let mut line = [0u8; LONGEST];
-    hand_all(&mut line);
+    hand_all(&rt, &mut line)
 }
 
-fn hand_all(line: &mut [u8]) {
+fn hand_all(rt: &(impl Input + Print), line: &mut [u8]) -> io::Result<()> {
     let mut left: usize = MOST;
     while 0 < left {
-        match read_line(line) {
-            Line::Whole(n) => hand(part(line, 0, n)),
-            Line::Long => too_long(),
-            Line::End => return,
+        match read_line(rt, line) {
+            Line::Whole(n) => hand(rt, part(line, 0, n))?,
+            Line::Long => too_long(rt)?,
+            Line::End => return Ok(()),
         }
         left -= 1;
     }
+    Ok(())
 }
 
-fn too_long() {
-    text_print::text(b"ERROR line too long\n");
+fn too_long(rt: &impl Print) -> io::Result<()> {
+    text_print::text(rt, b"ERROR line too long\n")
 }
 
-fn hand(line: &[u8]) {
+fn hand(rt: &impl Print, line: &[u8]) -> io::Result<()> {
     let word = part(line, 0, word_end(line, 0));
     if is_answer(word) {
-        hand_bytes(after_word(line));
-        return;
+        return hand_bytes(rt, after_word(line));
     }
     if is_none(word) {
-        text_print::text(b"SILENCE\n");
-        return;
+        return text_print::text(rt, b"SILENCE\n");
     }
-    text_print::text(b"ERROR unknown word\n");
+    text_print::text(rt, b"ERROR unknown word\n")
 }
 
 fn is_answer(word: &[u8]) -> bool {
@@ -67,14 +67,13 @@ fn is_none(word: &[u8]) -> bool {
     alike(word, b"REFUSED") || alike(word, b"END")
 }
 
-fn hand_bytes(digits: &[u8]) {
+fn hand_bytes(rt: &impl Print, digits: &[u8]) -> io::Result<()> {
     let mut bytes = [0u8; 4496];
     let n = unhex(digits, &mut bytes);
     if digits.len() != 2 * n {
-        text_print::text(b"ERROR not whole bytes in hexadecimal\n");
-        return;
+        return text_print::text(rt, b"ERROR not whole bytes in hexadecimal\n");
     }
-    text_print::text(b"ANSWER ");
-    text_print::bytes(handed(&bytes[0..n]));
-    text_print::text(b"\n");
+    text_print::text(rt, b"ANSWER ")?;
+    text_print::bytes(rt, handed(&bytes[0..n]))?;
+    text_print::text(rt, b"\n")
 }

@@ -10,8 +10,7 @@ use book_block::Entry;
 use book_open::{Opening, reopen};
 
 // Any bytes reopened. 0: the blocks used and the four counts, PASS, FAIL, INCONCLUSIVE, UNREADABLE. Else the fault, and the block first.
-#[unsafe(no_mangle)]
-pub extern "C" fn lab_book_open(bytes: &[u8], end: &mut [u64; 5]) -> u8
+pub fn lab_book_open(bytes: &[u8], end: &mut [u64; 5]) -> u8
     ensures value { result ≡ fault_in (opening_of (read_book bytes.now)) }
     ensures end_after { end.new ≡ laid_end (opening_of (read_book bytes.now)) }
 {
@@ -35,8 +34,7 @@ pub extern "C" fn lab_book_open(bytes: &[u8], end: &mut [u64; 5]) -> u8
 }
 
 // An entry handed in to a book that has so many blocks used: 0 entered, 1 no verdict, 2 already entered, 3 full.
-#[unsafe(no_mangle)]
-pub extern "C" fn lab_book_enter(
+pub fn lab_book_enter(
     used: u32,
     tape: u32,
     verdict: u8,

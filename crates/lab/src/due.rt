@@ -30,16 +30,14 @@ fn laid(f: Finding) -> [u64; 4]
 }
 
 // The verdict of a tape (1 PASS, 2 FAIL, 3 INCONCLUSIVE, 4 UNREADABLE), its place, its code, and the number of zeros.
-#[unsafe(no_mangle)]
-pub extern "C" fn lab_judge(tape: &[u8], finding: &mut [u64; 4])
+pub fn lab_judge(tape: &[u8], finding: &mut [u64; 4])
     ensures { FoundOf tape.now finding.new }
 {
     *finding = laid(judge(tape));
 }
 
 // The same numbers by the quick judge.
-#[unsafe(no_mangle)]
-pub extern "C" fn lab_judge_quick(tape: &[u8], finding: &mut [u64; 4])
+pub fn lab_judge_quick(tape: &[u8], finding: &mut [u64; 4])
     ensures { FoundOf tape.now finding.new }
 {
     *finding = laid(quick_judge::judge(tape));
@@ -47,8 +45,7 @@ pub extern "C" fn lab_judge_quick(tape: &[u8], finding: &mut [u64; 4])
 
 // What is due after the entries of a tape: its kind, and the number of its bytes, which stand at the start of `out`, or of what is wanted.
 // Kind 0: nothing is due; 255: its bytes do not fit; 254: the tape is unreadable, beside the code.
-#[unsafe(no_mangle)]
-pub extern "C" fn lab_due(tape: &[u8], next: &mut [u64; 2], out: &mut [u8])
+pub fn lab_due(tape: &[u8], next: &mut [u64; 2], out: &mut [u8])
     ensures next_after { next.new ≡ (due_on (read_tape tape.now) out.old).next }
     ensures out_after { out.new ≡ (due_on (read_tape tape.now) out.old).buffer }
 {

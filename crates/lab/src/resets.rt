@@ -7,8 +7,7 @@ use atr::{Broken, Protocol, Reading, Told, read_reset};
 
 // An answer to reset, after a cold or a warm one. True: inverse, F, D, N, interval, specific, the protocol, its parameters (WI; or IFSC, BWI
 // and CWI) with zeros behind them, and where the historical bytes start and end. False: inverse, the rules broken, the first, its place.
-#[unsafe(no_mangle)]
-pub extern "C" fn lab_atr(capture: &[u8], warm: bool, told: &mut [u64; 12]) -> bool
+pub fn lab_atr(capture: &[u8], warm: bool, told: &mut [u64; 12]) -> bool
     ensures value { result ≡ is_accepted (read_reset capture.now warm) }
     ensures told_after { told.new ≡ laid_reset (read_reset capture.now warm) }
 {

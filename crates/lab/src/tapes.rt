@@ -9,8 +9,7 @@ use recover::{Found, next};
 use tape_write::Writer;
 
 // One entry more on a tape that has so many blocks used, under a session number: 0, or the number under which it is turned away.
-#[unsafe(no_mangle)]
-pub extern "C" fn lab_append(
+pub fn lab_append(
     used: usize,
     session: u32,
     kind: u8,
@@ -27,8 +26,7 @@ pub extern "C" fn lab_append(
 
 // The next good block of any bytes at or after a step: the step it stands at, its number, session number and kind, and where its payload
 // starts and how long it is. False, and nothing changes, where there is none.
-#[unsafe(no_mangle)]
-pub extern "C" fn lab_recover(bytes: &[u8], step: usize, block: &mut [u64; 6]) -> bool
+pub fn lab_recover(bytes: &[u8], step: usize, block: &mut [u64; 6]) -> bool
     ensures value { result ≡ is_block (next_from bytes.now step) }
     ensures block_after { block.new ≡ laid_block (next_from bytes.now step) block.old }
 {

@@ -4,7 +4,6 @@ use mathlib.Core.Path.{◌≡◌, sym, ap, ◌∙◌}
 use mathlib.Core.List.{List, []}
 use mathlib.Core.Option.{none}
 use Prim.Native.Nat.{ℕ}
-use lib.ListN.{length}
 use Rattle.slices.specs.Writing.{laid, zeros}
 use Rattle.slices.proofs.Writing.{zeros_length}
 use Rattle.start_fields.specs.Reading.{reading_of}

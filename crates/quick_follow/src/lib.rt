@@ -1,5 +1,7 @@
 // The dialogue of a tape, followed in the order of a session: each function says what is found of the tape from a block on, where the
 // entries before it have led to what is due there. Nothing is kept but what the records told.
+#![tactic(auto)]
+
 mod ending;
 mod online;
 mod options;

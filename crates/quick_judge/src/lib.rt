@@ -1,5 +1,7 @@
 // The quick judge: the verdict of a whole tape (02, R-14). What makes the tape unreadable first, block by block up to the first bad one;
 // then its dialogue, in the order of a session. Its promise is the plain judge's, to the letter.
+#![tactic(auto)]
+
 ghost use Rattle.std.specs.Prelude.{◌≡◌};
 ghost use Rattle.verdict.specs.Saying.{says, finds};
 ghost use Rattle.verdict.specs.declared.Verdict.{Verdict as Said};

@@ -35,7 +35,7 @@ use Rattle.verdict_under.proofs.Taking.{reads_answer, reads_silence, silence_wro
 use Rattle.verdict_under.proofs.Taking.{decision_wrong, decision_missing, reads_after_end}
 use Rattle.quick_said.specs.Said.{entries_from, said_from, found_from}
 use Rattle.quick_said.proofs.Reading.{sum_none, sum_small, phase_end, owes_end, done_end}
-use Rattle.quick_meet.specs.Meeting.{is_end, stands, ends, breaks, goes_on, kind_at, payload_at}
+use Rattle.quick_meet.specs.Meeting.{is_end, ends, breaks, goes_on, kind_at, payload_at}
 use Rattle.quick_meet.specs.Meeting.{word_met, silence_met, answer_met, exchange_met, last_met, decision_met}
 use Rattle.quick_meet.proofs.OneBlock.{different, none_left_there, payload_there, read_one, breaks_here, as_kind}
 use Rattle.quick_meet.proofs.OneBlock.{met, at_ends, at_breaks, at_stands, broken_here, closed_found}

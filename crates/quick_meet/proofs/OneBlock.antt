@@ -6,7 +6,6 @@ use mathlib.Core.Bool.{true, false}
 use mathlib.Core.List.{List, [], ◌∷◌}
 use Prim.Native.Nat.{ℕ, ◌+◌, ◌*◌, ◌/◌, ◌^◌, ◌<◌}
 use native.Mathlib.Omega.{arith}
-use lib.Dec.{leb}
 use lib.ListN.{length, drop}
 use lib.Pow.{are_bytes}
 use borrow.Author.Tests.{leb-true, leb-false}
@@ -20,7 +19,7 @@ use Rattle.tape_read.specs.Blocks.{entry_in}
 use Rattle.tape_read.specs.Tapes.{block_at}
 use Rattle.dol_fill.specs.Filled.{summed}
 use Rattle.sessions.specs.Session.{is_payload}
-use Rattle.rulebook.specs.Machine.{Machine, at}
+use Rattle.rulebook.specs.Machine.{Machine}
 use Rattle.rulebook_zeros.specs.Summing.{new_in}
 use Rattle.verdict.specs.Saying.{says, finds}
 use Rattle.verdict.specs.declared.Verdict.TheVariants.{Fail, Inconclusive}

@@ -5,44 +5,48 @@
 //
 // A single block is held in memory, however long the input is. Nothing is printed before the input has ended: where it cannot be read,
 // standard output stays empty and standard error says why.
+#![tactic(auto)]
+
 mod kept;
 mod line;
 
-use libc::STDIN_FILENO;
 use recover::{Found, next, payload, tail};
 use slices::part;
+use std::fs::File;
+use std::io;
 use tape_read::BLOCK;
 use text_input::{Filled, fill};
+use text_print::fail;
 
 // More steps than there can be: nothing says that the input ends.
 const MOST: usize = 0x7FFF_FFFF_FFFF_FFFF;
 
-fn main() {
-    let file = kept::open();
-    if file < 0 {
+fn main(rt: HostRuntime) {
+    let Some(mut file) = kept::open(&rt) else {
         return;
-    }
+    };
     let mut block = [0u8; BLOCK];
-    if list_all(file, &mut block) {
-        kept::say(file, &mut block);
+    if list_all(&rt, &mut file, &mut block) {
+        kept::say(&rt, &mut file, &mut block);
     }
 }
 
 // Whether all of the input was read, and all of its lines are kept.
-fn list_all(file: i32, block: &mut [u8]) -> bool {
+fn list_all(rt: &(impl Input + Eprint), file: &mut File, block: &mut [u8]) -> bool {
+    let mut input = rt.reader();
     let mut step = 0;
     while step < MOST {
-        match fill(STDIN_FILENO, block) {
+        match fill(&mut input, block) {
             Filled::Bytes(n) => {
                 if n < BLOCK {
-                    return is_kept(line::end(file, step, tail(part(block, 0, n))));
+                    return is_kept(rt, line::end(file, step, tail(part(block, 0, n))));
                 }
-                if !is_kept(keep_block(file, step, block)) {
+                if !is_kept(rt, keep_block(file, step, block)) {
                     return false;
                 }
             }
-            Filled::Failed => {
-                os::fail(b"recover_tape: standard input");
+            Filled::Failed(e) => {
+                fail(rt, "recover_tape: standard input", &e);
                 return false;
             }
         }
@@ -51,15 +55,18 @@ fn list_all(file: i32, block: &mut [u8]) -> bool {
     false
 }
 
-fn is_kept(taken: bool) -> bool {
-    if !taken {
-        os::fail(b"recover_tape: a line could not be kept");
+fn is_kept(rt: &impl Eprint, taken: io::Result<()>) -> bool {
+    match taken {
+        Ok(()) => true,
+        Err(e) => {
+            fail(rt, "recover_tape: a line could not be kept", &e);
+            false
+        }
     }
-    taken
 }
 
 // The block at hand is its own step 0; the step where it stands in the input is the one that is told.
-fn keep_block(file: i32, at: usize, block: &[u8]) -> bool {
+fn keep_block(file: &mut File, at: usize, block: &[u8]) -> io::Result<()> {
     let found = next(block, 0);
     match found {
         Found::Block {
@@ -70,6 +77,6 @@ fn keep_block(file: i32, at: usize, block: &[u8]) -> bool {
             start: _,
             size: _,
         } => line::block(file, at, number, session, kind, payload(block, found)),
-        Found::End => true,
+        Found::End => Ok(()),
     }
 }

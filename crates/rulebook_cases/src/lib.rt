@@ -1,1 +1,3 @@
 // The cases of the bench have no code: see specs/ and proofs/.
+
+#![tactic(auto)]

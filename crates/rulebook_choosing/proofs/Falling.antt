@@ -12,7 +12,6 @@ use borrow.Author.Tests.{lt-ltb, ne_eqb}
 use Rattle.slices.specs.Choice.{pick}
 use Rattle.slices.specs.Writing.{zeros}
 use Rattle.slices.proofs.Choice.{pick_yes, pick_no, and_both}
-use Rattle.numbers.specs.Tables.{choice}
 use Rattle.start_fields.specs.Reading.{reading_of}
 use Rattle.start_list.specs.Rows.{room_in, name_in, mark_in, rows_in}
 use Rattle.start_list.specs.Listing.{count_in, fields_in, listed_of, applications_in, listed_at}
@@ -35,9 +34,7 @@ use Rattle.select_search.specs.Heard.{heard_at, heard}
 use Rattle.select_search.specs.declared.Step.{Step}
 use Rattle.select_search.specs.declared.Step.TheVariants.{Environment, Directory, Final}
 use Rattle.sessions.specs.Rules.{asks, hears}
-use Rattle.sessions.specs.Session as Under
 use Rattle.rulebook.specs.Situation.{begun}
-use Rattle.rulebook.specs.Session as today
 use Rattle.rulebook.proofs.Opening.{reached}
 use Rattle.rulebook.proofs.Made.{start_of, with_list}
 use Rattle.rulebook.proofs.Longest.{options_asked}

@@ -27,10 +27,7 @@ use Rattle.select_search.specs.declared.Step.TheVariants.{Environment, Directory
 use Rattle.sessions.specs.Rules.{asks, hears}
 use Rattle.sessions.specs.Session as Under
 use Rattle.sessions.specs.Session.{is_payload, exchanged, heard as said}
-use Rattle.rulebook.specs.Situation.{begun}
 use Rattle.rulebook.specs.Phase.{terminal}
-use Rattle.rulebook.specs.Session as today
-use Rattle.rulebook.proofs.Opening.{reached}
 use Rattle.rulebook.proofs.Made.{select, with_list}
 use Rattle.rulebook.proofs.Longest.{from_options, options_played, options_long}
 use Rattle.rulebook.specs.Later.{AskedLater, HeardLater, command_later, turn_later, kind_later, allowed_later, after_later}

@@ -19,7 +19,6 @@ use Rattle.select_laws.proofs.Missing.{at_aid, after_environment_lem, further as
 use Rattle.sessions.specs.Rules.{asks}
 use Rattle.sessions.specs.Session as Under
 use Rattle.sessions.specs.Session.{exchanged, heard, decided}
-use Rattle.rulebook.specs.Turn.{after}
 use Rattle.rulebook.specs.Later.{AskedLater, turn_later, allowed_later, after_later}
 use Rattle.start_choosing.specs.Start.{is_listing}
 use Rattle.rulebook_choosing.specs.Choosing.{Choosing, ChoosingPhase, further, following, listed}

@@ -26,11 +26,7 @@ use Rattle.dol_values.specs.declared.Own.TheVariants.{Of, Nothing}
 use Rattle.dol_values.specs.Shape.{format_of}
 use Rattle.dol_values.specs.Known.{value_by, value_for, supplied, own_field, with_format}
 use Rattle.dol_fill.specs.Filled.{entry_bytes, filled, filled_by, filled_list, filling, missing, missing_in, missing_by, unsupplied}
-use Rattle.rulebook.specs.Phase.{second}
-use Rattle.rulebook.specs.Turn.{managed}
 use Rattle.rulebook.proofs.Opening.{reached}
-use Rattle.verdict_under.specs.Counted as Under
-use Rattle.rulebook_choosing.specs.Session as Later
 
 -- ---- object lists
 

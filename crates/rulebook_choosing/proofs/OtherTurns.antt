@@ -34,14 +34,12 @@ use Rattle.commands.specs.Commands.{options_command, cryptogram_command}
 use Rattle.words.specs.declared.Word.{Word}
 use Rattle.words.specs.declared.Word.TheVariants.{Host, Results}
 use Rattle.rulebook.specs.Situation.{Situation, known_in, list_in}
-use Rattle.rulebook.specs.Phase.{Asked, selecting, optioning, reading, first, second, terminal, says, Phase, asks, hears, decides}
+use Rattle.rulebook.specs.Phase.{Asked, selecting, optioning, reading, first, second, says, Phase, asks, hears, decides}
 use Rattle.rulebook.specs.Phase.{command_of, decided, ended}
 use Rattle.rulebook.specs.Turn.{goes_on, managed, requested, verifying, all_read, read_on, with_profile, optioned, with_record, recorded}
 use Rattle.rulebook.specs.Turn.{answered, replied, online, by_first, first_answered, by_second, second_answered, turn, wanted_in, allowed}
 use Rattle.rulebook.specs.Turn.{reply_made, issuer_replied, verified_by, after}
-use Rattle.verdict_under.specs.Counted as Under
 use Rattle.rulebook_zeros.specs.Zeros.{unsupplied_asking, unsupplied_in}
-use Rattle.rulebook_choosing.specs.Session as Later
 use Rattle.start_fields.specs.Bare.{terminal_with}
 use Rattle.rulebook_choosing.specs.Unlooked.{situation_with, asked_with, heard_with, phase_with, FromOptions}
 use Rattle.rulebook_choosing.proofs.OtherAid.{filling_same, unsupplied_same, due_same, managed_bits, verified_bits, request_same}

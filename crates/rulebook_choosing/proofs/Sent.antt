@@ -2,13 +2,12 @@
 -- Assumes nothing.
 use mathlib.Core.Path.{◌≡◌, refl, sym, ◌∙◌, subst}
 use mathlib.Core.Bool.{Bool, true, false, ◌||◌, false≢true}
-use mathlib.Core.List.{List, [], ◌∷◌, map}
+use mathlib.Core.List.{List, [], ◌∷◌}
 use Prim.Native.Nat.{ℕ, zero, suc, ◌<◌, ◌≤◌}
 use native.Mathlib.Omega.{arith}
-use lib.Dec.{eqb, ltb, leb}
+use lib.Dec.{eqb, leb}
 use lib.ListN.{length, get_or, length-map}
 use borrow.Author.Tests.{ltb-true, leb-false}
-use Rattle.slices.specs.Choice.{pick}
 use Rattle.slices.proofs.Choice.{picked, pick_yes, pick_no, either}
 use Rattle.slices.proofs.Tests.{first_held}
 use Rattle.answer_common.proofs.Limits.{bounds}

@@ -28,9 +28,9 @@ use Rattle.words.specs.declared.Word.TheVariants.{Host, Results}
 use Rattle.sessions.specs.Session.{exchanged, heard, decided as concludes, phases_of}
 use Rattle.rulebook.specs.Situation.{Situation, list_in}
 use Rattle.rulebook.specs.Phase.{Asked, selecting, optioning, reading, first, second, terminal, says, Phase, asks, hears, decides}
-use Rattle.rulebook.specs.Phase.{command_of, due_kind, decision_of, decided, ended}
+use Rattle.rulebook.specs.Phase.{due_kind, decision_of, decided, ended}
 use Rattle.rulebook.specs.Turn.{goes_on, managed, requested, verifying, all_read, read_on, with_profile, optioned, with_record, recorded}
-use Rattle.rulebook.specs.Turn.{answered, replied, online, by_first, first_answered, second_answered, turn, allowed}
+use Rattle.rulebook.specs.Turn.{answered, replied, online, by_first, first_answered, second_answered, turn}
 use Rattle.rulebook.specs.Turn.{reply_made, issuer_replied, verified_by, after}
 use Rattle.rulebook.specs.Session.{rules, Plays}
 use Rattle.verdict_under.specs.Counted as Under

@@ -1,4 +1,6 @@
 // How a session goes on after each answer of the card's.
+#![tactic(auto)]
+
 ghost use Rattle.std.specs.Prelude.{◌≡◌, [], ◌≤◌, take};
 ghost use Rattle.answer_common.specs.Content.{record_names, name_count, names_for};
 ghost use Rattle.rulebook.specs.Phase.{selecting, optioning, reading as reading_record, first as first_asked, second as second_asked};

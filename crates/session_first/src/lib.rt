@@ -1,4 +1,6 @@
 // After the last record and its bits: the results of cardholder verification where they are due, and the first request.
+#![tactic(auto)]
+
 ghost use Rattle.std.specs.Prelude.{◌≡◌, ◌<◌};
 ghost use Rattle.answer_record.specs.Records.{after_records};
 ghost use Rattle.words.specs.declared.Word.TheVariants.{Results};

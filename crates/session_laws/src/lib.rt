@@ -1,1 +1,3 @@
 // The refinement has definitions and laws only: see specs/.
+
+#![tactic(auto)]

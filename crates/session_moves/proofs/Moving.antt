@@ -5,11 +5,9 @@ use mathlib.Core.List.{List}
 use Prim.Native.Nat.{ℕ, ◌≤◌, ◌<◌, ◌%◌}
 use native.Mathlib.Nat.{mod-eq_of_lt}
 use native.Mathlib.Omega.{arith}
-use lib.Dec.{eqb}
 use lib.ListN.{length, take}
 use lib.Seq.{length-take-le}
 use borrow.Author.Tests.{eq-eqb, ne_eqb}
-use Rattle.slices.specs.Choice.{pick}
 use Rattle.slices.specs.Writing.{laid}
 use Rattle.slices.proofs.Choice.{pick_yes, pick_no}
 use Rattle.commands.specs.Commands.{size_in}

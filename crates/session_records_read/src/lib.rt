@@ -1,4 +1,6 @@
 // From record to record, and after the last of them.
+#![tactic(auto)]
+
 ghost use Rattle.std.specs.Prelude.{◌≡◌};
 ghost use Rattle.answer_afl.specs.Cursor.{is_left, stepped};
 ghost use Rattle.rulebook.specs.Turn.{all_read, read_on};

@@ -1,4 +1,6 @@
 // After the first cryptogram: approved, declined, or the issuer is asked and then the card again.
+#![tactic(auto)]
+
 ghost use Rattle.std.specs.Prelude.{◌≡◌};
 ghost use Rattle.decide_requests.specs.Requests.{second_request};
 ghost use Rattle.start_fields.specs.Reading.{reading_of};

@@ -24,7 +24,8 @@ use Rattle.t0_state.specs.declared.Act.TheVariants.{Nothing, Header, Send, Keep}
 use Rattle.t0_state.specs.declared.Turn.{Turn}
 use Rattle.t0_state.specs.declared.bytes.Meaning.{Meaning}
 use Rattle.t0_state.specs.declared.bytes.Meaning.TheVariants.{All, Next, Wait, Get, Repeat, Status as Begins}
-use Rattle.t0_procedure.specs.Procedure.{waits_most, gets_most, onward, less_left, moving, on_all, on_next, waited, on_wait, got, on_get, repeats}
+use Rattle.t0_procedure.specs.Procedure.{waits_most, gets_most, onward, less_left, moving, on_all}
+use Rattle.t0_procedure.specs.Procedure.{on_next, waited, on_wait, got, on_get, repeats}
 use Rattle.t0_procedure.specs.Procedure.{on_six_c, by_meaning, on_procedure}
 use Rattle.t0_turns.specs.Turns.{data_most, on_length, on_repeat, ending_in, on_status, phase_after, on_data, by_phase, after_byte}
 use Rattle.t0_begin.specs.Begin.{begun_by}
@@ -186,13 +187,15 @@ data_in b [] rest u n e h bytes ok sound =
     let t : after_byte u b ≡ record { state = filled n u; act = Keep b }
     = data_turn u b sound n e
     ∙ (ap (λ (p : Phase). record { state = at_phase p (with_received (u.received + 1) u); act = Keep b }) (last_byte n (omega arith))
-    ∙ ap (λ (k : ℕ). record { state = at_phase Procedure (with_received (u.received + k) u); act = Keep b }) (let z : 1 ≡ n = omega arith in z))
+    ∙ ap (λ (k : ℕ). record { state = at_phase Procedure (with_received (u.received + k) u); act = Keep b })
+    (let z : 1 ≡ n = omega arith in z))
     in
     (one_kept u b _ t bytes.0 ok sound rest, after_sound u b _ t bytes.0 ok sound)
 data_in b (c ∷ d) rest u n e h bytes ok sound =
     let t : after_byte u b ≡ record { state = at_phase (Data (n - 1)) (with_received (u.received + 1) u); act = Keep b }
     = data_turn u b sound n e
-    ∙ ap (λ (p : Phase). record { state = at_phase p (with_received (u.received + 1) u); act = Keep b }) (more_bytes n (length d) (omega arith))
+    ∙ ap (λ (p : Phase). record { state = at_phase p (with_received (u.received + 1) u); act = Keep b })
+    (more_bytes n (length d) (omega arith))
     in
     let on = data_in c d rest (at_phase (Data (n - 1)) (with_received (u.received + 1) u)) (n - 1) refl (omega arith) bytes.1
     (after_ok u b _ t bytes.0 ok sound) (after_sound u b _ t bytes.0 ok sound)
@@ -284,7 +287,8 @@ follows (ends a b) s due right ok sound bytes =
     let t' = ends_turn u b sound' a refl right.1 in
     one_kept s a _ t bytes.0 ok sound _
     ∙ (one_kept u b _ t' bytes.1.0 ok sound' []
-    ∙ (ap (λ (l : List ℕ). l ++ kept (at_phase Over u) []) (ending_kept s.trailer a b) ∙ nothing_more (at_phase Over u) (ending s.trailer a b)))
+    ∙ (ap (λ (l : List ℕ). l ++ kept (at_phase Over u) []) (ending_kept s.trailer a b)
+    ∙ nothing_more (at_phase Over u) (ending s.trailer a b)))
 
 -- the law: a command that is taken, and a right card
 module _ (c out w : List ℕ) (bytes : Bytes c) (room : answer_room ≤ length w) where

@@ -301,7 +301,8 @@ module _ (c out bs : List ℕ) (bytes : Bytes c) (card : Bytes bs) where
         ≡ pick (ltb (times 0x60 said) waits_most) (record { state = waited after; act = Nothing }) (refused Many60 after)
     unfolding by_meaning on_wait
     sixty_limit =
-        let n : after.counts.waits ≡ times 0x60 said = (whole_command still).waits ∙ (ap (λ (k : ℕ). k + times 0x60 said) none_yet.0 ∙ none_plus _) in
+        let n : after.counts.waits ≡ times 0x60 said = (whole_command still).waits
+        ∙ (ap (λ (k : ℕ). k + times 0x60 said) none_yet.0 ∙ none_plus _) in
         byte_means 0x60 Wait (λ ins x y. sixty ins x y)
         ∙ ap (λ (k : ℕ). pick (ltb k waits_most) (record { state = waited after; act = Nothing }) (refused Many60 after)) n
 
@@ -311,7 +312,8 @@ module _ (c out bs : List ℕ) (bytes : Bytes c) (card : Bytes bs) where
         (pick (may_get after.header) (onward Length61 (got after)) (refused Place after))
     unfolding by_meaning on_get
     sixty_one_limit =
-        let n : after.counts.gets ≡ times 0x61 said = (whole_command still).gets ∙ (ap (λ (k : ℕ). k + times 0x61 said) none_yet.1 ∙ none_plus _) in
+        let n : after.counts.gets ≡ times 0x61 said = (whole_command still).gets
+        ∙ (ap (λ (k : ℕ). k + times 0x61 said) none_yet.1 ∙ none_plus _) in
         byte_means 0x61 Get (λ ins x y. sixty_one ins x y)
         ∙ ap (λ (k : ℕ). pick (leb gets_most k) (refused Many61 after)
         (pick (may_get after.header) (onward Length61 (got after)) (refused Place after))) n

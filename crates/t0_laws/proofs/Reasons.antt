@@ -33,7 +33,8 @@ too_long a h = rw (le-ltb (length a) fewest (omega arith), lt-ltb most (length a
 pub handed_size : (a : List ℕ) → size_bad (handed a) ≡ size_bad a
 handed_size a =
     handed_cases (λ (x : List ℕ). size_bad x ≡ size_bad a) a (λ h. refl)
-    (λ h. too_long (take handed_of_longer a) (omega (arith, length-take-le handed_of_longer a (omega arith))) ∙ sym (too_long a (omega arith)))
+    (λ h. too_long (take handed_of_longer a) (omega (arith, length-take-le handed_of_longer a (omega arith)))
+    ∙ sym (too_long a (omega arith)))
 
 -- an answer of a good size is handed on as it is
 pub handed_whole : (a : List ℕ) → size_bad a ≡ false → handed a ≡ a

@@ -161,7 +161,8 @@ abbrev waits_in : State → List ℕ → ℕ
 waits_in s bs = s.counts.waits + times 0x60 (procedures s bs)
 
 -- one byte on, as many
-goes_on_lem : (s : State) (b : ℕ) (bs : List ℕ) → s.received ≤ data_most → Accepted s.command → is_over (after_byte s b).state.phase ≡ false
+goes_on_lem : (s : State) (b : ℕ) (bs : List ℕ) → s.received ≤ data_most → Accepted s.command
+    → is_over (after_byte s b).state.phase ≡ false
     → waits_in (after_byte s b).state bs ≡ waits_in s (b ∷ bs)
 unfolding procedures
 goes_on_lem s b bs few ok e =

@@ -62,7 +62,8 @@ all_left c sent out bytes h =
     pick_no _ _ _ out
     ∙ (ap (λ (k : ℕ). take n (drop k (laid d 0 (zeros data_room)))) first
     ∙ (ap (take n) (laid_fits d 0 (zeros data_room) room ∙ put_start d (zeros data_room))
-    ∙ (ap (λ (k : ℕ). take k (d ++ drop (length d) (zeros data_room))) (sym size) ∙ take-append_seam d (drop (length d) (zeros data_room)))))
+    ∙ (ap (λ (k : ℕ). take k (d ++ drop (length d) (zeros data_room))) (sym size)
+    ∙ take-append_seam d (drop (length d) (zeros data_room)))))
 
 -- an exchange that is over sends nothing
 over_gives : (bs : List ℕ) (s : State) → is_over s.phase ≡ true → data_out s bs ≡ []

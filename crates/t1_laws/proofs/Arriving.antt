@@ -8,7 +8,6 @@ use native.Mathlib.Omega.{arith}
 use lib.ListN.{length, get_or, take, drop}
 use lib.Seq.{take_all}
 use borrow.Author.Tests.{ltb-true}
-use Rattle.slices.specs.Choice.{pick}
 use Rattle.slices.specs.Writing.{zeros}
 use Rattle.slices.proofs.Choice.{pick_yes, pick_no}
 use Rattle.t1_block.specs.Blocks.{len_of}

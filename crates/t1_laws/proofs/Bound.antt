@@ -68,12 +68,14 @@ module _ (t : Talk) (h : Holds t) (live : is_over t.terminal.end.phase ≡ false
   unchanged : (m : ℕ) → n ≤ m → (to : List ℕ → Line) (b : List ℕ)
       → Ranked m (record { terminal = T; card = C; line = pick false (to b) t.line })
   unchanged m k to b =
-      subst (λ (l : Line). Ranked m (record { terminal = T; card = C; line = l })) (sym (pick_no false (to b) t.line refl)) (more n m t k r)
+      subst (λ (l : Line). Ranked m (record { terminal = T; card = C; line = l })) (sym (pick_no false (to b) t.line refl))
+      (more n m t k r)
 
   carried : (m : ℕ) (x : Side) (b : List ℕ) (q : Met x C (there b)) → rank_of q ≤ m
       → Ranked m (record { terminal = x; card = C; line = pick true (forth b) t.line })
   carried m x b q k =
-      let s = subst (λ (w : Way). (p : Met x C w) × (rank_of p ≤ m)) (sym (ap from_terminal (pick_yes true (forth b) t.line refl))) (q, k) in
+      let s = subst (λ (w : Way). (p : Met x C w) × (rank_of p ≤ m))
+      (sym (ap from_terminal (pick_yes true (forth b) t.line refl))) (q, k) in
       terminals s.0 s.1
 
   carried' : (m : ℕ) (x : Side) (b : List ℕ) (q : Met x T (there b)) → rank_of q ≤ m

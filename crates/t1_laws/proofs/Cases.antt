@@ -35,7 +35,8 @@ use Rattle.t1_again.specs.Again.{information_again, wrong_after, wrong, for_role
 use Rattle.t1_line.specs.Line.{is_ifs, answers, on_request, sends_piece, sends_next, is_sent, on_ready, takes_fields}
 use Rattle.t1_line.specs.Line.{keeps, on_information, on_kind, on_line}
 use Rattle.t1_asking.specs.Asking.{is_response, settled, asked_instead, on_response, asked_kind, on_asking}
-use Rattle.t1_turns.specs.Turns.{by_phase, on_block, silent_in, on_silence, asks_for, hello_in, on_hello, may_ask, card_asks, ask_in, on_ask}
+use Rattle.t1_turns.specs.Turns.{by_phase, on_block, silent_in, on_silence, asks_for, hello_in}
+use Rattle.t1_turns.specs.Turns.{on_hello, may_ask, card_asks, ask_in, on_ask}
 use Rattle.t1_turns.specs.Turns.{message_of, sends_message, send_in, on_send}
 use Rattle.t1_laws.specs.Stopping.{awaits, is_same}
 use Rattle.t1_laws.specs.Conduct.{listens, fits}
@@ -237,7 +238,8 @@ module _ (s : State) (P : Turn → Type 0) (refuses : (why : Refusal) → P (ref
       by Receiving e = refuses NotDue
       by Over e = refuses Closed
 
-  pub every_ask : (w : What) (v : ℕ) → (s.phase ≡ Due → s.role ≡ Card → may_ask w v ≡ true → P (goes_out (asks_for w v s))) → P (on_ask w v s)
+  pub every_ask : (w : What) (v : ℕ) → (s.phase ≡ Due → s.role ≡ Card → may_ask w v ≡ true → P (goes_out (asks_for w v s)))
+      → P (on_ask w v s)
   unfolding on_ask ask_in card_asks for_role
   every_ask w v f = by s.phase refl
     where

@@ -59,9 +59,12 @@ module _ (m rest : List ℕ) (s r : State) (b : List ℕ) where
       ∙ (pick_yes _ _ _ f ∙ pick_yes _ _ _ (ap (equal (not s.numbers.next)) n ∙ equal_same (not s.numbers.next)))))
       (picked Completed _ _ _ (λ g j e. limit_not j e) (λ g. keeps_completes))
   completes both n f (ready h) =
-      λ j e. passes_not _ (subst (Passes r) (sym (on_line_is m rest s r [] b f _ h)) (ready_passes r both.says s.numbers.expected both.step f)) j e
-  completes both n f (answer v h) = λ j e. passes_not _ (subst (Passes r) (sym (on_line_is m rest s r [] b f _ h)) (passes r both.says 2)) j e
-  completes both n f (bad code h) = λ j e. passes_not _ (subst (Passes r) (sym (on_line_is m rest s r [] b f _ h)) (passes r both.says code)) j e
+      λ j e. passes_not _ (subst (Passes r) (sym (on_line_is m rest s r [] b f _ h))
+      (ready_passes r both.says s.numbers.expected both.step f)) j e
+  completes both n f (answer v h) = λ j e. passes_not _
+      (subst (Passes r) (sym (on_line_is m rest s r [] b f _ h)) (passes r both.says 2)) j e
+  completes both n f (bad code h) = λ j e. passes_not _
+      (subst (Passes r) (sym (on_line_is m rest s r [] b f _ h)) (passes r both.says code)) j e
 
   pub never_completes : Both m rest s r → r.numbers.expected ≡ s.numbers.next → takes_fields r.phase (more_of r.message) ≡ true
       → Out s b (heard_of b r.sizes.ours) → (j : ℕ) → (on_block b r).act ≡ Whole j → {A : Type 0} → A
@@ -72,6 +75,9 @@ module _ (m rest : List ℕ) (s r : State) (b : List ℕ) where
       (information_passes r both.says (not s.numbers.next) (more_of s.message) (len_of b)
       (ap (equal (not s.numbers.next)) n ∙ equal_not s.numbers.next))) j e
   never_completes both n f (ready h) j e =
-      passes_not _ (subst (Passes r) (sym (on_line_is m rest s r [] b f _ h)) (ready_passes r both.says s.numbers.expected both.step f)) j e
-  never_completes both n f (answer v h) j e = passes_not _ (subst (Passes r) (sym (on_line_is m rest s r [] b f _ h)) (passes r both.says 2)) j e
-  never_completes both n f (bad code h) j e = passes_not _ (subst (Passes r) (sym (on_line_is m rest s r [] b f _ h)) (passes r both.says code)) j e
+      passes_not _ (subst (Passes r) (sym (on_line_is m rest s r [] b f _ h))
+      (ready_passes r both.says s.numbers.expected both.step f)) j e
+  never_completes both n f (answer v h) j e = passes_not _
+      (subst (Passes r) (sym (on_line_is m rest s r [] b f _ h)) (passes r both.says 2)) j e
+  never_completes both n f (bad code h) j e = passes_not _
+      (subst (Passes r) (sym (on_line_is m rest s r [] b f _ h)) (passes r both.says code)) j e

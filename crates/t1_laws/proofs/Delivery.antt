@@ -1,7 +1,7 @@
 -- A message cut into chained blocks and received by the rules is the same message, whatever size the blocks have; and so is the answer
 -- that goes back. Each round keeps one piece; the last one makes the message whole. Assumes nothing.
 use mathlib.Core.Path.{◌≡◌, refl, sym, ap, ap₂, ◌∙◌, subst}
-use mathlib.Core.Bool.{Bool, true, false, not}
+use mathlib.Core.Bool.{Bool, true, false}
 use mathlib.Core.List.{List, [], ◌++◌}
 use Prim.Native.Nat.{ℕ, zero, suc, ◌+◌, ◌-◌, ◌≤◌}
 use native.Mathlib.Omega.{arith}
@@ -10,7 +10,7 @@ use lib.Seq.{take_all}
 use borrow.Author.Tests.{ne_eqb, le-leb}
 use Rattle.slices.specs.Choice.{pick}
 use Rattle.slices.specs.Tests.{between}
-use Rattle.slices.specs.Writing.{laid, put, zeros}
+use Rattle.slices.specs.Writing.{laid, zeros}
 use Rattle.slices.proofs.Choice.{pick_yes, pick_no, either}
 use Rattle.slices.proofs.Tests.{held, last}
 use Rattle.slices.proofs.Writing.{laid_fits, put_start, zeros_length}

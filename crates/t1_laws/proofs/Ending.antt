@@ -56,19 +56,22 @@ module _ (t : Talk) (h : Holds t) (n : ℕ) (b₀ b : List ℕ) where
   abbrev C : Side
   C = t.card
 
-  at_card : Left T (y_after T C b) (y_way T C b) → ((q : Met T (y_after T C b) (y_way T C b)) → rank_of q < n) → Ranked (n - 1) (to_card b t)
+  at_card : Left T (y_after T C b) (y_way T C b) → ((q : Met T (y_after T C b) (y_way T C b)) → rank_of q < n)
+      → Ranked (n - 1) (to_card b t)
   unfolding to_card
   at_card l f =
       from_terminal_lem (to_card b t) n (y_way T C b)
       (pick_ap from_terminal (speaks (y_turn T C b).act) (back (block_of (y_turn T C b).state)) clear) l f
 
-  at_card' : Left (x_after C T b) T (x_way C T b) → ((q : Met (x_after C T b) T (x_way C T b)) → rank_of q < n) → Ranked (n - 1) (to_card b t)
+  at_card' : Left (x_after C T b) T (x_way C T b) → ((q : Met (x_after C T b) T (x_way C T b)) → rank_of q < n)
+      → Ranked (n - 1) (to_card b t)
   unfolding to_card
   at_card' l f =
       from_card_lem (to_card b t) n (x_way C T b)
       (pick_ap from_card (speaks (x_turn C T b).act) (back (block_of (x_turn C T b).state)) clear) l f
 
-  at_terminal : Left C (y_after C T b) (y_way C T b) → ((q : Met C (y_after C T b) (y_way C T b)) → rank_of q < n) → Ranked (n - 1) (to_terminal b t)
+  at_terminal : Left C (y_after C T b) (y_way C T b) → ((q : Met C (y_after C T b) (y_way C T b)) → rank_of q < n)
+      → Ranked (n - 1) (to_terminal b t)
   unfolding to_terminal
   at_terminal l f =
       from_card_lem (to_terminal b t) n (y_way C T b)

@@ -72,7 +72,8 @@ same_again_lem s h = pick_yes _ _ _ (lt-ltb s.counts.same (same_limit s.role s.l
 
 pub information_again_lem : (s : State) → s.counts.information ≤ 1 → information_again s ≡ resent s
 unfolding information_again
-information_again_lem s h = pick_yes _ _ _ (lt-ltb s.counts.information (information_limit s.role) (let t = twice_information s.role in omega arith))
+information_again_lem s h = pick_yes _ _ _ (lt-ltb s.counts.information (information_limit s.role)
+    (let t = twice_information s.role in omega arith))
 
 -- after a block that is not taken: an R-block for the first time, or again
 pub wrong_ready : (s : State) (p code : ℕ) → s.last ≡ Ready p → s.counts.same ≤ 1 → wrong code s ≡ repeated s
@@ -144,7 +145,8 @@ module _ (x y : State) (v : What) (u : ℕ) (asking : x.phase ≡ Asking) (asks 
 
   is_response_lem : is_response x.last v u ≡ true
   unfolding is_response
-  is_response_lem = ap (λ (l : Last). is_response l v u) asks ∙ (pick_yes _ _ _ (eq-eqb (what_number v) (what_number v) refl) ∙ eq-eqb u u refl)
+  is_response_lem = ap (λ (l : Last). is_response l v u) asks
+      ∙ (pick_yes _ _ _ (eq-eqb (what_number v) (what_number v) refl) ∙ eq-eqb u u refl)
 
   pub response_heard : on_block (block_of y) x ≡ record { state = at_phase Due (settled v u x); act = Quiet }
   unfolding on_block by_phase on_asking asked_kind on_response framed
@@ -202,7 +204,8 @@ module _ (y x : State) (p : ℕ) (w : Says y) (out : y.last ≡ Ready p) where
   request_asked e few =
       ap (λ (b : List ℕ). on_block b x) ready_block
       ∙ (ap (λ (g : Heard). by_phase x.phase g (get_or (framed p []) 3 0) (len_of (framed p [])) x) ready_hears
-      ∙ (ap (λ (q : Phase). by_phase q (Valid (R y.numbers.expected)) (get_or (framed p []) 3 0) (len_of (framed p [])) x) e ∙ same_again_lem x few))
+      ∙ (ap (λ (q : Phase). by_phase q (Valid (R y.numbers.expected)) (get_or (framed p []) 3 0) (len_of (framed p [])) x) e
+      ∙ same_again_lem x few))
 
   -- the R-block for a piece again
   pub ready_asked : (q : ℕ) → takes_fields x.phase (more_of x.message) ≡ true → y.numbers.expected ≡ x.numbers.next

@@ -28,7 +28,6 @@ use Rattle.t1_again.specs.Again.{ready_for, exhausted, same_again, information_a
 use Rattle.t1_line.specs.Line.{answers, on_request, sends_piece, sends_next, equal, on_ready, keeps, on_information, on_kind, on_line}
 use Rattle.t1_asking.specs.Asking.{settled, asked_instead, on_response, asked_kind, on_asking}
 use Rattle.t1_turns.specs.Turns.{by_phase, on_block}
-use Rattle.t1.specs.Steps.{block}
 use Rattle.t1_laws.specs.Keeping.{is_kept, carries}
 
 -- a turn that keeps nothing, and expects what was expected

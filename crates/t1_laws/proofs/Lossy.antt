@@ -189,7 +189,8 @@ module _ (m rest : List ℕ) (s r : State) (k : List ℕ) (b : List ℕ) where
   due_stays : r.phase ≡ Due → k ≡ m → After (on_block b r)
   unfolding on_block by_phase kept_by
   due_stays e f =
-      subst After (sym (ap (λ (p : Phase). by_phase p (heard_of b r.sizes.ours) (get_or b 3 0) (len_of b) r) e)) (whole e (append-nil k ∙ f))
+      subst After (sym (ap (λ (p : Phase). by_phase p (heard_of b r.sizes.ours) (get_or b 3 0) (len_of b) r) e))
+      (whole e (append-nil k ∙ f))
 
   not_due : takes_fields r.phase (more_of r.message) ≡ true → {A : Type 0} → r.phase ≡ Due → A
   not_due f e = absurd (false≢true (sym (ap (λ (p : Phase). takes_fields p (more_of r.message)) e) ∙ f))

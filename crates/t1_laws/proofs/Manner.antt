@@ -58,7 +58,8 @@ module _ (s : State) (orderly : fits s.phase s.last ≡ true) (b : List ℕ) whe
   listened =
       every_block s orderly (λ (t : Turn). listens s.phase ≡ true → Listened s t)
       (λ why e f. absurd (awaiting s.phase e f)) (λ e w f. stops e refl refl) (λ e f g h. absurd (false≢true (sym (ap listens e) ∙ h)))
-      (λ code e f. says refl refl refl refl) (λ w i h f. says refl refl refl refl) (λ e f g. says refl refl refl refl) (λ w v e f. replies refl refl refl refl)
+      (λ code e f. says refl refl refl refl) (λ w i h f. says refl refl refl refl) (λ e f g. says refl refl refl refl)
+      (λ w v e f. replies refl refl refl refl)
       (λ v e f g. replies refl refl refl refl) (λ e f g. says refl (sym e) refl refl)
       (λ more n e f g. picked (Listened s) more _ _ (λ h. takes refl refl refl refl _ refl) (λ h. whole (s.received + n) refl refl))
       (λ w v e f g. absurd (false≢true (sym (ap listens e) ∙ g))) b
@@ -74,7 +75,8 @@ module _ (s : State) (orderly : fits s.phase s.last ≡ true) (b : List ℕ) whe
   pub asked : s.phase ≡ Asking → Asked s (on_block b s)
   asked =
       every_block s orderly (λ (t : Turn). s.phase ≡ Asking → Asked s t)
-      (λ why e f. absurd (false≢true (sym e ∙ ap awaits f))) (λ e w f. stops e refl refl (record { numbers = refl; received = refl; message = refl; role = refl }))
+      (λ why e f. absurd (false≢true (sym e ∙ ap awaits f)))
+      (λ e w f. stops e refl refl (record { numbers = refl; received = refl; message = refl; role = refl }))
       (λ e f g h. remains refl refl f)
       (λ code e f. absurd (false≢true (sym (ap listens f) ∙ e)))
       (λ w i h f. asks refl f (record { numbers = refl; received = refl; message = refl; role = refl })

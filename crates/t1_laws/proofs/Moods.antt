@@ -26,7 +26,7 @@ use Rattle.t1_laws.proofs.Still.{plain, Says}
 use Rattle.t1_laws.proofs.Lossy.{Inv, before, behind, whole}
 use Rattle.t1_laws.proofs.Meeting.{Way, empty, there, here, Level, Going}
 use Rattle.t1_laws.proofs.Meeting.{takes_listens}
-use Rattle.t1_laws.proofs.Messages.{due_not, kept}
+use Rattle.t1_laws.proofs.Messages.{due_not}
 use Rattle.t1_laws.proofs.Exactly.{wrong_ready, opens, wrong_opens, Askable}
 
 -- every field of x's fits y

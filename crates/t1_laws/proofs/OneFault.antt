@@ -146,17 +146,20 @@ takes_live Over more e = absurd (false≢true e)
 
 live : (spare : Bool) (t : Talk) → Well spare t → finished t ≡ false
 live spare t (starts l p e n r) =
-    not_finished (is_clear t.line) t.terminal.end.phase t.card.end.phase (ap is_over p) (λ c. (takes_live t.card.end.phase (more_of t.card.end.message) l.ears).1)
+    not_finished (is_clear t.line) t.terminal.end.phase t.card.end.phase (ap is_over p)
+    (λ c. (takes_live t.card.end.phase (more_of t.card.end.message) l.ears).1)
 live spare t (terminals m) = by m
   where
     moves : (p q : Phase) → p ≡ q → is_over q ≡ false → is_over p ≡ false
     moves p q e f = ap is_over e ∙ f
 
     level : Level t.terminal t.card → (p : Phase) → t.terminal.end.phase ≡ p → is_over p ≡ false → finished t ≡ false
-    level l p e f = not_finished (is_clear t.line) t.terminal.end.phase t.card.end.phase (moves t.terminal.end.phase p e f) (λ c. (takes_live t.card.end.phase (more_of t.card.end.message) l.ears).1)
+    level l p e f = not_finished (is_clear t.line) t.terminal.end.phase t.card.end.phase (moves t.terminal.end.phase p e f)
+        (λ c. (takes_live t.card.end.phase (more_of t.card.end.message) l.ears).1)
 
     going : (m rest : List ℕ) → Going m rest t.terminal t.card → finished t ≡ false
-    going m rest g = not_finished (is_clear t.line) t.terminal.end.phase t.card.end.phase (moves t.terminal.end.phase Sent g.live refl) (λ c. (takes_live t.card.end.phase (more_of t.card.end.message) g.ears).1)
+    going m rest g = not_finished (is_clear t.line) t.terminal.end.phase t.card.end.phase (moves t.terminal.end.phase Sent g.live refl)
+        (λ c. (takes_live t.card.end.phase (more_of t.card.end.message) g.ears).1)
 
     by : Mood spare t.terminal t.card (from_terminal t.line) → finished t ≡ false
     by (rests l p e r b n) = level l Due p refl
@@ -171,7 +174,8 @@ live spare t (cards m) = by m
   where
     heard : (e : takes_fields t.terminal.end.phase (more_of t.terminal.end.message) ≡ true)
         → (is_clear t.line ≡ true → is_mute t.card.end.phase ≡ false) → finished t ≡ false
-    heard e f = not_finished (is_clear t.line) t.terminal.end.phase t.card.end.phase (takes_live t.terminal.end.phase (more_of t.terminal.end.message) e).0 f
+    heard e f = not_finished (is_clear t.line) t.terminal.end.phase t.card.end.phase
+        (takes_live t.terminal.end.phase (more_of t.terminal.end.message) e).0 f
 
     carried : (q : List ℕ) → t.line ≡ forth q → is_clear t.line ≡ true → is_mute t.card.end.phase ≡ false
     carried q e c = absurd (false≢true (sym (ap is_clear e) ∙ c))

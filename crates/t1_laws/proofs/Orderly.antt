@@ -85,7 +85,8 @@ module _ (s : State) where
 
   info_is : s.message.size ≤ 254 → info_block s ≡ framed (pcb_of_i (not s.numbers.next) (more_of s.message)) piece
   unfolding block_for written
-  info_is h = pick_yes _ _ _ (le-leb (length piece) inf_most (let n = length-take s.message.size (drop s.message.at s.message.bytes) in omega arith))
+  info_is h = pick_yes _ _ _ (le-leb (length piece) inf_most
+      (let n = length-take s.message.size (drop s.message.at s.message.bytes) in omega arith))
 
   pub shown : s.message.size ≤ 254 → (bs : List (List ℕ)) → only_i (present (info_block s) bs) ≡ info_block s ∷ only_i bs
   shown h bs =
@@ -116,7 +117,8 @@ pub record Sound (s : State) (t : Turn) : Type 0 where
 not_sent : (x : List ℕ) → x ≡ [] → only_i (present x []) ≡ []
 not_sent x e = ap (λ (y : List ℕ). only_i (present y [])) e ∙ nothing_shown
 
-last_hidden : (s : State) (l : Last) → s.last ≡ l → is_same l ≡ true → ((p : ℕ) → s.last ≡ Ready p → is_i (kind_of p) ≡ false) → (x : State)
+last_hidden : (s : State) (l : Last) → s.last ≡ l → is_same l ≡ true → ((p : ℕ) → s.last ≡ Ready p → is_i (kind_of p) ≡ false)
+    → (x : State)
     → only_i (present (block_for l x) []) ≡ []
 unfolding block_for
 last_hidden s Nothing e f g x = absurd (false≢true f)
@@ -205,7 +207,8 @@ module _ (s : State) (o : Orderly s) where
           other = λ q g. absurd (let z : ◌≡◌ {A = ℕ} 0 1 = cc in omega arith);
         };
         role = r;
-        goes = none (unseen (pcb_of_s true w) (v ∷ []) (ap is_i (kind_response w))) (same_info x m n) (ap (λ (y : Counts). y.information) c)
+        goes = none (unseen (pcb_of_s true w) (v ∷ []) (ap is_i (kind_response w))) (same_info x m n)
+            (ap (λ (y : Counts). y.information) c)
             (ap (λ (y : Numbers). y.next) n) (λ f. ap is_sent (sym p) ∙ f);
       }
     where

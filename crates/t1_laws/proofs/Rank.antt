@@ -6,7 +6,7 @@ use mathlib.Core.Bool.{Bool, true, false, not, false≢true}
 use mathlib.Core.List.{List, []}
 use Prim.Native.Nat.{ℕ, ◌+◌, ◌*◌, ◌-◌, ◌≤◌}
 use native.Mathlib.Omega.{arith}
-use lib.ListN.{length, get_or}
+use lib.ListN.{get_or}
 use borrow.Author.Tests.{ltb-true}
 use Rattle.slices.specs.Choice.{pick}
 use Rattle.slices.proofs.Choice.{pick_yes, pick_no, picked}
@@ -38,7 +38,6 @@ use Rattle.t1_laws.proofs.Stopping.{same_limit_lem}
 use Rattle.t1_laws.proofs.Still.{plain, Says, Passes, again_passes, passes}
 use Rattle.t1_laws.proofs.Hearing.{Out, info, ready, answer, bad, arrived, equal_not}
 use Rattle.t1_laws.proofs.Lossy.{Both, Inv, before, behind, whole, sent_more, information_passes, on_line_is}
-use Rattle.t1_laws.proofs.Manner.{says}
 use Rattle.t1_laws.proofs.Meeting.{Way, empty, there, here, Met, idle, asking, sending}
 use Rattle.t1_laws.proofs.Messages.{due_not}
 
@@ -88,12 +87,18 @@ module _ (y : State) where
   Lowers t = (t.act ≡ Send → tries t.state + 1 ≤ tries y) × (t.act ≡ Value → ⊥) × (t.act ≡ Keep → ⊥)
 
   ended_lowers : (e : End) → Lowers (ended_by e y)
-  ended_lowers e =
-      (λ f. absurd (let z : ◌≡◌ {A = ℕ} 0 1 = cc in omega arith), λ f. let z : ◌≡◌ {A = ℕ} 0 1 = cc in omega arith, λ f. let z : ◌≡◌ {A = ℕ} 0 1 = cc in omega arith)
+  ended_lowers e = (
+    λ f. absurd (let z : ◌≡◌ {A = ℕ} 0 1 = cc in omega arith),
+    λ f. let z : ◌≡◌ {A = ℕ} 0 1 = cc in omega arith,
+    λ f. let z : ◌≡◌ {A = ℕ} 0 1 = cc in omega arith,
+  )
 
   quiet_lowers : Lowers (remains y)
-  quiet_lowers =
-      (λ f. absurd (let z : ◌≡◌ {A = ℕ} 0 1 = cc in omega arith), λ f. let z : ◌≡◌ {A = ℕ} 0 1 = cc in omega arith, λ f. let z : ◌≡◌ {A = ℕ} 0 1 = cc in omega arith)
+  quiet_lowers = (
+    λ f. absurd (let z : ◌≡◌ {A = ℕ} 0 1 = cc in omega arith),
+    λ f. let z : ◌≡◌ {A = ℕ} 0 1 = cc in omega arith,
+    λ f. let z : ◌≡◌ {A = ℕ} 0 1 = cc in omega arith,
+  )
 
   send_lowers : (x : State) → tries x + 1 ≤ tries y → Lowers (goes_out x)
   send_lowers x h = (λ f. h, λ f. let z : ◌≡◌ {A = ℕ} 0 1 = cc in omega arith, λ f. let z : ◌≡◌ {A = ℕ} 0 1 = cc in omega arith)
@@ -112,7 +117,8 @@ module _ (y : State) where
       omega arith))
       (λ f. picked Lowers (stays_open y.role y.last) (remains y) (ended_by Limit y) (λ g. quiet_lowers) (λ g. ended_lowers Limit))
   wrong_lowers code (Request v u) e w = absurd (false≢true (sym (ap plain e) ∙ w.plainly))
-  wrong_lowers code (Response v u) e w = send_lowers (ready_for code y) (let n = ap (λ (k : Last). tries_of k y.counts.same) e in omega arith)
+  wrong_lowers code (Response v u) e w = send_lowers (ready_for code y)
+      (let n = ap (λ (k : Last). tries_of k y.counts.same) e in omega arith)
 
   pub lowers : (code : ℕ) → Says y → Lowers (wrong code y)
   unfolding wrong
@@ -148,13 +154,15 @@ module _ (m rest : List ℕ) (x y : State) (b : List ℕ) (both : Both m rest x 
   info_tried n more k =
       picked Tried _ _ _
       (λ e. picked Tried _ _ _
-      (λ f. picked Tried _ _ _ (λ g. lowered (ended_by Limit y) (ended_lowers y Limit)) (λ g. kept_tried more k)) (λ f. lowered (wrong 2 y) (lowers y 2 both.says)))
+      (λ f. picked Tried _ _ _ (λ g. lowered (ended_by Limit y) (ended_lowers y Limit)) (λ g. kept_tried more k))
+      (λ f. lowered (wrong 2 y) (lowers y 2 both.says)))
       (λ e. lowered (wrong 2 y) (lowers y 2 both.says))
 
   tried_by : Out x b (heard_of b y.sizes.ours) → Tried (on_block b y)
   unfolding on_line on_kind
   tried_by (info same h) = subst Tried (sym (on_line_is m rest x y [] b ears _ h)) (info_tried _ _ _)
-  tried_by (ready h) = subst Tried (sym (on_line_is m rest x y [] b ears _ h)) (lowered (on_ready x.numbers.expected y) (ready_tried x.numbers.expected both.step))
+  tried_by (ready h) = subst Tried (sym (on_line_is m rest x y [] b ears _ h))
+      (lowered (on_ready x.numbers.expected y) (ready_tried x.numbers.expected both.step))
   tried_by (answer v h) = subst Tried (sym (on_line_is m rest x y [] b ears _ h)) (lowered (wrong 2 y) (lowers y 2 both.says))
   tried_by (bad c h) = subst Tried (sym (on_line_is m rest x y [] b ears _ h)) (lowered (wrong c y) (lowers y c both.says))
 

@@ -4,7 +4,6 @@ use mathlib.Core.Bool.{Bool, true, false, not}
 use mathlib.Core.List.{List, [], ◌++◌}
 use Prim.Native.Nat.{ℕ, ◌+◌, ◌-◌, ◌<◌, ◌≤◌, min}
 use native.Mathlib.Omega.{arith}
-use lib.Dec.{eqb, leb, ltb}
 use lib.ListN.{length, get_or, take, drop}
 use lib.Seq.{take-add}
 use borrow.Author.Tests.{eq-eqb, ne_eqb, le-leb, le-ltb, ltb-true, ltb-false}
@@ -54,7 +53,8 @@ pub record Going (m rest : List ℕ) (s r : State) (k : List ℕ) : Type 0 where
   pub most : length m ≤ message_most
 
 -- an end that takes fields looks at a block as one without a request of its own
-pub on_line_lem : (p : Phase) (more : Bool) (h : Heard) (v n : ℕ) (r : State) → takes_fields p more ≡ true → by_phase p h v n r ≡ on_line h v n r
+pub on_line_lem : (p : Phase) (more : Bool) (h : Heard) (v n : ℕ) (r : State) → takes_fields p more ≡ true → by_phase p h v n r
+    ≡ on_line h v n r
 unfolding by_phase
 on_line_lem Start more h v n r e = absurd (let z : ◌≡◌ {A = ℕ} 0 1 = cc in omega arith)
 on_line_lem Asking more h v n r e = absurd (let z : ◌≡◌ {A = ℕ} 0 1 = cc in omega arith)

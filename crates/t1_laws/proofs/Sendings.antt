@@ -5,7 +5,7 @@ use mathlib.Core.Path.{◌≡◌, refl, sym, ap, subst, ◌∙◌}
 use mathlib.Core.Bool.{Bool, true, false, not, false≢true}
 use mathlib.Core.List.{List, [], ◌∷◌}
 use mathlib.Core.Logic.{inl, inr}
-use Prim.Native.Nat.{ℕ, ◌+◌, ◌-◌}
+use Prim.Native.Nat.{ℕ, ◌+◌}
 use Rattle.slices.proofs.Choice.{picked, either}
 use Rattle.t1_state.specs.Limits.{information_limit}
 use Rattle.t1_state.specs.Changes.{at_phase, sending}
@@ -69,7 +69,8 @@ pub follows : (es : List Event) (s : State) → Orderly s
 unfolding sent_over only_i Follows
 follows [] s o = tt
 follows (e ∷ es) s o =
-    by_sending e s o (sent_over es (turn_of e s).state) (follows es (turn_of e s).state (event_sound s o e).orderly) (event_sound s o e).goes
+    by_sending e s o (sent_over es (turn_of e s).state) (follows es (turn_of e s).state (event_sound s o e).orderly)
+    (event_sound s o e).goes
 
 pub orderly_after : (es : List Event) (s : State) → Orderly s → Orderly (after es s)
 unfolding after

@@ -1,9 +1,9 @@
 -- No block goes out a fourth time, whatever happens: each sending is counted, and none goes out where the count is at its limit.
 -- Assumes nothing.
 use mathlib.Core.Path.{◌≡◌, refl, sym, subst}
-use mathlib.Core.Bool.{Bool, true}
+use mathlib.Core.Bool.{Bool}
 use mathlib.Core.List.{List, [], ◌∷◌}
-use Prim.Native.Nat.{ℕ, ◌-◌, ◌≤◌}
+use Prim.Native.Nat.{ℕ, ◌≤◌}
 use native.Mathlib.Omega.{arith}
 use lib.ListN.{get_or}
 use borrow.Author.Tests.{ltb-true}
@@ -117,7 +117,8 @@ module _ (s : State) (b : Bounded s) where
   ready_keeps n =
       picked Keeps _ _ _
       (λ e. picked Keeps _ _ _
-      (λ f. picked Keeps _ _ _ (λ g. record { information = omega arith; same = b.same }) (λ g. wrong_keeps 2)) (λ f. information_again_lem))
+      (λ f. picked Keeps _ _ _ (λ g. record { information = omega arith; same = b.same }) (λ g. wrong_keeps 2))
+      (λ f. information_again_lem))
       (λ e. wrong_keeps 2)
 
   field_keeps : (more : Bool) (n : ℕ) → Keeps (keeps more n s)

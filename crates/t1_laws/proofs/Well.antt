@@ -19,7 +19,8 @@ use Rattle.t1_laws.specs.Talks.{to_card, to_terminal}
 use Rattle.t1_laws.specs.Talks.{arrives, spoils, may_move}
 use Rattle.t1_laws.proofs.Meeting.{Way, there, here, Level, y_after, x_after, y_turn, x_turn, y_way, x_way}
 use Rattle.t1_laws.proofs.Talking.{from_terminal, from_card, Holds, clear_terminal, clear_card}
-use Rattle.t1_laws.proofs.Moods.{Roomy, Fresh, Mood, rests, asks, replies, doubts, pieces, wants, again, repeats, Then, goes_on_lem, changes}
+use Rattle.t1_laws.proofs.Moods.{Roomy, Fresh, Mood, rests, asks, replies, doubts}
+use Rattle.t1_laws.proofs.Moods.{pieces, wants, again, repeats, Then, goes_on_lem, changes}
 use Rattle.t1_laws.proofs.Recovery.{request_on, response_on, doubt_on, response_spoiled, request_spoiled, piece_on, next_on}
 use Rattle.t1_laws.proofs.Recovery.{again_on, repeat_on, piece_spoiled, ready_spoiled}
 

@@ -90,7 +90,8 @@ message_of theirs m =
     piece_at theirs 0 (record { bytes = laid m 0 (zeros message_most); length = length m; at = 0; size = 0 })
 
 unfoldable pub sends_message : List ℕ → State → Turn
-sends_message m s = pick (between 1 message_most (length m)) (goes_out (sends_piece (message_of s.sizes.theirs m) s)) (refused_as NoMessage s)
+sends_message m s = pick (between 1 message_most (length m)) (goes_out (sends_piece (message_of s.sizes.theirs m) s))
+    (refused_as NoMessage s)
 
 unfoldable pub send_in : Phase → List ℕ → State → Turn
 send_in Start m s = refused_as NotDue s

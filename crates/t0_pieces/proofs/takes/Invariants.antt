@@ -8,7 +8,8 @@ use Rattle.t0_pieces.proofs.takes.Given as goal
 
 abbrev pub invariant-loop-i : goal.invariant-loop-i
 invariant-loop-i l =
-    (l.i ≤ length l.piece) × (takes_from l.i l.state (drop l.i l.piece) l.out l.answer ≡ takes_from 0 l.initial.state l.piece l.initial.out l.initial.answer)
+    (l.i ≤ length l.piece)
+    × (takes_from l.i l.state (drop l.i l.piece) l.out l.answer ≡ takes_from 0 l.initial.state l.piece l.initial.out l.initial.answer)
 
 abbrev pub decreases-loop-i : goal.decreases-loop-i
 decreases-loop-i l = length l.piece - l.i

@@ -8,4 +8,7 @@ use Rattle.t1.proofs.ask.Goals as goal
 pub returns : goal.returns
 unfolding step_of out_after turn_of field_of
 returns c =
-    let a = c.args in record { value = c.finish.ensures.value ∙ ap (λ (t : Turn). done_by t 0) c.on_ask.ensures; out_after = c.finish.ensures.out_after ∙ ap (λ (t : Turn). laid (sent_by t.act t.state) 0 a.out.now) c.on_ask.ensures }
+    let a = c.args in record {
+      value = c.finish.ensures.value ∙ ap (λ (t : Turn). done_by t 0) c.on_ask.ensures;
+      out_after = c.finish.ensures.out_after ∙ ap (λ (t : Turn). laid (sent_by t.act t.state) 0 a.out.now) c.on_ask.ensures;
+    }

@@ -36,4 +36,8 @@ returns c =
     let t = c.on_block-t.result in
     let inf = c.information-inf.result.now in
     let turned = c.on_block-t.ensures in
-    let field = c.information-inf.ensures in record { value = stepped a.s b t inf turned field _ c.finish.ensures.value; out_after = sent a.s b t inf turned field _ a.out.now c.finish.ensures.out_after; message_after = kept a.s b t inf turned field _ a.message.now c.keep.ensures }
+    let field = c.information-inf.ensures in record {
+      value = stepped a.s b t inf turned field _ c.finish.ensures.value;
+      out_after = sent a.s b t inf turned field _ a.out.now c.finish.ensures.out_after;
+      message_after = kept a.s b t inf turned field _ a.message.now c.keep.ensures;
+    }

@@ -17,4 +17,5 @@ returns c =
     let t = c.on_silence-t.result in
     ap (λ (x : Reply). record { state = t.state; reply = x }) c.reply_of.ensures
     ∙ (ap (λ (x : Turn). record { state = x.state; reply = reply_to x.act 0 0 }) c.on_silence-t.ensures
-    ∙ ap (λ (x : List ℕ). record { state = (on_silence s).state; reply = reply_to (on_silence s).act (length x) 0 }) (sym (silent_quiet s)))
+    ∙ ap (λ (x : List ℕ). record { state = (on_silence s).state; reply = reply_to (on_silence s).act (length x) 0 })
+    (sym (silent_quiet s)))

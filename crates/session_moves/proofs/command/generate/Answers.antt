@@ -1,6 +1,5 @@
 -- `command::generate` meets its contract: the request is written as its byte.
 -- Assumes nothing.
-use borrow.Author.Rules.{rules}
 use mathlib.Core.Path.{ap, ap₂, ◌∙◌}
 use mathlib.Core.List.{List}
 use Prim.Native.Nat.{ℕ}
@@ -17,6 +16,9 @@ returns c =
     let a = c.args in
     let buf = a.buf.now in
     let same = ap₂ (λ (p : ℕ) (x : List ℕ). cryptogram_command p (filling (reading_of x) (told_in a.known.now) a.list.now))
-    c.p1.ensures c.part.ensures in  record { size = c.cryptogram.ensures.size
-          ∙ ap (size_in (length buf)) same; buffer = c.cryptogram.ensures.buffer
-          ∙ ap (λ (x : List ℕ). laid x 0 buf) same }
+    c.p1.ensures c.part.ensures in record {
+      size = c.cryptogram.ensures.size
+          ∙ ap (size_in (length buf)) same;
+      buffer = c.cryptogram.ensures.buffer
+          ∙ ap (λ (x : List ℕ). laid x 0 buf) same;
+    }

@@ -3,7 +3,6 @@
 use mathlib.Core.Path.{ap, ◌∙◌}
 use mathlib.Core.List.{List}
 use Prim.Native.Nat.{ℕ}
-use borrow.Author.Rules.{rules}
 use Rattle.start_fields.specs.Reading.{reading_of}
 use Rattle.dol_fill.specs.Filled.{unsupplied}
 use Rattle.session_records.specs.Slots.{told_in}

@@ -1,7 +1,6 @@
 -- `ends::ask` meets its contract: a command is out, and only what is waited for is another.
 -- Assumes nothing.
 use mathlib.Core.Path.{ap}
-use borrow.Author.Rules.{rules}
 use Rattle.session_state.specs.declared.State.{State}
 use Rattle.session_phase.specs.declared.Reply.TheVariants.{Command}
 use Rattle.session_moves.specs.Moves.{asked_for}

@@ -2,7 +2,6 @@
 -- Assumes nothing.
 use mathlib.Core.Path.{ap, ◌∙◌}
 use Prim.Native.Nat.{ℕ}
-use borrow.Author.Rules.{rules}
 use Rattle.session_phase.specs.declared.Speaker.TheVariants.{Says}
 use Rattle.session_phase.specs.declared.Waiting.TheVariants.{ForWord}
 use Rattle.session_phase.specs.declared.Reply.TheVariants.{Due}

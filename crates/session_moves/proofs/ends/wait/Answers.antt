@@ -1,7 +1,6 @@
 -- `ends::wait` meets its contract: only what is waited for is another.
 -- Assumes nothing.
 use mathlib.Core.Path.{ap}
-use borrow.Author.Rules.{rules}
 use Rattle.session_state.specs.declared.State.{State}
 use Rattle.session_moves.specs.Moves.{waiting_for}
 use Rattle.session_moves.proofs.ends.wait.Goals as goal

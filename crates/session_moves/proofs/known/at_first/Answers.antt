@@ -16,4 +16,4 @@ returns c =
     let two : length s.tsi ≡ 2 = search rules in
     let p = c.profile_of-profile.ensures in
     let e = c.keep.ensures ∙ (λ i. kept_in 0x82 (p.0 i) (c.at_options-known.ensures.slots i)) in
-     record { slots = e; known = ap told_in e ∙ late_known s five two p.1 }
+    record { slots = e; known = ap told_in e ∙ late_known s five two p.1 }

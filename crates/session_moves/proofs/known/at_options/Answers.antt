@@ -4,7 +4,6 @@ use mathlib.Core.Path.{ap, ◌∙◌}
 use mathlib.Core.List.{List}
 use Prim.Native.Nat.{ℕ, ◌-◌}
 use lib.ListN.{take, drop}
-use borrow.Author.Rules.{rules}
 use Rattle.slices.specs.Writing.{laid, zeros}
 use Rattle.session_records.specs.Slots.{end, full, told_in, kept_in}
 use Rattle.session_moves.specs.Known.{known_early}
@@ -24,4 +23,4 @@ returns c =
     ∙ (ap (λ (x : List ℕ). laid x 15 (zeros end)) (rest_told d t.ensures.1) ∙ only_laid d t.ensures.1)) in
     let first = c.keep.ensures ∙ (λ i. kept_in 0x95 (tvr.0 i) (bare i)) in
     let e = c.keep-2.ensures ∙ (λ i. kept_in 0x9B (tsi.0 i) (first i)) in
-     record { slots = e; known = ap told_in e ∙ early_known s tvr.1 tsi.1 }
+    record { slots = e; known = ap told_in e ∙ early_known s tvr.1 tsi.1 }

@@ -18,4 +18,4 @@ returns c =
     let pair : length s.profile ≡ 2 = search rules in
     let code : length a.response ≡ 2 = search rules in
     let e = c.keep.ensures ∙ ap (kept_in 0x8A a.response) c.at_first-known.ensures.slots in
-     record { slots = e; known = ap told_in e ∙ second_known s five two pair a.response code }
+    record { slots = e; known = ap told_in e ∙ second_known s five two pair a.response code }

@@ -4,7 +4,6 @@ use mathlib.Core.Path.{refl, ap, ◌∙◌}
 use mathlib.Core.List.{List}
 use mathlib.Core.Option.{none}
 use Prim.Native.Nat.{ℕ}
-use borrow.Author.Rules.{rules}
 use Rattle.facts.specs.Facts.{Facts}
 use Rattle.start_fields.specs.Reading.{reading_of}
 use Rattle.dol_fill.specs.Filled.{filling, unsupplied}

@@ -54,7 +54,8 @@ returns-then-is_status c =
     pick_no _ _ _ (ne_eqb _ _ c.if-b-ins.false) ∙ pick_no _ _ _ (ne_eqb _ _ c.if-b-ins-2.false)
     in
     let last : table c.args.b ≡ pick (is_status c.args.b) Status Strange =
-    pick_no _ _ _ (ne_eqb _ _ c.in_default.in_default-own.rest.0.0.1) ∙ (pick_no _ _ _ (ne_eqb _ _ c.in_default.in_default-own.rest.0.1) ∙ pick_no _ _ _ (ne_eqb _ _ c.in_default.in_default-own.rest.1))
+    pick_no _ _ _ (ne_eqb _ _ c.in_default.in_default-own.rest.0.0.1)
+    ∙ (pick_no _ _ _ (ne_eqb _ _ c.in_default.in_default-own.rest.0.1) ∙ pick_no _ _ _ (ne_eqb _ _ c.in_default.in_default-own.rest.1))
     in
     sym (here ∙ (last ∙ pick_yes _ _ _ (sym c.is_status.ensures ∙ c.if-is_status.true)))
 
@@ -65,6 +66,7 @@ returns-else-is_status c =
     pick_no _ _ _ (ne_eqb _ _ c.if-b-ins.false) ∙ pick_no _ _ _ (ne_eqb _ _ c.if-b-ins-2.false)
     in
     let last : table c.args.b ≡ pick (is_status c.args.b) Status Strange =
-    pick_no _ _ _ (ne_eqb _ _ c.in_default.in_default-own.rest.0.0.1) ∙ (pick_no _ _ _ (ne_eqb _ _ c.in_default.in_default-own.rest.0.1) ∙ pick_no _ _ _ (ne_eqb _ _ c.in_default.in_default-own.rest.1))
+    pick_no _ _ _ (ne_eqb _ _ c.in_default.in_default-own.rest.0.0.1)
+    ∙ (pick_no _ _ _ (ne_eqb _ _ c.in_default.in_default-own.rest.0.1) ∙ pick_no _ _ _ (ne_eqb _ _ c.in_default.in_default-own.rest.1))
     in
     sym (here ∙ (last ∙ pick_no _ _ _ (sym c.is_status.ensures ∙ c.if-is_status.false)))

@@ -1,0 +1,6 @@
+-- `read::print_others` is safe and ends: the reader goes ahead with each object that it finds. Assumes nothing.
+use Rattle.std.proofs.Common.{length, ◌-◌}
+use Rattle.bench_objects.proofs.read.print_others.Given as goal
+
+abbrev pub decreases-loop-at : goal.decreases-loop-at
+decreases-loop-at g l = length l.s - l.at

@@ -1,0 +1,60 @@
+-- `online::by_first` meets its contract: each arm is the definition's at that cryptogram.
+-- Assumes nothing.
+use mathlib.Core.Path.{sym, ap, ◌∙◌}
+use Prim.Native.Nat.{◌^◌, ◌<◌}
+use native.Mathlib.Omega.{arith}
+use Rattle.tape_crc.proofs.Bytes.{bytes_each}
+use Rattle.decide_cryptogram.specs.declared.Given.{Given}
+use Rattle.decide_cryptogram.specs.declared.Given.TheVariants.{Of}
+use Rattle.numbers.specs.Tables.{approved, declined}
+use Rattle.rulebook.specs.Turn.{by_first}
+use Rattle.quick_said.specs.Said.{found_from}
+use Rattle.quick_ask.specs.Standing.{situation_in}
+use Rattle.quick_follow.proofs.Going.{decided_found}
+use Rattle.quick_follow.proofs.online.by_first.Goals as goal
+
+pub returns-in-Tc : goal.returns-in-Tc
+unfolding by_first
+returns-in-Tc c =
+    let e = c.in-Of.is ∙ ap Of c.in-Tc.is in
+    let args = c.args in
+    let t = args.tape.now in
+    let bytes = bytes_each t (λ i h. omega (arith, c.type_inv.tape i)) in
+    let small : args.zeros < 2 ^ 64 = omega (arith, c.well_formed) in
+    let s = situation_in args.start.now args.told.now args.profile args.tvr args.tsi in
+    c.decided.ensures
+    ∙ (decided_found t bytes args.k args.zeros small s approved
+    ∙ sym (ap (λ (g : Given). found_from (by_first g s) args.k args.zeros t) e))
+
+pub returns-in-Aac : goal.returns-in-Aac
+unfolding by_first
+returns-in-Aac c =
+    let e = c.in-Of.is ∙ ap Of c.in-Aac.is in
+    let args = c.args in
+    let t = args.tape.now in
+    let bytes = bytes_each t (λ i h. omega (arith, c.type_inv.tape i)) in
+    let small : args.zeros < 2 ^ 64 = omega (arith, c.well_formed) in
+    let s = situation_in args.start.now args.told.now args.profile args.tvr args.tsi in
+    c.decided-in-Aac.ensures
+    ∙ (decided_found t bytes args.k args.zeros small s declined
+    ∙ sym (ap (λ (g : Given). found_from (by_first g s) args.k args.zeros t) e))
+
+pub returns-in-Arqc : goal.returns-in-Arqc
+unfolding by_first
+returns-in-Arqc c =
+    let e = c.in-Of.is ∙ ap Of c.in-Arqc.is in
+    let args = c.args in
+    let s = situation_in args.start.now args.told.now args.profile args.tvr args.tsi in
+    c.online.ensures ∙ sym (ap (λ (g : Given). found_from (by_first g s) args.k args.zeros args.tape.now) e)
+
+pub returns-in-Reserved : goal.returns-in-Reserved
+unfolding by_first
+returns-in-Reserved c =
+    let args = c.args in
+    let t = args.tape.now in
+    let bytes = bytes_each t (λ i h. omega (arith, c.type_inv.tape i)) in
+    let small : args.zeros < 2 ^ 64 = omega (arith, c.well_formed) in
+    let s = situation_in args.start.now args.told.now args.profile args.tvr args.tsi in
+    c.decided-in-Reserved.ensures
+    ∙ (decided_found t bytes args.k args.zeros small s declined
+    ∙ sym (ap (λ (g : Given). found_from (by_first g s) args.k args.zeros t) c.in-Reserved.is))

@@ -1,0 +1,11 @@
+-- `meet::ends` meets its contract.
+-- Assumes nothing.
+use mathlib.Core.Path.{ap}
+use mathlib.Core.Bool.{false}
+use Rattle.verdict.specs.declared.Ruling.{Ruling}
+use Rattle.quick_meet.specs.Meeting.{ends}
+use Rattle.quick_meet.proofs.meet.ends.Goals as goal
+
+pub returns : goal.returns
+unfolding ends
+returns c = ap (λ (a : Ruling). record { there = false; said = a }) c.said.ensures
