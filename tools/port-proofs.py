@@ -359,6 +359,11 @@ class Function:
         body = re.sub(rf"(?<![\w'.-])({re.escape(var)})\.([\w'-]+)\.(ensures|requires|new|auto)\.(\d+)(?![\w'-])", lambda m: f"{m.group(1)}.{m.group(2)}.{m.group(3)}.{fielded(base(m.group(2)), m.group(3), int(m.group(4)))}", body)
         for m in list(re.finditer(rf"let ([\w'-]+) = {re.escape(var)}\.([\w'-]+) in", body)):
             body = re.sub(rf"(?<![\w'.-]){re.escape(m.group(1))}\.(ensures|requires|new|auto)\.(\d+)(?![\w'-])", lambda n: f"{m.group(1)}.{n.group(1)}.{fielded(base(m.group(2)), n.group(1), int(n.group(2)))}", body)
+        def third(m):
+            names = CLAUSES.get(base(m.group(2)), ([], []))[0]
+            return f"{m.group(1)}.{m.group(2)}.ensures.{names[1 + int(m.group(3))]}" if len(names) == 3 else m.group(0)
+
+        body = re.sub(rf"(?<![\w'.-])({re.escape(var)})\.([\w'-]+)\.ensures\.\w+\.([01])(?![\w'.-])", third, body)
         for m in list(re.finditer(rf"let ([\w'-]+) = {re.escape(var)}\.([\w'-]+)\.(ensures|new|auto) in", body)):
             body = re.sub(rf"(?<![\w'.-]){re.escape(m.group(1))}\.(\d+)(?![\w'-])", lambda n: f"{m.group(1)}.{fielded(base(m.group(2)), m.group(3), int(n.group(1)))}", body)
         def nested(whole, names):

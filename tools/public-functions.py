@@ -26,6 +26,8 @@ OTHERWISE = {
     "judge judge": "`judged_once` in `crates/verdict_judged/proofs/Once.antt`: no tape has two answers",
     "lab due::lab_judge": "`found_once` in `crates/lab/proofs/Once.antt`: no tape has two findings",
     "lab due::lab_judge_quick": "`found_once` in `crates/lab/proofs/Once.antt`: no tape has two findings",
+    "lab_c lab_judge": "`found_once` in `crates/lab/proofs/Once.antt`: no tape has two findings",
+    "lab_c lab_judge_quick": "`found_once` in `crates/lab/proofs/Once.antt`: no tape has two findings",
 }
 
 # Those that fit more than one answer: docs/EXCEPTIONS.md names each and says why.

@@ -13,7 +13,8 @@ use Rattle.answer_afl.specs.Entries.{entries_right, records_of, record_count, to
 use Rattle.answer_afl.specs.Cursor.{from_entry, entry_at, start, is_left, record_at, stepped}
 
 -- four bytes to an entry, one entry at least
-sizes : map (λ n. whole_entries (replicate n 0)) (0 ∷ 3 ∷ 4 ∷ 5 ∷ 6 ∷ 8 ∷ 252 ∷ []) ≡ false ∷ false ∷ true ∷ false ∷ false ∷ true ∷ true ∷ []
+sizes : map (λ n. whole_entries (replicate n 0)) (0 ∷ 3 ∷ 4 ∷ 5 ∷ 6 ∷ 8 ∷ 252 ∷ [])
+    ≡ false ∷ false ∷ true ∷ false ∷ false ∷ true ∷ true ∷ []
 unfolding whole_entries every pick
 sizes = refl
 

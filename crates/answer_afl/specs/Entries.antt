@@ -1,6 +1,7 @@
 -- The application file locator (AFL): which records the card wants read. 01, "What the card must answer", reasons 6 and 7.
 -- Assumes nothing.
-use Rattle.std.specs.Prelude.{◌≡◌, Bool, List, [], ◌∷◌, ◌++◌, map, ℕ, zero, suc, ◌+◌, ◌*◌, ◌-◌, ◌/◌, ◌%◌, ◌≤◌, leb, ltb, eqb, length, get_or}
+use Rattle.std.specs.Prelude.{◌≡◌, Bool, List, [], ◌∷◌, ◌++◌, map, ℕ, zero, suc, ◌+◌}
+use Rattle.std.specs.Prelude.{◌*◌, ◌-◌, ◌/◌, ◌%◌, ◌≤◌, leb, ltb, eqb, length, get_or}
 use Rattle.slices.specs.Tests.{every, between}
 
 -- one entry: the byte that names the file, its first and last record, and how many of those data authentication takes

@@ -182,4 +182,5 @@ direct_standing tag a c = list_standing (inside tag a) (inside_list tag a c)
 pub inner_standing : (tag name : ℕ) (a : List ℕ) → constructed tag ≡ true → constructed name ≡ true
     → standing (value_of (direct tag a name)) ≡ among (value_of (direct tag a name))
 unfolding direct among
-inner_standing tag name a c d = list_standing (value_of (among (inside tag a) name)) (named_list (inside tag a) name (inside_list tag a c) d)
+inner_standing tag name a c d = list_standing (value_of (among (inside tag a) name))
+    (named_list (inside tag a) name (inside_list tag a c) d)

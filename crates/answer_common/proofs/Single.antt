@@ -46,7 +46,8 @@ module _ (s : List ℕ) where
     m = at s tag start end
 
     -- by what follows the object
-    goes_on_lem : (o : Option (List Obj)) → objects (drop end s) ≡ o → only (objects s) ≡ only (pick (right_inside objects m) (before m o) none)
+    goes_on_lem : (o : Option (List Obj)) → objects (drop end s) ≡ o → only (objects s)
+        ≡ only (pick (right_inside objects m) (before m o) none)
     unfolding following m
     goes_on_lem o f =
         begins (Member tag start end) e ∙ ap (λ (x : Option (List Obj)). only (pick (right_inside objects m) (before m x) none)) f

@@ -45,7 +45,8 @@ module _ (allowed : Given → Bool) (a : List ℕ) (start end : ℕ) (e : single
   by_size : cryptogram_wrong a ≡ not (within 11 43 (length v))
   unfolding cryptogram_wrong
   by_size =
-      ap (λ (b : Bool). b || (is_one joined a && not (within 11 43 (length (inside joined a))))) (none_wrong a lines start end e cryptogram_names)
+      ap (λ (b : Bool). b || (is_one joined a && not (within 11 43 (length (inside joined a)))))
+      (none_wrong a lines start end e cryptogram_names)
       ∙ (ap (λ (b : Bool). b && not (within 11 43 (length (inside joined a)))) (joined_one_lem a lines start end e)
       ∙ ap (λ (x : List ℕ). not (within 11 43 (length x))) same)
 
@@ -117,7 +118,8 @@ module _ (allowed : Given → Bool) (a : List ℕ) (start end : ℕ) (e : single
     pub twice_so : any_of (map (λ f. eqb (found_times f) 2) (m.first ∷ m.second ∷ m.third ∷ m.fourth ∷ []))
         ≡ any_times 2 cryptogram_names (direct template a)
     unfolding any_times
-    twice_so = sym (λ i. any_of (how_often 2 _ m.first one i ∷ how_often 2 _ m.second two i ∷ how_often 2 _ m.third three i ∷ how_often 2 _ m.fourth four i ∷ []))
+    twice_so = sym (λ i. any_of (how_often 2 _ m.first one i ∷ how_often 2 _ m.second two i ∷ how_often 2 _ m.third three i ∷ how_often 2 _
+        m.fourth four i ∷ []))
 
     pub missing_so : any_of (map (λ f. eqb (found_times f) 0) (m.first ∷ m.second ∷ m.third ∷ m.third ∷ [])) ≡ lacks mandatory_names a
     unfolding any_times
@@ -125,7 +127,8 @@ module _ (allowed : Given → Bool) (a : List ℕ) (start end : ℕ) (e : single
         sym
         (as_missing a all_lines start end e here l mandatory_names
         ∙ (of_three _ _ _
-        ∙ (λ i. any_of (how_often 0 _ m.first one i ∷ how_often 0 _ m.second two i ∷ how_often 0 _ m.third three i ∷ how_often 0 _ m.third three i ∷ []))))
+        ∙ (λ i. any_of (how_often 0 _ m.first one i ∷ how_often 0 _ m.second two i ∷ how_often 0 _ m.third three i ∷ how_often 0 _ m.third
+        three i ∷ []))))
 
     pub wrong_so : any_of (wrong_value 0x9F27 (found_value s m.first) ∷ wrong_value 0x9F36 (found_value s m.second)
         ∷ wrong_value 0x9F26 (found_value s m.third) ∷ wrong_value 0x9F10 (found_value s m.fourth) ∷ []) ≡ cryptogram_wrong a

@@ -28,7 +28,8 @@ use Rattle.answer_laws.proofs.AcceptedAnswers.{select_clear, select_framed, sele
 use Rattle.answer_laws.proofs.AcceptedAnswers.{record_clear, record_framed, record_told, complete_told, complete_list}
 
 -- no line applies, the first three neither
-pub no_line : (expected a : List ℕ) (lines : List (Bool × ℕ)) → Framed expected a → AllClear lines → first_of (frame expected a ++ lines) ≡ 0
+pub no_line : (expected a : List ℕ) (lines : List (Bool × ℕ)) → Framed expected a → AllClear lines
+    → first_of (frame expected a ++ lines) ≡ 0
 unfolding frame
 no_line expected a lines f c =
     let first = frame_right expected a f in

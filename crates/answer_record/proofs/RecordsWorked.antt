@@ -19,12 +19,14 @@ use Rattle.answer_common.proofs.Opened.{one, two, good, joined_all, opened}
 
 -- with all the names; and with those of a terminal without Terminal Capabilities, the first nine
 judge : (ℕ → Bool) → List ℕ → ℕ
-unfolding opened halves digits only_f card_number digits_only decimal_byte month_and_day valid_card_date again any_again record_twice record_lines
+unfolding opened halves digits only_f card_number digits_only decimal_byte month_and_day valid_card_date again any_again record_twice
+    record_lines
     record_reason
 judge before a = record_reason record_names before a
 
 judge_base : (ℕ → Bool) → List ℕ → ℕ
-unfolding opened halves digits only_f card_number digits_only decimal_byte month_and_day valid_card_date again any_again record_twice record_lines
+unfolding opened halves digits only_f card_number digits_only decimal_byte month_and_day valid_card_date again any_again record_twice
+    record_lines
     record_reason
 judge_base before a = record_reason (take 9 record_names) before a
 
@@ -124,7 +126,8 @@ facts : List (ℕ × Option (List ℕ)) → ℕ → Option (List ℕ)
 facts rows' name = beside none name rows'
 
 ended : List (ℕ × Option (List ℕ)) → ℕ
-unfolding opened and_then size_at first_wanted asks wanted_step entries_of total fits fillable incomplete complete_reason after_records facts
+unfolding opened and_then size_at first_wanted asks wanted_step entries_of total fits fillable incomplete complete_reason
+    after_records facts
 ended rows' = after_records (facts rows')
 
 abbrev told : ℕ → ℕ × Option (List ℕ)

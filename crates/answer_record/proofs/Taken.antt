@@ -25,7 +25,8 @@ use Rattle.answer_common.specs.declared.answer.Single.{Single}
 use Rattle.answer_common.specs.declared.answer.Single.TheVariants.{Refused, Object}
 use Rattle.answer_common.proofs.Alike.{listed_first}
 use Rattle.answer_common.proofs.Members.{members_of_lem, held}
-use Rattle.answer_common.proofs.Single.{at, looked, Right, Found, bad_size, bad_status, no_single, one_single, found, refused, no_list, other_tag}
+use Rattle.answer_common.proofs.Single.{at, looked, Right, Found, bad_size, bad_status}
+use Rattle.answer_common.proofs.Single.{no_single, one_single, found, refused, no_list, other_tag}
 use Rattle.answer_common.proofs.Single.{on_lines, inside_one}
 use Rattle.session_records.specs.Slots.{end as slots_end, told_in, kept_objects, kept_places}
 use Rattle.answer_record.specs.Records.{any_again, record_twice, record_lines, record_reason}
@@ -125,7 +126,8 @@ module _ (names : List ℕ) (known : (tag : ℕ) → listed tag names ≡ true �
           ap (λ (t : ℕ). listed t (record_tag ∷ [])) same ∙ listed_first record_tag [] in (
             ap (λ k. k.why) (read y)
                 ∙ (reason v short l
-                ∙ (ap (λ s. first_of ((any_times 2 names (among s) || any_again before names (among s), 4) ∷ (any_wrong names (among s), 5) ∷ []))
+                ∙ (ap (λ s. first_of ((any_times 2 names (among s) || any_again before names (among s), 4)
+                ∷ (any_wrong names (among s), 5) ∷ []))
                 (sym here)
                 ∙ sym (on_lines a (record_tag ∷ []) lines r m e right expected))),
             λ z. ap (λ k. k.bytes) (read y)

@@ -60,7 +60,8 @@ module _ (a aid s p : List ℕ) (name in-a5 list : Found) (one : direct select_t
       ∙ (λ i. any_of (how_often 2 _ s name one i ∷ how_often 2 _ s in-a5 two i ∷ how_often 2 _ p list three i
       ∷ how_often 2 _ p list three i ∷ [])))
 
-  pub wrong_so : any_of (wrong_value 0x84 (found_value s name) ∷ wrong_value 0xA5 (found_value s in-a5) ∷ wrong_value 0x9F38 (found_value p list)
+  pub wrong_so : any_of (wrong_value 0x84 (found_value s name) ∷ wrong_value 0xA5 (found_value s in-a5) ∷ wrong_value 0x9F38
+      (found_value p list)
       ∷ name_wrong aid (found_value s name) ∷ []) ≡ select_wrong aid a
   unfolding select_wrong any_wrong
   wrong_so =
@@ -68,7 +69,8 @@ module _ (a aid s p : List ℕ) (name in-a5 list : Found) (one : direct select_t
       (wrong_four _ _ _ _
       ∙ (λ i. any_of (wrong_value 0x84 (one i) ∷ wrong_value 0xA5 (two i) ∷ wrong_value 0x9F38 (three i) ∷ name_wrong aid (one i) ∷ [])))
 
-  pub missing_so : any_of (map (λ f. eqb (found_times f) 0) (name ∷ in-a5 ∷ name ∷ in-a5 ∷ [])) ≡ any_times 0 select_names (direct select_tag a)
+  pub missing_so : any_of (map (λ f. eqb (found_times f) 0) (name ∷ in-a5 ∷ name ∷ in-a5 ∷ []))
+      ≡ any_times 0 select_names (direct select_tag a)
   unfolding any_times
   missing_so =
       sym

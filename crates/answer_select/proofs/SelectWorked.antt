@@ -14,7 +14,8 @@ abbrev aid : List ℕ
 aid = 0xA0 ∷ 0x00 ∷ 0x00 ∷ 0x00 ∷ 0x03 ∷ []
 
 judge : List ℕ → ℕ
-unfolding opened reading_of and_then size_at first_wanted asks wanted_step entries_of total fits fillable inner begins name_wrong select_twice
+unfolding opened reading_of and_then size_at first_wanted asks wanted_step entries_of total fits fillable inner begins name_wrong
+    select_twice
     select_wrong select_lines select_reason pdol_of
 judge a = select_reason (reading_of (replicate 57 0 ++ (5 ∷ aid))) a
 

@@ -2,18 +2,19 @@
 use answer_cryptogram::cryptogram_reason;
 use decide_cryptogram::{Cryptogram, Given, Request};
 use slices::byte;
+use std::io;
 use text_hex::unhex;
 use text_lines::after_word;
 
 // The turn is '1' or '2'.
-pub fn answer(turn: u8, words: &[u8]) {
+pub fn answer(rt: &impl Print, turn: u8, words: &[u8]) -> io::Result<()> {
     let mut bytes = [0u8; 500];
     let n = unhex(after_word(words), &mut bytes);
     let asked = request(words);
     if turn == b'1' {
-        print_answer(Request::First(asked), &bytes[0..n]);
+        print_answer(rt, Request::First(asked), &bytes[0..n])
     } else {
-        print_answer(Request::Second(asked), &bytes[0..n]);
+        print_answer(rt, Request::Second(asked), &bytes[0..n])
     }
 }
 
@@ -26,21 +27,22 @@ fn request(word: &[u8]) -> Cryptogram {
     }
 }
 
-fn print_answer(request: Request, answer: &[u8]) {
+fn print_answer(rt: &impl Print, request: Request, answer: &[u8]) -> io::Result<()> {
     let why = cryptogram_reason(request, answer);
-    text_print::number(why);
+    text_print::number(rt, why)?;
     if why == 0 {
-        print_type(answer_cryptogram::cryptogram(answer));
+        print_type(rt, answer_cryptogram::cryptogram(answer))?;
     }
+    Ok(())
 }
 
-fn print_type(given: Given) {
+fn print_type(rt: &impl Print, given: Given) -> io::Result<()> {
     match given {
         Given::Of(cryptogram) => match cryptogram {
-            Cryptogram::Aac => text_print::text(b" AAC"),
-            Cryptogram::Tc => text_print::text(b" TC"),
-            Cryptogram::Arqc => text_print::text(b" ARQC"),
+            Cryptogram::Aac => text_print::text(rt, b" AAC"),
+            Cryptogram::Tc => text_print::text(rt, b" TC"),
+            Cryptogram::Arqc => text_print::text(rt, b" ARQC"),
         },
-        Given::Reserved => text_print::text(b" ?"),
+        Given::Reserved => text_print::text(rt, b" ?"),
     }
 }

@@ -8,39 +8,43 @@
 //     RECORDS74 answer ..     the same for a START of 74 bytes
 //     AC1 request answer      the cryptogram's type, to a first request of AAC, TC or ARQC
 //     AC2 request answer      the same to a second
+#![tactic(auto)]
+
 mod cryptogram;
 mod options;
 mod records;
 mod select;
 
-use libc::STDIN_FILENO;
 use slices::byte;
+use std::io;
+use text_input::read_full;
 use text_lines::{after_word, line_end};
 
-fn main() {
+fn main(rt: HostRuntime) -> io::Result<()> {
     let mut input = [0u8; 524288];
-    let n = io::read_full(STDIN_FILENO, &mut input);
-    answer_all(&input[..n]);
+    let n = read_full(&rt, &mut input);
+    answer_all(&rt, &input[..n])
 }
 
-fn answer_all(s: &[u8]) {
+fn answer_all(rt: &impl Print, s: &[u8]) -> io::Result<()> {
     let mut at = 0;
     while at < s.len() {
         let end = line_end(s, at);
-        answer(&s[at..end]);
+        answer(rt, &s[at..end])?;
         at = end + 1;
     }
+    Ok(())
 }
 
 // The first letter tells the question.
-fn answer(question: &[u8]) {
+fn answer(rt: &impl Print, question: &[u8]) -> io::Result<()> {
     let words = after_word(question);
     match byte(question, 0) as u8 {
-        b'S' => select::answer(words),
-        b'G' => options::answer(words),
-        b'R' => records::answer(byte(question, 7) as u8, words),
-        b'A' => cryptogram::answer(byte(question, 2) as u8, words),
-        _ => text_print::text(b"?"),
+        b'S' => select::answer(rt, words)?,
+        b'G' => options::answer(rt, words)?,
+        b'R' => records::answer(rt, byte(question, 7) as u8, words)?,
+        b'A' => cryptogram::answer(rt, byte(question, 2) as u8, words)?,
+        _ => text_print::text(rt, b"?")?,
     }
-    text_print::text(b"\n");
+    text_print::text(rt, b"\n")
 }

@@ -4,62 +4,65 @@ use answer_record::{complete_reason, take};
 use session_records::END;
 use session_records::slots::{has, value};
 use slices::lay;
+use std::io;
 use text_hex::unhex;
 use text_lines::after_word;
 
 // The letter behind RECORDS tells which names count.
-pub fn answer(letter: u8, words: &[u8]) {
+pub fn answer(rt: &impl Print, letter: u8, words: &[u8]) -> io::Result<()> {
     let names = NAMES;
     if letter == b'7' {
-        answer_each(&names[0..BASE_NAMES], words);
+        answer_each(rt, &names[0..BASE_NAMES], words)
     } else {
-        answer_each(&names, words);
+        answer_each(rt, &names, words)
     }
 }
 
 // Each word is one answer. After the last of them the reason for all.
-fn answer_each(names: &[usize], words: &[u8]) {
+fn answer_each(rt: &impl Print, names: &[usize], words: &[u8]) -> io::Result<()> {
     let mut told = [0u8; END];
     let mut left = words;
     while 0 < left.len() {
-        if take_word(&mut told, names, left) != 0 {
-            return;
+        if take_word(rt, &mut told, names, left)? != 0 {
+            return Ok(());
         }
         let others = after_word(left);
         left = others;
     }
-    text_print::number(complete_reason(&told));
+    text_print::number(rt, complete_reason(&told))
 }
 
 // Prints one record's reason and what it tells, and answers the reason.
-fn take_word(told: &mut [u8], names: &[usize], word: &[u8]) -> usize {
+fn take_word(rt: &impl Print, told: &mut [u8], names: &[usize], word: &[u8]) -> io::Result<usize> {
     let mut bytes = [0u8; 500];
     let n = unhex(word, &mut bytes);
     let mut before = [0u8; END];
     lay(&mut before, 0, told);
     let why = take(told, names, &bytes[0..n]);
-    text_print::number(why);
+    text_print::number(rt, why)?;
     if why == 0 {
-        print_values(&before, told, names);
-        text_print::text(b" | ");
+        print_values(rt, &before, told, names)?;
+        text_print::text(rt, b" | ")?;
     }
-    why
+    Ok(why)
 }
 
-fn print_values(before: &[u8], told: &[u8], names: &[usize]) {
+fn print_values(rt: &impl Print, before: &[u8], told: &[u8], names: &[usize]) -> io::Result<()> {
     let mut i = 0;
     while i < names.len() {
-        print_value(before, told, names[i]);
+        print_value(rt, before, told, names[i])?;
         i += 1;
     }
+    Ok(())
 }
 
 // A name that was told since.
-fn print_value(before: &[u8], told: &[u8], name: usize) {
+fn print_value(rt: &impl Print, before: &[u8], told: &[u8], name: usize) -> io::Result<()> {
     if has(told, name) && !has(before, name) {
-        text_print::text(b" ");
-        text_print::tag(name);
-        text_print::text(b":");
-        text_print::bytes_or_dash(value(told, name));
+        text_print::text(rt, b" ")?;
+        text_print::tag(rt, name)?;
+        text_print::text(rt, b":")?;
+        text_print::bytes_or_dash(rt, value(told, name))?;
     }
+    Ok(())
 }

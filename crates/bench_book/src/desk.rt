@@ -3,6 +3,7 @@ use book::{Book, Reply};
 use book_block::Entry;
 use book_open::{Opening, reopen};
 use slices::{blank, lay, part};
+use std::io;
 use tape_read::BLOCK;
 use text_hex::unhex;
 use text_lines::{after_word, hex_number};
@@ -51,13 +52,13 @@ pub fn begin(n: Numbers, stored: &mut [u8; ROOM]) -> Desk {
     }
 }
 
-pub fn enter(d: Desk, n: Numbers, stored: &mut [u8; ROOM]) -> Desk {
+pub fn enter(rt: &impl Print, d: Desk, n: Numbers, stored: &mut [u8; ROOM]) -> io::Result<Desk> {
     let after = entered(d, n, stored);
     let reply = after.reply;
     let book = after.book;
-    say(reply);
-    counts(book);
-    after.desk
+    say(rt, reply)?;
+    counts(rt, book)?;
+    Ok(after.desk)
 }
 
 #[derive(Clone, Copy)]
@@ -99,7 +100,7 @@ fn entered(d: Desk, n: Numbers, stored: &mut [u8]) -> After {
     }
 }
 
-pub fn run(d: Desk, n: Numbers, stored: &mut [u8; ROOM]) -> Desk {
+pub fn run(rt: &impl Print, d: Desk, n: Numbers, stored: &mut [u8; ROOM]) -> io::Result<Desk> {
     let mut desk = d;
     let mut reply = Reply::Entered;
     let mut i = 0;
@@ -118,22 +119,22 @@ pub fn run(d: Desk, n: Numbers, stored: &mut [u8; ROOM]) -> Desk {
         i += 1;
     }
     let book = desk.book;
-    say(reply);
-    counts(book);
-    desk
+    say(rt, reply)?;
+    counts(rt, book)?;
+    Ok(desk)
 }
 
-pub fn tell(d: Desk, stored: &[u8; ROOM]) -> Desk {
+pub fn tell(rt: &impl Print, d: Desk, stored: &[u8; ROOM]) -> io::Result<Desk> {
     let book = d.book;
     let size = book.used as usize * BLOCK;
-    text_print::number(book.used as usize);
-    text_print::text(b" ");
-    text_print::number(tape_crc::whole(part(stored, 0, size)) as usize);
-    text_print::text(b" ");
+    text_print::number(rt, book.used as usize)?;
+    text_print::text(rt, b" ")?;
+    text_print::number(rt, tape_crc::whole(part(stored, 0, size)) as usize)?;
+    text_print::text(rt, b" ")?;
     let rest = part(part(stored, 0, d.room), size, stored.len());
-    text_print::number(tape_crc::whole(rest) as usize);
-    text_print::text(b"\n");
-    d
+    text_print::number(rt, tape_crc::whole(rest) as usize)?;
+    text_print::text(rt, b"\n")?;
+    Ok(d)
 }
 
 fn sized(d: Desk, size: usize) -> Desk {
@@ -176,45 +177,45 @@ pub fn add_hex(d: Desk, digits: &[u8], bytes: &mut [u8; ROOM]) -> Desk {
     add(d, &more[0..n], bytes)
 }
 
-pub fn open(d: Desk, bytes: &[u8; ROOM]) -> Desk {
+pub fn open(rt: &impl Print, d: Desk, bytes: &[u8; ROOM]) -> io::Result<Desk> {
     let opened = reopen(part(bytes, 0, d.size));
     match opened {
         Opening::Opened(book) => {
-            text_print::text(b"open ");
-            text_print::number(book.used as usize);
-            counts(book);
+            text_print::text(rt, b"open ")?;
+            text_print::number(rt, book.used as usize)?;
+            counts(rt, book)?;
         }
         Opening::Refused(place, fault) => {
-            text_print::text(b"refused ");
-            text_print::number(place);
-            text_print::text(b" ");
-            text_print::number(fault as usize);
-            text_print::text(b"\n");
+            text_print::text(rt, b"refused ")?;
+            text_print::number(rt, place)?;
+            text_print::text(rt, b" ")?;
+            text_print::number(rt, fault as usize)?;
+            text_print::text(rt, b"\n")?;
         }
     }
-    sized(d, 0)
+    Ok(sized(d, 0))
 }
 
-fn say(reply: Reply) {
+fn say(rt: &impl Print, reply: Reply) -> io::Result<()> {
     match reply {
-        Reply::Entered => text_print::text(b"entered"),
-        Reply::NoVerdict => text_print::text(b"no verdict"),
-        Reply::AlreadyEntered => text_print::text(b"already entered"),
-        Reply::Full => text_print::text(b"full"),
+        Reply::Entered => text_print::text(rt, b"entered"),
+        Reply::NoVerdict => text_print::text(rt, b"no verdict"),
+        Reply::AlreadyEntered => text_print::text(rt, b"already entered"),
+        Reply::Full => text_print::text(rt, b"full"),
     }
 }
 
-fn counts(book: Book) {
-    count(book.pass);
-    count(book.fail);
-    count(book.inconclusive);
-    count(book.unreadable);
-    text_print::text(b" ");
-    text_print::number(book.total());
-    text_print::text(b"\n");
+fn counts(rt: &impl Print, book: Book) -> io::Result<()> {
+    count(rt, book.pass)?;
+    count(rt, book.fail)?;
+    count(rt, book.inconclusive)?;
+    count(rt, book.unreadable)?;
+    text_print::text(rt, b" ")?;
+    text_print::number(rt, book.total())?;
+    text_print::text(rt, b"\n")
 }
 
-fn count(n: u32) {
-    text_print::text(b" ");
-    text_print::number(n as usize);
+fn count(rt: &impl Print, n: u32) -> io::Result<()> {
+    text_print::text(rt, b" ")?;
+    text_print::number(rt, n as usize)
 }

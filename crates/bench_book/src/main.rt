@@ -18,21 +18,27 @@ mod desk;
 use book::Book;
 use desk::{Desk, ROOM};
 use slices::{alike, part};
+use std::io;
 use text_input::{Line, read_line};
 use text_lines::{after_word, word_end};
 
 // A line with a block in hexadecimal.
 const LONGEST: usize = 1100;
 
-fn main() {
+fn main(rt: HostRuntime) -> io::Result<()> {
     let mut line = [0u8; LONGEST];
     let mut stored = [0u8; ROOM];
     let mut bytes = [0u8; ROOM];
-    run(&mut line, &mut stored, &mut bytes);
+    run(&rt, &mut line, &mut stored, &mut bytes)
 }
 
 // Lines are counted down from more than there can be, since nothing says that the input ends.
-fn run(line: &mut [u8], stored: &mut [u8; ROOM], bytes: &mut [u8; ROOM]) {
+fn run(
+    rt: &(impl Input + Print),
+    line: &mut [u8],
+    stored: &mut [u8; ROOM],
+    bytes: &mut [u8; ROOM],
+) -> io::Result<()> {
     let mut desk = Desk {
         book: Book::new(),
         room: 0,
@@ -40,46 +46,59 @@ fn run(line: &mut [u8], stored: &mut [u8; ROOM], bytes: &mut [u8; ROOM]) {
     };
     let mut left: usize = 0x7FFF_FFFF_FFFF_FFFF;
     while 0 < left {
-        match read_line(line) {
-            Line::Whole(n) => desk = said(desk, part(line, 0, n), stored, bytes),
-            Line::Long => text_print::text(b"ERROR line too long\n"),
-            Line::End => return,
+        match read_line(rt, line) {
+            Line::Whole(n) => desk = said(rt, desk, part(line, 0, n), stored, bytes)?,
+            Line::Long => text_print::text(rt, b"ERROR line too long\n")?,
+            Line::End => return Ok(()),
         }
         left -= 1;
     }
+    Ok(())
 }
 
-fn said(d: Desk, line: &[u8], stored: &mut [u8; ROOM], bytes: &mut [u8; ROOM]) -> Desk {
+fn said(
+    rt: &impl Print,
+    d: Desk,
+    line: &[u8],
+    stored: &mut [u8; ROOM],
+    bytes: &mut [u8; ROOM],
+) -> io::Result<Desk> {
     let word = part(line, 0, word_end(line, 0));
     let rest = after_word(line);
     if alike(word, b"ENTER") {
-        return desk::enter(d, desk::four(rest), stored);
+        return desk::enter(rt, d, desk::four(rest), stored);
     }
     if alike(word, b"PART") {
-        return desk::add_part(d, desk::four(rest), stored, bytes);
+        return Ok(desk::add_part(d, desk::four(rest), stored, bytes));
     }
     if alike(word, b"ZEROS") {
-        return desk::add_zeros(d, desk::four(rest), bytes);
+        return Ok(desk::add_zeros(d, desk::four(rest), bytes));
     }
     if alike(word, b"HEX") {
-        return desk::add_hex(d, rest, bytes);
+        return Ok(desk::add_hex(d, rest, bytes));
     }
     if alike(word, b"OPEN") {
-        return desk::open(d, bytes);
+        return desk::open(rt, d, bytes);
     }
-    begun(d, word, rest, stored)
+    begun(rt, d, word, rest, stored)
 }
 
-fn begun(d: Desk, word: &[u8], rest: &[u8], stored: &mut [u8; ROOM]) -> Desk {
+fn begun(
+    rt: &impl Print,
+    d: Desk,
+    word: &[u8],
+    rest: &[u8],
+    stored: &mut [u8; ROOM],
+) -> io::Result<Desk> {
     if alike(word, b"BOOK") {
-        return desk::begin(desk::four(rest), stored);
+        return Ok(desk::begin(desk::four(rest), stored));
     }
     if alike(word, b"RUN") {
-        return desk::run(d, desk::four(rest), stored);
+        return desk::run(rt, d, desk::four(rest), stored);
     }
     if alike(word, b"STORED") {
-        return desk::tell(d, stored);
+        return desk::tell(rt, d, stored);
     }
-    text_print::text(b"ERROR unknown word\n");
-    d
+    text_print::text(rt, b"ERROR unknown word\n")?;
+    Ok(d)
 }

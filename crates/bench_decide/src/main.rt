@@ -1,9 +1,12 @@
 // Selections at random, for comparison with an outside tool. Each line of standard input is the first 40 bytes of a START in
 // hexadecimal; each line of standard output has the numbers read from it, and 1 where it is selected, else 0.
+#![tactic(auto)]
+
 ghost use Rattle.std.specs.Prelude.{◌<◌};
 
-use libc::{STDIN_FILENO, STDOUT_FILENO};
 use start_fields::fields;
+use std::io;
+use text_input::read_full;
 
 // A digit from 0 to 9 or from a to f; any other byte is 0.
 fn digit(c: u8) -> u8
@@ -26,39 +29,39 @@ fn decoded(line: [u8; 81]) -> [u8; 40] {
     start
 }
 
-fn print_number(n: u64) {
-    io::print_decimal(STDOUT_FILENO, n);
-    io::write_all(STDOUT_FILENO, b" ");
+fn print_number(rt: &impl Print, n: u64) -> io::Result<()> {
+    print!(rt; "{n} ")
 }
 
-fn print_line(start: &[u8]) {
-    print_number(fields::random(start) as u64);
-    print_number(fields::target(start) as u64);
-    print_number(fields::maximum(start) as u64);
-    print_number(fields::amount(start));
-    print_number(fields::floor_limit(start));
-    print_number(fields::threshold(start));
+fn print_line(rt: &impl Print, start: &[u8]) -> io::Result<()> {
+    print_number(rt, fields::random(start) as u64)?;
+    print_number(rt, fields::target(start) as u64)?;
+    print_number(rt, fields::maximum(start) as u64)?;
+    print_number(rt, fields::amount(start))?;
+    print_number(rt, fields::floor_limit(start))?;
+    print_number(rt, fields::threshold(start))?;
     if decide_tvr::selection::selected(start) {
-        io::write_all(STDOUT_FILENO, b"1\n");
+        rt.write_all(b"1\n")
     } else {
-        io::write_all(STDOUT_FILENO, b"0\n");
+        rt.write_all(b"0\n")
     }
 }
 
 // One line, and whether there was one.
-fn answer_one() -> bool {
+fn answer_one(rt: &(impl Input + Print)) -> io::Result<bool> {
     let mut line = [0u8; 81];
-    if io::read_full(STDIN_FILENO, &mut line) < 81 {
-        return false;
+    if read_full(rt, &mut line) < 81 {
+        return Ok(false);
     }
     let start = decoded(line);
-    print_line(&start);
-    true
+    print_line(rt, &start)?;
+    Ok(true)
 }
 
-fn main() {
+fn main(rt: HostRuntime) -> io::Result<()> {
     let mut turns: u64 = 100000;
-    while turns > 0 && answer_one() {
+    while turns > 0 && answer_one(&rt)? {
         turns -= 1;
     }
+    Ok(())
 }

@@ -1,9 +1,12 @@
 // Judges the tapes on standard input, each behind its length in four bytes, big-endian, and prints a line for each.
+#![tactic(auto)]
+
 ghost use Rattle.std.specs.Prelude.{◌≤◌, length};
 
 use judge::judge;
-use libc::{STDIN_FILENO, STDOUT_FILENO};
 use slices::{byte, part};
+use std::io;
+use text_input::read_full;
 use verdict_line::{LONGEST, line};
 
 #[derive(Clone, Copy)]
@@ -12,25 +15,26 @@ enum Frame {
     End,
 }
 
-fn main() {
+fn main(rt: HostRuntime) -> io::Result<()> {
     let mut tape = [0u8; 530000];
-    tell_all(&mut tape);
+    tell_all(&rt, &mut tape)
 }
 
-fn tell_all(tape: &mut [u8]) {
+fn tell_all(rt: &(impl Input + Print), tape: &mut [u8]) -> io::Result<()> {
     let mut left: usize = 100000;
     while 0 < left {
-        match size() {
-            Frame::Size(n) => tell(tape, n),
-            Frame::End => return,
+        match size(rt) {
+            Frame::Size(n) => tell(rt, tape, n)?,
+            Frame::End => return Ok(()),
         }
         left -= 1;
     }
+    Ok(())
 }
 
-fn size() -> Frame {
+fn size(rt: &impl Input) -> Frame {
     let mut head = [0u8; 4];
-    let n = io::read_full(STDIN_FILENO, &mut head);
+    let n = read_full(rt, &mut head);
     if n < 4 {
         return Frame::End;
     }
@@ -47,10 +51,10 @@ fn within(n: usize, buf: &[u8]) -> usize
 }
 
 // Reads a tape of so many bytes, and tells its verdict.
-fn tell(buf: &mut [u8], n: usize) {
+fn tell(rt: &(impl Input + Print), buf: &mut [u8], n: usize) -> io::Result<()> {
     let most = within(n, buf);
-    let got = io::read_full(STDIN_FILENO, &mut buf[..most]);
+    let got = read_full(rt, &mut buf[..most]);
     let mut out = [0u8; LONGEST];
     let size = line(judge(part(buf, 0, got)), &mut out);
-    io::write_all(STDOUT_FILENO, part(&out, 0, size));
+    rt.write_all(part(&out, 0, size))
 }

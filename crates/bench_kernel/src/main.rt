@@ -8,38 +8,42 @@
 //     RESULTS bytes  the results of cardholder verification,
 //     SILENCE        the card says nothing
 //     ZEROS          how many list entries were filled with zeros so far is printed
+#![tactic(auto)]
+
 mod call;
 
 use kernel::Session;
 use slices::{byte, part};
+use std::io;
 use text_input::{Line, read_line};
 use text_lines::{after_word, number};
 
 // A line of the longest payload.
 const LONGEST: usize = 8200;
 
-fn main() {
+fn main(rt: HostRuntime) -> io::Result<()> {
     let mut line = [0u8; LONGEST];
-    play_all(&mut line);
+    play_all(&rt, &mut line)
 }
 
 // Lines are counted down from more than there can be, since nothing says that the input ends.
-fn play_all(line: &mut [u8]) {
+fn play_all(rt: &(impl Input + Print), line: &mut [u8]) -> io::Result<()> {
     let mut session = Session::fresh();
     let mut room = 0;
     let mut left: usize = 1_000_000;
     while 0 < left {
-        match read_line(line) {
+        match read_line(rt, line) {
             Line::Whole(n) => {
                 let asked = part(line, 0, n);
                 room = room_after(room, asked);
-                session = session_after(session, room, asked);
+                session = session_after(rt, session, room, asked)?;
             }
-            Line::Long => text_print::text(b"too long\n"),
-            Line::End => return,
+            Line::Long => text_print::text(rt, b"too long\n")?,
+            Line::End => return Ok(()),
         }
         left -= 1;
     }
+    Ok(())
 }
 
 // The fourth letter tells the line.
@@ -50,18 +54,18 @@ fn room_after(room: usize, line: &[u8]) -> usize {
     }
 }
 
-fn session_after(s: Session, room: usize, line: &[u8]) -> Session {
+fn session_after(rt: &impl Print, s: Session, room: usize, line: &[u8]) -> io::Result<Session> {
     match byte(line, 3) as u8 {
-        b'S' => Session::fresh(),
-        b'M' => s,
-        b'O' => tell_zeros(s),
-        event => call::play(s, event, after_word(line), room),
+        b'S' => Ok(Session::fresh()),
+        b'M' => Ok(s),
+        b'O' => tell_zeros(rt, s),
+        event => call::play(rt, s, event, after_word(line), room),
     }
 }
 
-fn tell_zeros(s: Session) -> Session {
-    text_print::text(b"ZEROS ");
-    text_print::number(s.filled_with_zeros());
-    text_print::text(b"\n");
-    s
+fn tell_zeros(rt: &impl Print, s: Session) -> io::Result<Session> {
+    text_print::text(rt, b"ZEROS ")?;
+    text_print::number(rt, s.filled_with_zeros())?;
+    text_print::text(rt, b"\n")?;
+    Ok(s)
 }

@@ -7,58 +7,61 @@ use select_answers::directory::{ENTRY, entry_name, is_named, is_record};
 use select_answers::files::{
     application_indicator, application_name, directory_file, is_application,
 };
+use std::io;
 use tlv_head::Next;
 use tlv_list::place::{next, value};
 
-pub fn environment(answer: &[u8]) {
+pub fn environment(rt: &impl Print, answer: &[u8]) -> io::Result<()> {
     let file = directory_file(answer);
     if file == 0 {
-        text_print::text(b"-");
+        text_print::text(rt, b"-")
     } else {
-        text_print::number(file);
+        text_print::number(rt, file)
     }
 }
 
-pub fn record(answer: &[u8]) {
+pub fn record(rt: &impl Print, answer: &[u8]) -> io::Result<()> {
     if is_record(answer) {
-        text_print::text(b"good");
-        entries(inside(answer, RECORD));
+        text_print::text(rt, b"good")?;
+        entries(rt, inside(answer, RECORD))
     } else {
-        text_print::text(b"-");
+        text_print::text(rt, b"-")
     }
 }
 
-fn entries(s: &[u8]) {
+fn entries(rt: &impl Print, s: &[u8]) -> io::Result<()> {
     let mut p = 0;
     while p < s.len() {
         match next(s, p) {
-            Next::End => return,
-            Next::Broken => return,
+            Next::End => return Ok(()),
+            Next::Broken => return Ok(()),
             Next::Member { tag, start, end } => {
-                member(tag, value(s, start, end));
+                member(rt, tag, value(s, start, end))?;
                 p = end;
             }
         }
     }
+    Ok(())
 }
 
-fn member(tag: usize, v: &[u8]) {
+fn member(rt: &impl Print, tag: usize, v: &[u8]) -> io::Result<()> {
     if tag == ENTRY && is_named(v) {
-        text_print::text(b" ");
-        text_print::bytes(entry_name(v));
-        text_print::text(b" ");
-        text_print::bytes_or_dash(value_in_checked(v, 0x87));
+        text_print::text(rt, b" ")?;
+        text_print::bytes(rt, entry_name(v))?;
+        text_print::text(rt, b" ")?;
+        text_print::bytes_or_dash(rt, value_in_checked(v, 0x87))?;
     }
+    Ok(())
 }
 
-pub fn application(answer: &[u8]) {
+pub fn application(rt: &impl Print, answer: &[u8]) -> io::Result<()> {
     if is_application(answer) {
-        text_print::bytes(application_name(answer));
-        text_print::text(b" ");
-        text_print::number(application_indicator(answer));
-        text_print::text(b" ");
-        text_print::bytes_or_dash(pdol(answer));
+        text_print::bytes(rt, application_name(answer))?;
+        text_print::text(rt, b" ")?;
+        text_print::number(rt, application_indicator(answer))?;
+        text_print::text(rt, b" ")?;
+        text_print::bytes_or_dash(rt, pdol(answer))
     } else {
-        text_print::text(b"-");
+        text_print::text(rt, b"-")
     }
 }

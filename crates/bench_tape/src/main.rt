@@ -2,10 +2,13 @@
 // size of what follows (2), how many times it is repeated (2), and room for 2,048 bytes. For a readable tape each entry is a
 // line (kind, length, check of the payload), and then the check of the tape as our writer makes it; for any other the line
 // is place and code.
+#![tactic(auto)]
+
 ghost use Rattle.std.specs.Prelude.{◌≤◌, length};
 
-use libc::{STDIN_FILENO, STDOUT_FILENO};
+use std::io;
 use tape_write::Writer;
+use text_input::read_full;
 
 const NAME: usize = 8;
 
@@ -17,33 +20,34 @@ const RECORDS: usize = 64;
 
 const LONGEST: usize = 526336;
 
-fn main() {
+fn main(rt: HostRuntime) -> io::Result<()> {
     let mut room = [0u8; RECORD];
     let mut i = 0;
     while i < RECORDS {
-        let n = io::read_full(STDIN_FILENO, &mut room);
+        let n = read_full(&rt, &mut room);
         if n != RECORD {
-            return;
+            return Ok(());
         }
-        show(&room);
+        show(&rt, &room)?;
         i += 1;
     }
+    Ok(())
 }
 
-fn show(record: &[u8]) {
+fn show(rt: &impl Print, record: &[u8]) -> io::Result<()> {
     let mut t = [0u8; LONGEST];
-    show_in(record, &mut t);
+    show_in(rt, record, &mut t)
 }
 
-fn show_in(record: &[u8], t: &mut [u8]) {
+fn show_in(rt: &impl Print, record: &[u8], t: &mut [u8]) -> io::Result<()> {
     if record.len() < RECORD {
-        return;
+        return Ok(());
     }
     let size = number(record, NAME) % 2049;
     let times = number(record, NAME + 2);
-    io::write_all(STDOUT_FILENO, &record[0..NAME]);
+    rt.write_all(&record[0..NAME])?;
     let n = repeat(t, &record[HEAD..HEAD + size], times);
-    read(&t[0..n]);
+    read(rt, &t[0..n])
 }
 
 fn number(s: &[u8], at: usize) -> usize
@@ -69,33 +73,26 @@ fn repeat(t: &mut [u8], s: &[u8], times: usize) -> usize
     at
 }
 
-fn read(t: &[u8]) {
+fn read(rt: &impl Print, t: &[u8]) -> io::Result<()> {
     if tape_read::TAPE < t.len() {
-        bad(0, 1);
-        return;
+        return bad(rt, 0, 1);
     }
     let blocks = t.len() / tape_read::BLOCK;
     if t.len() % tape_read::BLOCK != 0 {
-        bad(blocks, 2);
-        return;
+        return bad(rt, blocks, 2);
     }
     let first = tape_read::block_at(t, 0);
     let session = tape_read::session(first);
     let place = good_blocks(t, blocks, session);
     if place < blocks {
         let block = tape_read::block_at(t, place);
-        bad(place, tape_read::code(block, place, session));
-        return;
+        return bad(rt, place, tape_read::code(block, place, session));
     }
-    entries(t, blocks, session);
+    entries(rt, t, blocks, session)
 }
 
-fn bad(place: usize, code: u8) {
-    io::write_all(STDOUT_FILENO, b" ");
-    io::print_decimal(STDOUT_FILENO, place as u64);
-    io::write_all(STDOUT_FILENO, b" ");
-    io::print_decimal(STDOUT_FILENO, code as u64);
-    io::write_all(STDOUT_FILENO, b"\n");
+fn bad(rt: &impl Print, place: usize, code: u8) -> io::Result<()> {
+    println!(rt; " {place} {code}")
 }
 
 // How many blocks are good before the first that is not.
@@ -111,47 +108,45 @@ fn good_blocks(t: &[u8], blocks: usize, session: u32) -> usize {
     n
 }
 
-fn entries(t: &[u8], blocks: usize, session: u32) {
+fn entries(rt: &impl Print, t: &[u8], blocks: usize, session: u32) -> io::Result<()> {
     let mut copy = [0u8; LONGEST];
-    again(t, blocks, session, &mut copy);
+    again(rt, t, blocks, session, &mut copy)
 }
 
-fn again(t: &[u8], blocks: usize, session: u32, copy: &mut [u8]) {
+fn again(
+    rt: &impl Print,
+    t: &[u8],
+    blocks: usize,
+    session: u32,
+    copy: &mut [u8],
+) -> io::Result<()> {
     let mut writer = Writer::new(session);
-    io::write_all(STDOUT_FILENO, b" read\n");
+    println!(rt; " read")?;
     let mut n = 0;
     while n < blocks {
         let block = tape_read::block_at(t, n);
-        writer = entry(writer, block, copy);
+        writer = entry(rt, writer, block, copy)?;
         n += 1;
     }
-    written(copy, writer);
+    written(rt, copy, writer)
 }
 
 // Shows an entry and writes it again.
-fn entry(writer: Writer, block: &[u8], copy: &mut [u8]) -> Writer {
+fn entry(rt: &impl Print, writer: Writer, block: &[u8], copy: &mut [u8]) -> io::Result<Writer> {
     let kind = tape_read::kind(block);
     let payload = tape_read::payload(block);
-    io::print_decimal(STDOUT_FILENO, kind as u64);
-    io::write_all(STDOUT_FILENO, b" ");
-    io::print_decimal(STDOUT_FILENO, payload.len() as u64);
-    io::write_all(STDOUT_FILENO, b" ");
-    io::print_hex(STDOUT_FILENO, tape_crc::whole(payload) as u64, 8);
-    io::write_all(STDOUT_FILENO, b"\n");
+    let size = payload.len();
+    let check = tape_crc::whole(payload);
+    println!(rt; "{kind} {size} {check:08x}")?;
     let done = writer.append(kind, payload, copy);
-    done.writer
+    Ok(done.writer)
 }
 
-fn written(copy: &[u8], writer: Writer) {
+fn written(rt: &impl Print, copy: &[u8], writer: Writer) -> io::Result<()> {
     let used = writer.used;
     if copy.len() / tape_read::BLOCK < used {
-        return;
+        return Ok(());
     }
-    io::write_all(STDOUT_FILENO, b"written ");
-    io::print_hex(
-        STDOUT_FILENO,
-        tape_crc::whole(&copy[0..used * tape_read::BLOCK]) as u64,
-        8,
-    );
-    io::write_all(STDOUT_FILENO, b"\n");
+    let check = tape_crc::whole(&copy[0..used * tape_read::BLOCK]);
+    println!(rt; "written {check:08x}")
 }

@@ -1,5 +1,6 @@
 // What is asked for.
 use slices::{alike, part};
+use std::rt::Env;
 use text_lines::decimal::{NO_NUMBER, decimal};
 
 pub const NOTHING: u8 = 0;
@@ -21,33 +22,33 @@ pub struct Words {
     pub number: usize,
 }
 
-pub fn asked() -> Words {
+pub fn asked(rt: &impl Env) -> Words {
     let mut word = [0u8; 16];
-    let n = os::arg(2, &mut word);
+    let n = rt.arg(2, &mut word).unwrap_or(0);
     let what = named(part(&word, 0, n));
     let mut digits = [0u8; 16];
-    let m = os::arg(3, &mut digits);
-    if os::errno() != 0 {
-        return Words {
+    match rt.arg(3, &mut digits) {
+        Ok(m) => {
+            let third = part(&digits, 0, m);
+            Words {
+                what: or_many(what, third),
+                number: decimal(third),
+            }
+        }
+        Err(_) => Words {
             what,
             number: NO_NUMBER,
-        };
-    }
-    let third = part(&digits, 0, m);
-    Words {
-        what: or_many(what, third),
-        number: decimal(third),
+        },
     }
 }
 
 // What is to be shown behind many entries.
-pub fn asked_behind() -> u8 {
+pub fn asked_behind(rt: &impl Env) -> u8 {
     let mut word = [0u8; 16];
-    let n = os::arg(4, &mut word);
-    if os::errno() != 0 {
-        return NOTHING;
+    match rt.arg(4, &mut word) {
+        Ok(n) => named(part(&word, 0, n)),
+        Err(_) => NOTHING,
     }
-    named(part(&word, 0, n))
 }
 
 // A dash for the number: the entries, each with its number, come on standard input.

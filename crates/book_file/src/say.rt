@@ -1,24 +1,20 @@
 // What is written to standard output, and how to use the program.
 use book::{Book, Reply};
 use book_block::entry_in;
-use libc::STDERR_FILENO;
 use slices::part;
+use std::io;
 use tape_read::block_at;
 use text_lines::line_end;
 use text_print::{number, text};
 
-pub fn usage() {
-    io::write_all(
-        STDERR_FILENO,
-        b"usage: book FILE add NUMBER < LINE, book FILE add - [counts, list or check] < LINES, or book FILE counts, list or check\n",
+pub fn usage(rt: &impl Eprint) {
+    let _ = rt.eprint(
+        "usage: book FILE add NUMBER < LINE, book FILE add - [counts, list or check] < LINES, or book FILE counts, list or check\n",
     );
 }
 
-pub fn no_line() {
-    io::write_all(
-        STDERR_FILENO,
-        b"book: standard input is not a line of the judge's\n",
-    );
+pub fn no_line(rt: &impl Eprint) {
+    let _ = rt.eprint("book: standard input is not a line of the judge's\n");
 }
 
 pub fn is_entered(reply: Reply) -> bool {
@@ -30,28 +26,28 @@ pub fn is_entered(reply: Reply) -> bool {
     }
 }
 
-pub fn replied(reply: Reply) {
+pub fn replied(rt: &impl Print, reply: Reply) -> io::Result<()> {
     match reply {
-        Reply::Entered => text(b"entered\n"),
-        Reply::NoVerdict => text(b"no verdict\n"),
-        Reply::AlreadyEntered => text(b"already entered\n"),
-        Reply::Full => text(b"full\n"),
+        Reply::Entered => text(rt, b"entered\n"),
+        Reply::NoVerdict => text(rt, b"no verdict\n"),
+        Reply::AlreadyEntered => text(rt, b"already entered\n"),
+        Reply::Full => text(rt, b"full\n"),
     }
 }
 
-pub fn no_number() {
-    text(b"no number\n");
+pub fn no_number(rt: &impl Print) -> io::Result<()> {
+    text(rt, b"no number\n")
 }
 
 // The faults stand in one text, nine bytes each: a text for each arm is dear to prove.
-pub fn refused(place: usize, fault: u8) {
+pub fn refused(rt: &impl Print, place: usize, fault: u8) -> io::Result<()> {
     let faults = b"too long\ntorn\n    check\n   number\n  verdict\n zeros\n   twice\n";
     let name = part(faults, place_of(fault), 9);
-    text(b"refused ");
-    number(place);
-    text(b" ");
-    text(part(name, 0, line_end(name, 0)));
-    text(b"\n");
+    text(rt, b"refused ")?;
+    number(rt, place)?;
+    text(rt, b" ")?;
+    text(rt, part(name, 0, line_end(name, 0)))?;
+    text(rt, b"\n")
 }
 
 fn place_of(fault: u8) -> usize {
@@ -66,46 +62,47 @@ fn place_of(fault: u8) -> usize {
     }
 }
 
-pub fn good(book: Book) {
-    text(b"good ");
-    number(book.used as usize);
-    text(b"\n");
+pub fn good(rt: &impl Print, book: Book) -> io::Result<()> {
+    text(rt, b"good ")?;
+    number(rt, book.used as usize)?;
+    text(rt, b"\n")
 }
 
-pub fn counts(book: Book) {
-    text(b"PASS ");
-    number(book.pass as usize);
-    text(b" FAIL ");
-    number(book.fail as usize);
-    text(b" INCONCLUSIVE ");
-    number(book.inconclusive as usize);
-    text(b" UNREADABLE ");
-    number(book.unreadable as usize);
-    text(b" TOTAL ");
-    number(book.total());
-    text(b"\n");
+pub fn counts(rt: &impl Print, book: Book) -> io::Result<()> {
+    text(rt, b"PASS ")?;
+    number(rt, book.pass as usize)?;
+    text(rt, b" FAIL ")?;
+    number(rt, book.fail as usize)?;
+    text(rt, b" INCONCLUSIVE ")?;
+    number(rt, book.inconclusive as usize)?;
+    text(rt, b" UNREADABLE ")?;
+    number(rt, book.unreadable as usize)?;
+    text(rt, b" TOTAL ")?;
+    number(rt, book.total())?;
+    text(rt, b"\n")
 }
 
-pub fn list(bytes: &[u8], used: usize) {
+pub fn list(rt: &impl Print, bytes: &[u8], used: usize) -> io::Result<()> {
     let mut k = 0;
     while k < used {
-        entry(block_at(bytes, k));
+        entry(rt, block_at(bytes, k))?;
         k += 1;
     }
+    Ok(())
 }
 
-fn entry(block: &[u8]) {
+fn entry(rt: &impl Print, block: &[u8]) -> io::Result<()> {
     let e = entry_in(block);
-    number(e.tape as usize);
+    number(rt, e.tape as usize)?;
     let verdict = e.verdict;
     match verdict {
-        1 => text(b" PASS "),
-        2 => text(b" FAIL "),
-        3 => text(b" INCONCLUSIVE "),
-        _ => text(b" UNREADABLE "),
+        1 => text(rt, b" PASS ")?,
+        2 => text(rt, b" FAIL ")?,
+        3 => text(rt, b" INCONCLUSIVE ")?,
+        _ => text(rt, b" UNREADABLE ")?,
     }
-    number(e.place as usize);
-    text(b" ");
-    number(e.code as usize);
-    text(b"\n");
+    number(rt, e.place as usize)?;
+    text(rt, b" ")?;
+    number(rt, e.code as usize)?;
+    text(rt, b"\n")
 }

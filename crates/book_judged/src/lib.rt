@@ -1,4 +1,6 @@
 // A tape judged and made an entry of the campaign book, above the judge and from its promise alone.
+#![tactic(auto)]
+
 ghost use Rattle.book_judged.specs.Judging.{EnteredFor};
 
 use book_answer::entry_of;

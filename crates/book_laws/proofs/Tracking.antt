@@ -42,7 +42,8 @@ module _ (done : List Entry) (b : Book) (t : List ℕ) (s : Stands done b t) (e 
   unfolding step_of
   next_reply = reply_is done b t s e
 
-pub tracked : (done es : List Entry) (b : Book) (t : List ℕ) → Stands done b t → all_fit es ≡ true → Led (length t) done es (handed_in b t es)
+pub tracked : (done es : List Entry) (b : Book) (t : List ℕ) → Stands done b t → all_fit es ≡ true
+    → Led (length t) done es (handed_in b t es)
 unfolding handed_in accepted_from replies_from all_fit
 tracked done [] b t s f = record { stands = s; replies = refl; size = refl }
 tracked done (e ∷ es) b t s f =

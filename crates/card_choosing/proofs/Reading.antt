@@ -21,7 +21,8 @@ use Rattle.select_answers.specs.Objects.{name_right, indicator_right, indicator_
 use Rattle.select_answers.specs.Files as files
 use Rattle.select_answers.specs.Files.{environment_right, directory_file, application_right, is_application, application_name}
 use Rattle.select_answers.specs.Files.{application_indicator}
-use Rattle.select_answers.specs.Directory.{Met, entry_tag, is_named, entry_right, entries, entries_in, record_right, entry_name, entry_indicator}
+use Rattle.select_answers.specs.Directory.{Met, entry_tag, is_named, entry_right, entries}
+use Rattle.select_answers.specs.Directory.{entries_in, record_right, entry_name, entry_indicator}
 use Rattle.select_answers.specs.Directory.{applications, applications_of}
 use Rattle.card_seen.specs.Seen.{Counts, noting, environment, directory, application, environment_names, application_names}
 use Rattle.card_seen.specs.Seen.{entry_names, entry_noted, names_at, expected_at, objects_at, noted, Shown, shown_as, shown, named_at}
@@ -93,7 +94,8 @@ right_by v = every (not v.form_wrong ∷ every (map (λ t. entry_right (in_entry
 unfoldable pub met_by : List Shown → List Met
 met_by [] = []
 met_by (t ∷ ts) =
-    pick (is_named (in_entry t)) (record { name = entry_name (in_entry t); indicator = entry_indicator (in_entry t) } ∷ met_by ts) (met_by ts)
+    pick (is_named (in_entry t)) (record { name = entry_name (in_entry t); indicator = entry_indicator (in_entry t) } ∷ met_by ts)
+    (met_by ts)
 
 module _ (m : Object) where
   abbrev noted_in : ℕ → Lookup
@@ -131,7 +133,8 @@ other_passed : (m : Object) (ms : List Object) → eqb m.tag entry_tag ≡ false
 unfolding shown listed any_of
 other_passed m ms n = pick_no _ _ _ (pick_no _ _ _ n)
 
-entries_right_lem : (ms : List Object) → map (λ e. entry_right (among e)) (entries ms) ≡ map (λ t. entry_right (in_entry t)) (shown table ms)
+entries_right_lem : (ms : List Object) → map (λ e. entry_right (among e)) (entries ms)
+    ≡ map (λ t. entry_right (in_entry t)) (shown table ms)
 unfolding entries shown shown_as
 entries_right_lem [] = refl
 entries_right_lem (m ∷ ms) =

@@ -83,7 +83,8 @@ unfoldable pub heard_by : Applications → Search → Seen → Found
 heard_by t s v = pick v.size_wrong (over for_size) (heard_step t s v s.stand.step)
 
 step_seen : (t : Applications) (s : Search) (a : List ℕ) (step : Step) → heard_at t s a step ≡ heard_step t s (seen (place_at step) a) step
-unfolding heard_at heard_step place_at after_environment after_record after_listed compared joined_by after_final selected has_status status_is seen
+unfolding heard_at heard_step place_at after_environment after_record after_listed compared joined_by after_final selected has_status
+    status_is seen
     status_of
 step_seen t s a Environment = λ i. environment_lines s (λ k. status_is k (seen environment a)) (file_seen a i)
 step_seen t s a (Directory file number) =

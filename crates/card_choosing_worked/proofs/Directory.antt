@@ -50,19 +50,22 @@ entry_counts =
 pub entry_name_counts : MattersAt seen.directory 0x4F
 unfolding reached viewed place_due place_of place_at given others besides seen_beside reason_said
 entry_name_counts =
-    pair 0x4F opens seen.directory two_listed (record_of 0x1F (passed_over ++ (listed 5 1 ++ listed 2 2))) closes (select_name 1) (select_name 5)
+    pair 0x4F opens seen.directory two_listed (record_of 0x1F (passed_over ++ (listed 5 1 ++ listed 2 2))) closes (select_name 1)
+    (select_name 5)
     refl refl refl refl refl refl (differ 10 _ _ refl) refl refl
 
 -- with a priority behind the second's
 pub entry_priority_counts : MattersAt seen.directory 0x87
 unfolding reached viewed place_due place_of place_at given others besides seen_beside reason_said
 entry_priority_counts =
-    pair 0x87 opens seen.directory two_listed (record_of 0x1F (passed_over ++ (listed 1 3 ++ listed 2 2))) closes (select_name 1) (select_name 2)
+    pair 0x87 opens seen.directory two_listed (record_of 0x1F (passed_over ++ (listed 1 3 ++ listed 2 2))) closes (select_name 1)
+    (select_name 2)
     refl refl refl refl refl refl (differ 10 _ _ refl) refl refl
 
 -- an entry with neither 4F nor 9D is a fault: the terminal goes by its list of AIDs
 pub entry_note_counts : MattersAt seen.directory 0x9D
 unfolding reached viewed place_due place_of place_at given others besides seen_beside reason_said
 entry_note_counts =
-    pair 0x9D opens seen.directory two_listed (record_of 0x1C (0x61 ∷ 0x00 ∷ (listed 1 1 ++ listed 2 2))) [] (read_record 2 0x0C) (select_aid 0)
+    pair 0x9D opens seen.directory two_listed (record_of 0x1C (0x61 ∷ 0x00 ∷ (listed 1 1 ++ listed 2 2))) [] (read_record 2 0x0C)
+    (select_aid 0)
     refl refl refl refl refl refl (differ 1 _ _ refl) refl refl

@@ -11,7 +11,7 @@ use Rattle.slices.specs.Tables.{beside}
 use Rattle.slices.specs.Tests.{is_some}
 use Rattle.slices.proofs.Choice.{pick_yes, pick_no, either}
 use Rattle.tlv_head.specs.Head.{constructed, first_byte}
-use Rattle.tlv_list.specs.Objects.{Object, objects}
+use Rattle.tlv_list.specs.Objects.{Object}
 use Rattle.tlv_list.specs.Place.{object_at, places_from}
 use Rattle.tlv_list.proofs.Walking.{places_members}
 use Rattle.answer_common.specs.Answer.{inside}

@@ -278,7 +278,8 @@ module _ (a : List ℕ) where
     template_lines n y =
         one_more_lem 4 _ _ (times_alike cryptogram_names _ _ 2 (λ name l. ap times (as_member n name l)))
         (one_more_lem 5 _ _ (template_wrong n)
-        (one_more_lem 8 _ _ (and_yes refl _ y ∙ times_alike mandatory_names _ _ 0 (λ name l. ap times (as_member n name (named_too name l))))
+        (one_more_lem 8 _ _ (and_yes refl _ y ∙ times_alike mandatory_names _ _ 0
+        (λ name l. ap times (as_member n name (named_too name l))))
         (one_more_lem 10 [] [] (ap (λ (given : Given). not (allowed given)) cryptogram_seen) refl)))
 
     pub reason_seen : cryptogram_reason allowed a ≡ cryptogram_by allowed (seen generation a)

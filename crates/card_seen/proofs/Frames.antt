@@ -31,6 +31,7 @@ module _ (p : Place) (a : List ℕ) where
       → first_of (frame (expected_at p) a ++ x) ≡ first_of (frame_by (seen p a) ++ y)
   unfolding frame frame_by seen status_of status_bad first_of
   lines_unseen x y e =
-      one_more_lem 1 ((status_bad a, 2) ∷ (outer_bad (expected_at p) a, 3) ∷ x) ((status_bad a, 2) ∷ (outer_bad (expected_at p) a, 3) ∷ y) refl
+      one_more_lem 1 ((status_bad a, 2) ∷ (outer_bad (expected_at p) a, 3) ∷ x)
+      ((status_bad a, 2) ∷ (outer_bad (expected_at p) a, 3) ∷ y) refl
       (one_more_lem 2 ((outer_bad (expected_at p) a, 3) ∷ x) ((outer_bad (expected_at p) a, 3) ∷ y) refl
       (pick_yes _ _ _ e ∙ sym (pick_yes _ _ _ e)))

@@ -10,7 +10,8 @@ use Rattle.slices.specs.Shorter.{counted, shorter}
 use Rattle.slices.specs.Tables.{any_of, beside}
 use Rattle.slices.specs.Tests.{alike, is_some}
 use Rattle.slices.proofs.Comparing.{same_alike}
-use Rattle.tlv_head.specs.Head.{first_byte, constructed, two_bytes, tag_size, tag_of, tag_right, length_byte, length_form, length_size, length_of}
+use Rattle.tlv_head.specs.Head.{first_byte, constructed, two_bytes, tag_size, tag_of}
+use Rattle.tlv_head.specs.Head.{tag_right, length_byte, length_form, length_size, length_of}
 use Rattle.tlv_head.specs.Head.{value_start, value_end, whole as whole_head}
 use Rattle.tlv_list.specs.Objects.{Object, between, first_object, before, right_inside, listed as listed_objects, objects}
 use Rattle.tlv_list.specs.Lookup.{met, lookup}
@@ -30,8 +31,10 @@ use Rattle.card_seen.proofs.Order.{swapped}
 
 -- what is seen, with every definition under it open, so that it computes
 unfoldable pub viewed : Place → List ℕ → Seen
-unfolding pick counted shorter any_of beside is_some first_byte constructed two_bytes tag_size tag_of tag_right length_byte length_form length_size
-    length_of value_start value_end whole_head between first_object before right_inside listed_objects objects data_field size_bad only outer
+unfolding pick counted shorter any_of beside is_some first_byte constructed two_bytes tag_size tag_of tag_right length_byte length_form
+    length_size
+    length_of value_start value_end whole_head between first_object before right_inside listed_objects objects data_field size_bad
+    only outer
     tagged value_under is_one inside outer_bad members_in listed named names_at expected_at apart_options if_left apart_cryptogram in_forms
     objects_at met lookup times present noted shown_as shown named_at status_of seen
 viewed p a = seen p a

@@ -9,7 +9,8 @@ use Rattle.decide_cryptogram.specs.declared.Given.{Given}
 use Rattle.facts.specs.Facts.{Facts, or_else}
 use Rattle.rulebook.specs.Situation.{Situation}
 use Rattle.rulebook.specs.Phase.{Asked, selecting, optioning, reading, first, second, Phase, asks, decided}
-use Rattle.rulebook.specs.Turn.{goes_on, selected, read_on, with_profile, optioned, with_record, recorded, answered, by_first, first_answered}
+use Rattle.rulebook.specs.Turn.{goes_on, selected, read_on, with_profile, optioned}
+use Rattle.rulebook.specs.Turn.{with_record, recorded, answered, by_first, first_answered}
 use Rattle.rulebook.specs.Turn.{by_second, second_answered, turn}
 use Rattle.card_seen.specs.SideBySide.{reason_in}
 use Rattle.card_seen.specs.Used.{Used, list, options, told, gave, used_of}

@@ -71,7 +71,8 @@ module _ {A H S : Type 0} (rules : Rules A H S) (view : View A H S) (through : T
 
   -- ---- that they give what a session has
 
-  pub phases_by_lem : {p : Phase A H S} {es : List Entry} (play : Plays rules p es) → phases_of rules play ≡ phases_by (given_to rules view play) p
+  pub phases_by_lem : {p : Phase A H S} {es : List Entry} (play : Plays rules p es) → phases_of rules play
+      ≡ phases_by (given_to rules view play) p
   unfolding phases_of given_to phases_by
   phases_by_lem (exchanged {w} {c} {a} same ok play) =
       ap (λ (ps : List (Phase A H S)). asks w ∷ asks w ∷ ps)
@@ -95,7 +96,8 @@ module _ {A H S : Type 0} (rules : Rules A H S) (view : View A H S) (through : T
     unfolding but_answer
     word_kept h p = pick_no _ _ _ (words h)
 
-    pub entries_by_lem : {p : Phase A H S} {es : List Entry} (play : Plays rules p es) → but_answers es ≡ entries_by (given_to rules view play) p
+    pub entries_by_lem : {p : Phase A H S} {es : List Entry} (play : Plays rules p es) → but_answers es
+        ≡ entries_by (given_to rules view play) p
     unfolding given_to entries_by
     entries_by_lem (exchanged {w} {c} {a} same ok play) =
         let first = (kept c a []).0 ∙ ap (entry command) same in

@@ -12,7 +12,8 @@ use Rattle.decide_cryptogram.specs.Cryptograms.{allowed_by}
 use Rattle.decide_cryptogram.specs.declared.Request.TheVariants.{First, Second}
 use Rattle.rulebook.specs.Situation.{Situation}
 use Rattle.rulebook.specs.Phase.{Asked, selecting, optioning, reading as reading_record, first, second, Phase, asks, decided}
-use Rattle.rulebook.specs.Turn.{goes_on, selected, read_on, with_profile, optioned, with_record, recorded, answered, by_first, first_answered}
+use Rattle.rulebook.specs.Turn.{goes_on, selected, read_on, with_profile, optioned}
+use Rattle.rulebook.specs.Turn.{with_record, recorded, answered, by_first, first_answered}
 use Rattle.rulebook.specs.Turn.{by_second, second_answered, turn}
 use Rattle.card_seen.specs.Seen.{reading, Seen, seen}
 use Rattle.card_seen.specs.Given.{place_of}

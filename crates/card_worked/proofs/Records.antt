@@ -84,7 +84,8 @@ record_with t =
 -- the first GENERATE AC: what 8C asks for, in its order
 abbrev pub asks : List ℕ → Told → List ℕ → Entry
 asks aip t tvr =
-    entry command (0x80 ∷ 0xAE ∷ 0x40 ∷ 0x00 ∷ 0x20 ∷ (aip ++ (value_in 0x5A t ++ (value_in 0x5F24 t ++ (value_in 0x5F25 t ++ (value_in 0x9F08 t
+    entry command (0x80 ∷ 0xAE ∷ 0x40 ∷ 0x00 ∷ 0x20
+    ∷ (aip ++ (value_in 0x5A t ++ (value_in 0x5F24 t ++ (value_in 0x5F25 t ++ (value_in 0x9F08 t
     ++ (value_in 0x9F0D t ++ (value_in 0x9F0E t ++ (value_in 0x9F0F t ++ (tvr ++ (0x00 ∷ [])))))))))))
 
 -- up to the answer to GENERATE AC

@@ -17,7 +17,8 @@ unfolding options_command written tag_bytes length_bytes pick
 options_worked = refl
 
 -- case G's first record, and the highest file and record
-record_worked : (record_command 1 1 ≡ 0x00 ∷ 0xB2 ∷ 0x01 ∷ 0x0C ∷ 0x00 ∷ []) × (record_command 255 10 ≡ 0x00 ∷ 0xB2 ∷ 0xFF ∷ 0x54 ∷ 0x00 ∷ [])
+record_worked : (record_command 1 1 ≡ 0x00 ∷ 0xB2 ∷ 0x01 ∷ 0x0C ∷ 0x00 ∷ [])
+    × (record_command 255 10 ≡ 0x00 ∷ 0xB2 ∷ 0xFF ∷ 0x54 ∷ 0x00 ∷ [])
 unfolding record_command
 record_worked = (refl, refl)
 

@@ -62,7 +62,8 @@ bit_joined k a b i =
 pub stays_at : (a b : List ℕ) (i : ℕ) → get_or b i 0 ≡ 0 → get_or (joined a b) i 0 ≡ get_or a i 0
 stays_at a b i e = joined_at a b i ∙ (ap (bit_or (get_or a i 0)) e ∙ or_zero_r (get_or a i 0))
 
-pub bit_stays : (k : ℕ) (a b : List ℕ) (i : ℕ) → get_or b i 0 / 2 ^ k % 2 ≡ 0 → get_or (joined a b) i 0 / 2 ^ k % 2 ≡ get_or a i 0 / 2 ^ k % 2
+pub bit_stays : (k : ℕ) (a b : List ℕ) (i : ℕ) → get_or b i 0 / 2 ^ k % 2 ≡ 0 → get_or (joined a b) i 0 / 2 ^ k % 2
+    ≡ get_or a i 0 / 2 ^ k % 2
 bit_stays k a b i e = let n = get_or a i 0 / 2 ^ k % 2 in bit_joined k a b i ∙ (ap (bit_or n) e ∙ or_zero_r n)
 
 -- n joined bytes of two rows from a place on

@@ -18,7 +18,8 @@ use Rattle.cvm.proofs.Bounds.{six_bits}
 use Rattle.decide_tvr.specs.Bits.{joined}
 use Rattle.decide_tvr.proofs.Rows.{kept, joined_length, joined_at, bit_joined, stays_at}
 use Rattle.decide_tvr.proofs.Laws.{Bytes, joined_bytes}
-use Rattle.decide_verification.specs.Verification.{verification_list, results_wanted, circumstances_of, tvr_after_results, tsi_after_results}
+use Rattle.decide_verification.specs.Verification.{verification_list, results_wanted, circumstances_of}
+use Rattle.decide_verification.specs.Verification.{tvr_after_results, tsi_after_results}
 
 module _ (t : Terminal) (told : Facts) (results tvr : List ℕ) where
   pub results_kept : joined tvr (tvr_after_results t told results tvr) ≡ tvr_after_results t told results tvr

@@ -1,6 +1,7 @@
 -- An object list, filled: its bytes go by the entry at the front and the rest, and are as many as it asks for.
 -- Assumes nothing.
-use Rattle.std.proofs.Common.{◌≡◌, ℕ, ◌+◌, ◌-◌, ◌<◌, ◌≤◌, min, true, List, [], ◌∷◌, ◌++◌, length, take, drop, replicate, sym, refl, ap, ◌∙◌, ap₂, arith, length-append, length-drop, length-take, le-leb}
+use Rattle.std.proofs.Common.{◌≡◌, ℕ, ◌+◌, ◌-◌, ◌<◌, ◌≤◌, min, true, List, [], ◌∷◌, ◌++◌, length}
+use Rattle.std.proofs.Common.{take, drop, replicate, sym, refl, ap, ◌∙◌, ap₂, arith, length-append, length-drop, length-take, le-leb}
 use mathlib.Core.Bool.{false≢true}
 use mathlib.Core.Option.{Option, none, some}
 use lib.ListN.{length-replicate}
@@ -106,7 +107,8 @@ module _ (t : Terminal) (k : Facts) (list : List ℕ) where
   filling_no h = pick_no _ _ _ (sym (tally_fillable list) ∙ lt-leb (tally list) most h)
 
 -- writing the entry at the front and then the rest is writing all of it
-pub turn_put : (t : Terminal) (k : Facts) (r buf : List ℕ) (p : ℕ) → 0 < length r → is_some (entries_of r) ≡ true → p + size_at r ≤ length buf
+pub turn_put : (t : Terminal) (k : Facts) (r buf : List ℕ) (p : ℕ) → 0 < length r → is_some (entries_of r) ≡ true → p
+    + size_at r ≤ length buf
     → put (filled_by t k (entries_of (drop (tag_size r + 1) r))) (p + size_at r) (put (first_bytes t k r) p buf)
     ≡ put (filled_by t k (entries_of r)) p buf
 turn_put t k r buf p h right fits' =

@@ -1,7 +1,8 @@
 -- The entries that are not supplied, counted: by the entry at the front and the rest, and never more than half of the list's bytes, since
 -- an entry has a tag and a length.
 -- Assumes nothing.
-use Rattle.std.proofs.Common.{◌≡◌, ℕ, zero, suc, ◌+◌, ◌*◌, ◌<◌, ◌≤◌, true, false, ltb, List, [], length, get_or, drop, refl, ap, ◌∙◌, arith, length-drop, ltb-false, ltb-true}
+use Rattle.std.proofs.Common.{◌≡◌, ℕ, zero, suc, ◌+◌, ◌*◌, ◌<◌, ◌≤◌, true, false, ltb, List}
+use Rattle.std.proofs.Common.{[], length, get_or, drop, refl, ap, ◌∙◌, arith, length-drop, ltb-false, ltb-true}
 use mathlib.Core.Bool.{false≢true}
 use mathlib.Core.Option.{Option, none, some}
 use Rattle.slices.specs.Tests.{is_some}

@@ -18,7 +18,8 @@ module _ {Asked Heard Situation : Type 0} (rules : Rules Asked Heard Situation) 
 
   pub data DueAfter (es : List Entry) : Due Heard → Type 0 where
     -- in a phase that asks, as long as the card is not waited for
-    command_due_lem : (w : Asked) {c : List ℕ} → c ≡ command_of w → StandsIn es (asks w) → (AwaitsCard rules es → ⊥) → DueAfter es (asking c)
+    command_due_lem : (w : Asked) {c : List ℕ} → c ≡ command_of w → StandsIn es (asks w) → (AwaitsCard rules es → ⊥)
+        → DueAfter es (asking c)
     answer_due : AwaitsCard rules es → DueAfter es answering
     word_due_lem : {h : Heard} → StandsIn es (hears h) → DueAfter es (saying h)
     decision_due_lem : (outcome reason : ℕ) (s : Situation) {d : List ℕ} → d ≡ decision_of outcome reason s

@@ -12,11 +12,14 @@
 //     ERROR why        the line is none of these; nothing changed
 //
 // Bytes that stand behind the end of an exchange in the same line are not looked at.
+#![tactic(auto)]
+
 mod say;
 mod turn;
 
 use apdu::{ANSWER_MOST, DATA_MOST};
 use slices::{alike, part};
+use std::io;
 use t0_state::State;
 use text_input::{Line, read_line};
 use text_lines::{after_word, word_end};
@@ -24,36 +27,48 @@ use text_lines::{after_word, word_end};
 // A line with 16,384 bytes.
 const LONGEST: usize = 32_800;
 
-fn main() {
+fn main(rt: HostRuntime) -> io::Result<()> {
     let mut line = [0u8; LONGEST];
     let mut out = [0u8; DATA_MOST];
     let mut answer = [0u8; ANSWER_MOST];
-    exchange(&mut line, &mut out, &mut answer);
+    exchange(&rt, &mut line, &mut out, &mut answer)
 }
 
 // Lines are counted down from more than there can be, since nothing says that the input ends.
-fn exchange(line: &mut [u8], out: &mut [u8; DATA_MOST], answer: &mut [u8; ANSWER_MOST]) {
+fn exchange(
+    rt: &(impl Input + Print),
+    line: &mut [u8],
+    out: &mut [u8; DATA_MOST],
+    answer: &mut [u8; ANSWER_MOST],
+) -> io::Result<()> {
     let mut state = turn::none(out);
     let mut left: usize = 0x7FFF_FFFF_FFFF_FFFF;
     while 0 < left {
-        match read_line(line) {
-            Line::Whole(n) => state = said(state, part(line, 0, n), out, answer),
-            Line::Long => text_print::text(b"ERROR line too long\n"),
-            Line::End => return,
+        match read_line(rt, line) {
+            Line::Whole(n) => state = said(rt, state, part(line, 0, n), out, answer)?,
+            Line::Long => text_print::text(rt, b"ERROR line too long\n")?,
+            Line::End => return Ok(()),
         }
         left -= 1;
     }
+    Ok(())
 }
 
-fn said(s: State, line: &[u8], out: &mut [u8; DATA_MOST], answer: &mut [u8; ANSWER_MOST]) -> State {
+fn said(
+    rt: &impl Print,
+    s: State,
+    line: &[u8],
+    out: &mut [u8; DATA_MOST],
+    answer: &mut [u8; ANSWER_MOST],
+) -> io::Result<State> {
     let end = word_end(line, 0);
     let word = part(line, 0, end);
     if alike(word, b"COMMAND") {
-        return turn::command(s, after_word(line), out);
+        return turn::command(rt, s, after_word(line), out);
     }
     if alike(word, b"CARD") {
-        return turn::card(s, after_word(line), out, answer);
+        return turn::card(rt, s, after_word(line), out, answer);
     }
-    text_print::text(b"ERROR unknown word\n");
-    s
+    text_print::text(rt, b"ERROR unknown word\n")?;
+    Ok(s)
 }

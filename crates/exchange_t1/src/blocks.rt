@@ -4,6 +4,7 @@ use crate::say;
 use crate::words::nth_line;
 use apdu::ANSWER_MOST;
 use slices::byte;
+use std::io;
 use t1::{Step, fresh, receive, send};
 use t1_block::{Fault, Kind, LONGEST, What, code_of, fault_of, information, kind_of, pcb_of_r};
 use t1_state::change::{at_phase, with_numbers};
@@ -11,44 +12,47 @@ use t1_state::limits::more_of;
 use t1_state::{Phase, Role, State};
 use text_lines::{after_word, number};
 
-pub fn test(block: &[u8], rest: &[u8]) {
+pub fn test(rt: &impl Print, block: &[u8], rest: &[u8]) -> io::Result<()> {
     let fault = fault_of(block, small(number(rest)));
     let code = code_of(fault);
     if code == 0 {
-        valid(block);
+        valid(rt, block)
     } else {
-        invalid(code as usize, fault);
+        invalid(rt, code as usize, fault)
     }
 }
 
-fn valid(block: &[u8]) {
-    say::head(say::VALID);
-    kind(kind_of(byte(block, 1) as u8), byte(block, 1) % 16);
-    say::head(say::SPACE);
-    say::field(information(block).len());
+fn valid(rt: &impl Print, block: &[u8]) -> io::Result<()> {
+    say::head(rt, say::VALID)?;
+    kind(rt, kind_of(byte(block, 1) as u8), byte(block, 1) % 16)?;
+    say::head(rt, say::SPACE)?;
+    say::field(rt, information(block).len())
 }
 
-fn kind(k: Kind, code: usize) {
+fn kind(rt: &impl Print, k: Kind, code: usize) -> io::Result<()> {
     match k {
         Kind::Information(number, more) => {
-            say::head(say::INFORMATION);
-            say::bit(number);
-            say::bit(more);
+            say::head(rt, say::INFORMATION)?;
+            say::bit(rt, number)?;
+            say::bit(rt, more)
         }
         Kind::Ready(number) => {
-            say::head(say::READY);
-            say::bit(number);
-            say::spaced(code);
+            say::head(rt, say::READY)?;
+            say::bit(rt, number)?;
+            say::spaced(rt, code)
         }
-        Kind::Request(w) => supervisory(w, say::REQUEST),
-        Kind::Response(w) => supervisory(w, say::RESPONSE),
-        Kind::NoKind => say::head(say::NO_KIND),
+        Kind::Request(w) => supervisory(rt, w, say::REQUEST),
+        Kind::Response(w) => supervisory(rt, w, say::RESPONSE),
+        Kind::NoKind => say::head(rt, say::NO_KIND),
     }
 }
 
-fn supervisory(w: What, way: usize) {
-    text_print::text(nth_line(b"S RESYNCH\nS IFS\nS ABORT\nS WTX", number_of_what(w)));
-    say::head(way);
+fn supervisory(rt: &impl Print, w: What, way: usize) -> io::Result<()> {
+    text_print::text(
+        rt,
+        nth_line(b"S RESYNCH\nS IFS\nS ABORT\nS WTX", number_of_what(w)),
+    )?;
+    say::head(rt, way)
 }
 
 fn number_of_what(w: What) -> usize {
@@ -60,18 +64,21 @@ fn number_of_what(w: What) -> usize {
     }
 }
 
-fn invalid(code: usize, fault: Fault) {
-    say::head(say::INVALID);
-    say::spaced(code);
-    fault_name(number_of_fault(fault));
-    say::end();
+fn invalid(rt: &impl Print, code: usize, fault: Fault) -> io::Result<()> {
+    say::head(rt, say::INVALID)?;
+    say::spaced(rt, code)?;
+    fault_name(rt, number_of_fault(fault))?;
+    say::end(rt)
 }
 
-fn fault_name(n: usize) {
-    text_print::text(nth_line(
-        b" -\n under\n over\n edc\n len\n nad\n pcb\n empty\n ifs\n inf",
-        n,
-    ));
+fn fault_name(rt: &impl Print, n: usize) -> io::Result<()> {
+    text_print::text(
+        rt,
+        nth_line(
+            b" -\n under\n over\n edc\n len\n nad\n pcb\n empty\n ifs\n inf",
+            n,
+        ),
+    )
 }
 
 fn number_of_fault(fault: Fault) -> usize {
@@ -91,17 +98,23 @@ fn number_of_fault(fault: Fault) -> usize {
 
 // The blocks of a terminal that sends the message to a card that acknowledges each, by R-blocks for the next number, until the last
 // piece is out: at most 4,354 of them.
-pub fn cut(message: &[u8], rest: &[u8], out: &mut [u8; LONGEST]) {
+pub fn cut(
+    rt: &impl Print,
+    message: &[u8],
+    rest: &[u8],
+    out: &mut [u8; LONGEST],
+) -> io::Result<()> {
     let mut step = send(due(rest), message, out);
     let mut left: usize = 4355;
     while 0 < left {
-        said(step, out);
+        said(rt, step, out)?;
         if is_last(step) {
-            return;
+            return Ok(());
         }
         step = acknowledge(step, out);
         left -= 1;
     }
+    Ok(())
 }
 
 fn due(rest: &[u8]) -> State {
@@ -109,10 +122,10 @@ fn due(rest: &[u8]) -> State {
     with_numbers(at_phase(s, Phase::Due), 0 < number(after_word(rest)), false)
 }
 
-fn said(step: Step, out: &[u8; LONGEST]) {
+fn said(rt: &impl Print, step: Step, out: &[u8; LONGEST]) -> io::Result<()> {
     let reply = step.reply;
     let none = [0u8; ANSWER_MOST];
-    say::reply(reply, out, &none);
+    say::reply(rt, reply, out, &none)
 }
 
 fn is_last(step: Step) -> bool {

@@ -2,6 +2,7 @@
 use crate::asked::{ASK, BLOCK, CARD, HELLO, SEND, SILENCE, small, what_of};
 use crate::say;
 use apdu::ANSWER_MOST;
+use std::io;
 use t1::{Reply, Step, ask, fresh, hello, receive, send, silent};
 use t1_block::LONGEST;
 use t1_state::{Role, State};
@@ -49,10 +50,15 @@ fn own_size(asked: usize, rest: &[u8]) -> u8 {
     }
 }
 
-pub fn told(step: Step, out: &[u8; LONGEST], message: &[u8; ANSWER_MOST]) -> State {
+pub fn told(
+    rt: &impl Print,
+    step: Step,
+    out: &[u8; LONGEST],
+    message: &[u8; ANSWER_MOST],
+) -> io::Result<State> {
     let state = step.state;
     let reply = step.reply;
-    say::reply(reply, out, message);
-    say::state(state);
-    state
+    say::reply(rt, reply, out, message)?;
+    say::state(rt, state)?;
+    Ok(state)
 }

@@ -23,6 +23,8 @@
 //
 // TEST is answered by VALID and what the block says, or by INVALID with the code and the name of the test; CUT by a line SEND for each
 // block. ERROR why answers any other line; nothing changes.
+#![tactic(auto)]
+
 mod asked;
 mod blocks;
 mod events;
@@ -33,6 +35,7 @@ use apdu::ANSWER_MOST;
 use asked::{CUT, TEST, asked_by, digits_in};
 use events::{stepped, told};
 use slices::part;
+use std::io;
 use t1::fresh;
 use t1_block::LONGEST;
 use t1_state::{Role, State};
@@ -43,55 +46,82 @@ use text_lines::after_word;
 // A line with 8,192 bytes.
 const LINE: usize = 16_500;
 
-fn main() {
+fn main(rt: HostRuntime) -> io::Result<()> {
     let mut line = [0u8; LINE];
     let mut out = [0u8; LONGEST];
     let mut message = [0u8; ANSWER_MOST];
-    exchange(&mut line, &mut out, &mut message);
+    exchange(&rt, &mut line, &mut out, &mut message)
 }
 
 // Lines are counted down from more than there can be, since nothing says that the input ends.
-fn exchange(line: &mut [u8], out: &mut [u8; LONGEST], message: &mut [u8; ANSWER_MOST]) {
+fn exchange(
+    rt: &(impl Input + Print),
+    line: &mut [u8],
+    out: &mut [u8; LONGEST],
+    message: &mut [u8; ANSWER_MOST],
+) -> io::Result<()> {
     let mut state = fresh(Role::Terminal, 254, 254);
     let mut left: usize = 0x7FFF_FFFF_FFFF_FFFF;
     while 0 < left {
-        match read_line(line) {
-            Line::Whole(n) => state = said(state, part(line, 0, n), out, message),
-            Line::Long => text_print::text(b"ERROR line too long\n"),
-            Line::End => return,
+        match read_line(rt, line) {
+            Line::Whole(n) => state = said(rt, state, part(line, 0, n), out, message)?,
+            Line::Long => text_print::text(rt, b"ERROR line too long\n")?,
+            Line::End => return Ok(()),
         }
         left -= 1;
     }
+    Ok(())
 }
 
-fn said(s: State, line: &[u8], out: &mut [u8; LONGEST], message: &mut [u8; ANSWER_MOST]) -> State {
+fn said(
+    rt: &impl Print,
+    s: State,
+    line: &[u8],
+    out: &mut [u8; LONGEST],
+    message: &mut [u8; ANSWER_MOST],
+) -> io::Result<State> {
     let digits = digits_in(line);
     let mut bytes = [0u8; 8192];
     let n = unhex(digits, &mut bytes);
     let asked = asked_by(line, digits.len() == 2 * n);
-    answered(s, asked, after_word(line), part(&bytes, 0, n), out, message)
+    answered(
+        rt,
+        s,
+        asked,
+        after_word(line),
+        part(&bytes, 0, n),
+        out,
+        message,
+    )
 }
 
 fn answered(
+    rt: &impl Print,
     s: State,
     asked: usize,
     rest: &[u8],
     given: &[u8],
     out: &mut [u8; LONGEST],
     message: &mut [u8; ANSWER_MOST],
-) -> State {
+) -> io::Result<State> {
     if asked < TEST {
         let step = stepped(s, asked, rest, given, out, message);
-        return told(step, out, message);
+        return told(rt, step, out, message);
     }
-    other(asked, rest, given, out);
-    s
+    other(rt, asked, rest, given, out)?;
+    Ok(s)
 }
 
-fn other(asked: usize, rest: &[u8], given: &[u8], out: &mut [u8; LONGEST]) {
+fn other(
+    rt: &impl Print,
+    asked: usize,
+    rest: &[u8],
+    given: &[u8],
+    out: &mut [u8; LONGEST],
+) -> io::Result<()> {
     match asked {
-        TEST => blocks::test(given, rest),
-        CUT => blocks::cut(given, rest, out),
-        _ => say::error(asked),
+        TEST => blocks::test(rt, given, rest),
+        CUT => blocks::cut(rt, given, rest, out),
+        _ => say::error(rt, asked),
     }
 }

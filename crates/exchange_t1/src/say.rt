@@ -3,6 +3,7 @@ use crate::asked::UNKNOWN;
 use crate::words::nth_line;
 use apdu::ANSWER_MOST;
 use slices::part;
+use std::io;
 use t1::Reply;
 use t1_block::LONGEST;
 use t1_state::limits::more_of;
@@ -33,53 +34,64 @@ pub const RESPONSE: usize = 10;
 
 pub const SPACE: usize = 11;
 
-pub fn head(n: usize) {
-    text_print::text(nth_line(
-        b"SEND \nMESSAGE \nINF 3\nSTATE \nVALID \nINVALID\nI\nR\n-\n request\n response\n ",
-        n,
-    ));
+pub fn head(rt: &impl Print, n: usize) -> io::Result<()> {
+    text_print::text(
+        rt,
+        nth_line(
+            b"SEND \nMESSAGE \nINF 3\nSTATE \nVALID \nINVALID\nI\nR\n-\n request\n response\n ",
+            n,
+        ),
+    )
 }
 
-pub fn end() {
-    text_print::text(b"\n");
+pub fn end(rt: &impl Print) -> io::Result<()> {
+    text_print::text(rt, b"\n")
 }
 
-pub fn reply(said: Reply, out: &[u8; LONGEST], message: &[u8; ANSWER_MOST]) {
+pub fn reply(
+    rt: &impl Print,
+    said: Reply,
+    out: &[u8; LONGEST],
+    message: &[u8; ANSWER_MOST],
+) -> io::Result<()> {
     match said {
-        Reply::Nothing => {}
-        Reply::Send(n) => bytes(SEND, part(out, 0, n)),
+        Reply::Nothing => Ok(()),
+        Reply::Send(n) => bytes(rt, SEND, part(out, 0, n)),
         Reply::Took { send, inf } => {
-            field(inf);
-            bytes(SEND, part(out, 0, send));
+            field(rt, inf)?;
+            bytes(rt, SEND, part(out, 0, send))
         }
         Reply::Whole { message: n, inf } => {
-            field(inf);
-            bytes(MESSAGE, part(message, 0, n));
+            field(rt, inf)?;
+            bytes(rt, MESSAGE, part(message, 0, n))
         }
-        Reply::End(e) => answer(number_of_end(e)),
-        Reply::Refused(why) => answer(number_of_refusal(why)),
+        Reply::End(e) => answer(rt, number_of_end(e)),
+        Reply::Refused(why) => answer(rt, number_of_refusal(why)),
     }
 }
 
-fn bytes(word: usize, s: &[u8]) {
-    head(word);
-    text_print::bytes(s);
-    end();
+fn bytes(rt: &impl Print, word: usize, s: &[u8]) -> io::Result<()> {
+    head(rt, word)?;
+    text_print::bytes(rt, s)?;
+    end(rt)
 }
 
-pub fn field(n: usize) {
-    head(INF);
-    spaced(3 + n % 256);
-    end();
+pub fn field(rt: &impl Print, n: usize) -> io::Result<()> {
+    head(rt, INF)?;
+    spaced(rt, 3 + n % 256)?;
+    end(rt)
 }
 
 // How an end stopped, or why an event is turned away.
-fn answer(n: usize) {
-    text_print::text(nth_line(
-        b"END LIMIT\nEND ABORT\nEND SILENCE\nREFUSED CLOSED\nREFUSED NOT-DUE\nREFUSED MESSAGE\nREFUSED VALUE",
-        n,
-    ));
-    end();
+fn answer(rt: &impl Print, n: usize) -> io::Result<()> {
+    text_print::text(
+        rt,
+        nth_line(
+            b"END LIMIT\nEND ABORT\nEND SILENCE\nREFUSED CLOSED\nREFUSED NOT-DUE\nREFUSED MESSAGE\nREFUSED VALUE",
+            n,
+        ),
+    )?;
+    end(rt)
 }
 
 fn number_of_end(e: End) -> usize {
@@ -100,40 +112,46 @@ fn number_of_refusal(why: Refusal) -> usize {
 }
 
 // What is wrong with a line that asks nothing.
-pub fn error(asked: usize) {
-    text_print::text(nth_line(
-        b"ERROR unknown word\nERROR not hexadecimal\nERROR neither IFS nor WTX",
-        asked % UNKNOWN,
-    ));
-    end();
+pub fn error(rt: &impl Print, asked: usize) -> io::Result<()> {
+    text_print::text(
+        rt,
+        nth_line(
+            b"ERROR unknown word\nERROR not hexadecimal\nERROR neither IFS nor WTX",
+            asked % UNKNOWN,
+        ),
+    )?;
+    end(rt)
 }
 
-pub fn state(s: State) {
+pub fn state(rt: &impl Print, s: State) -> io::Result<()> {
     let numbers = s.numbers;
     let sizes = s.sizes;
-    head(STATE);
-    phase_name(number_of_phase(s));
-    bit(numbers.next);
-    bit(numbers.expected);
-    spaced(sizes.theirs as usize);
-    spaced(sizes.ours as usize);
-    end();
+    head(rt, STATE)?;
+    phase_name(rt, number_of_phase(s))?;
+    bit(rt, numbers.next)?;
+    bit(rt, numbers.expected)?;
+    spaced(rt, sizes.theirs as usize)?;
+    spaced(rt, sizes.ours as usize)?;
+    end(rt)
 }
 
-pub fn spaced(n: usize) {
-    head(SPACE);
-    text_print::number(n);
+pub fn spaced(rt: &impl Print, n: usize) -> io::Result<()> {
+    head(rt, SPACE)?;
+    text_print::number(rt, n)
 }
 
-pub fn bit(b: bool) {
-    spaced(if b { 1 } else { 0 });
+pub fn bit(rt: &impl Print, b: bool) -> io::Result<()> {
+    spaced(rt, if b { 1 } else { 0 })
 }
 
-fn phase_name(n: usize) {
-    text_print::text(nth_line(
-        b"START\nHELLO\nASK\nIDLE\nBUSY\nSEND\nWAIT\nLISTEN\nRECV\nOVER",
-        n,
-    ));
+fn phase_name(rt: &impl Print, n: usize) -> io::Result<()> {
+    text_print::text(
+        rt,
+        nth_line(
+            b"START\nHELLO\nASK\nIDLE\nBUSY\nSEND\nWAIT\nLISTEN\nRECV\nOVER",
+            n,
+        ),
+    )
 }
 
 fn number_of_phase(s: State) -> usize {

@@ -11,7 +11,6 @@ use lib.Dec.{eqb}
 use lib.ListN.{length, take, drop, length-append}
 use lib.Pow.{are_bytes}
 use borrow.Author.Tests.{eqb-true}
-use Rattle.slices.specs.Choice.{pick}
 use Rattle.slices.proofs.Choice.{pick_yes, pick_no, picked, either}
 use Rattle.tape_crc.proofs.Bytes.{bytes_take, bytes_drop}
 use Rattle.tape_read.specs.Entries.{Entry, entry, block_size}
@@ -30,14 +29,14 @@ use Rattle.rulebook_zeros.specs.Zeros.{unsupplied_in}
 use Rattle.verdict_under.specs.Progress as Any
 use Rattle.verdict_under.specs.Summing as Sums
 use Rattle.verdict_under.proofs.Zeroing as Numbers
-use Rattle.rulebook_zeros.specs.Summing.{zeros_from, zeros_of}
+use Rattle.rulebook_zeros.specs.Summing.{zeros_of}
 use Rattle.rulebook_zeros.proofs.Most.{zeros_most}
 use Rattle.verdict.specs.Saying.{says, finds}
 use Rattle.verdict.specs.declared.Verdict.TheVariants.{Unreadable}
 use Rattle.verdict.specs.declared.Finding.{Finding}
 use Rattle.verdict_judged.specs.Judged.{Judged}
 use Rattle.verdict_judged.specs.Zeroed.{Zeroed}
-use Rattle.verdict_judged.specs.Progress.{begun as opened, reads_all, progress_of, finally, verdict_of}
+use Rattle.verdict_judged.specs.Progress.{begun as opened, progress_of, finally}
 use Rattle.verdict_under.proofs.Meaning.{progress_more}
 use Rattle.verdict_judged.proofs.Once.{zeroed_once}
 use Rattle.verdict_judged.proofs.Meaning.{verdict_right, right_verdict, zeros_in, zeroed_right}

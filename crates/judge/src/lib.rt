@@ -1,5 +1,7 @@
 // The judge: the verdict of a tape. It replays the dialogue entry by entry and compares; it reads on after a broken rule, since a
 // later damaged block makes the whole tape unreadable.
+#![tactic(auto)]
+
 pub mod pieces;
 
 ghost use Rattle.verdict_judged.specs.Judged.{Judged};

@@ -1,4 +1,6 @@
 // What is due next on a tape that is judged piece by piece: the judge's own expectation, as numbers and bytes.
+#![tactic(auto)]
+
 ghost use Rattle.std.specs.Prelude.{◌≡◌};
 ghost use Rattle.judge_due.specs.Telling.{numbers as numbers_of, handed, with_bytes};
 ghost use Rattle.judge_due.specs.Standing.{word_due, command_due, decision_due, due_of};

@@ -9,7 +9,6 @@ use native.Mathlib.Omega.{arith}
 use lib.Dec.{eqb}
 use lib.ListN.{length, take}
 use borrow.Author.Tests.{eqb-true, eqb-false}
-use Rattle.slices.specs.Choice.{pick}
 use Rattle.slices.specs.Tests.{alike}
 use Rattle.slices.proofs.Choice.{pick_yes, pick_no, either}
 use Rattle.slices.proofs.Writing.{zeros_length}
@@ -28,7 +27,6 @@ use Rattle.rulebook_zeros.specs.Zeros.{unsupplied_in}
 use Rattle.rulebook.specs.Session.{rules}
 use Rattle.verdict_under.specs.Progress as Any
 use Rattle.verdict_under.specs.Summing as Sums
-use Rattle.rulebook_zeros.specs.Summing.{new_in}
 use Rattle.session_phase.specs.Waiting.{kind_of, outcome_of, reason_of}
 use Rattle.session_phase.specs.declared.Waiting.{Waiting}
 use Rattle.session_state.specs.Results.{decision_in}

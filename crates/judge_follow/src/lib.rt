@@ -1,4 +1,6 @@
 // How far a tape is read, entry by entry: the dialogue is replayed, and each entry is compared with what is due.
+#![tactic(auto)]
+
 pub mod follow;
 
 use commands::write::LONGEST;

@@ -3,23 +3,25 @@
 // Where it cannot be read there is no verdict: nothing goes to standard output, and standard error says why. Where the line cannot be
 // written, standard error says so: a program has no exit status here, and a verdict that is lost must not look like one that nobody
 // asked for.
+#![tactic(auto)]
+
 use judge_reading::{Judged, judge_file};
-use libc::{STDIN_FILENO, STDOUT_FILENO};
 use slices::part;
+use text_print::fail;
 use verdict::Finding;
 use verdict_line::{LONGEST, line};
 
-fn main() {
-    match judge_file(STDIN_FILENO) {
-        Judged::Found(found) => tell(found),
-        Judged::Failed => os::fail(b"judge_tape: standard input"),
+fn main(rt: HostRuntime) {
+    match judge_file(&mut rt.reader()) {
+        Judged::Found(found) => tell(&rt, found),
+        Judged::Failed(e) => fail(&rt, "judge_tape: standard input", &e),
     }
 }
 
-fn tell(found: Finding) {
+fn tell(rt: &(impl Print + Eprint), found: Finding) {
     let mut out = [0u8; LONGEST];
     let n = line(found, &mut out);
-    if !io::write_all(STDOUT_FILENO, part(&out, 0, n)) {
-        os::fail(b"judge_tape: the line could not be written");
+    if let Err(e) = rt.write_all(part(&out, 0, n)) {
+        fail(rt, "judge_tape: the line could not be written", &e);
     }
 }

@@ -1,4 +1,6 @@
 // The kernel: a session is handed in whole and handed back whole, one step on. A call is turned away first, and only then taken.
+#![tactic(auto)]
+
 mod calls;
 
 use session_phase::Reply;

@@ -24,7 +24,7 @@ use Rattle.rulebook.specs.Phase.{Phase, opens, asks, hears, decides}
 use Rattle.rulebook.specs.Machine.{Machine, at, owes}
 use Rattle.rulebook_zeros.specs.Zeros.{unsupplied_in, Zeros}
 use Rattle.verdict_under.specs.Summing as Sums
-use Rattle.rulebook_zeros.specs.Summing.{new_in, count_on, zeros_from, zeros_of}
+use Rattle.rulebook_zeros.specs.Summing.{count_on, zeros_from, zeros_of}
 use Rattle.verdict_under.proofs.Summing.{zeros_on, zeros_stop, silence_stops, zeros_found}
 use Rattle.rulebook_zeros.proofs.Most.{zeros_most}
 use Rattle.rulebook.specs.Session.{rules}

@@ -2,7 +2,7 @@
 -- changes any more. A session closed by silence has a log that ends with that silence: it is open, and never a session.
 -- Assumes nothing.
 use mathlib.Core.Path.{◌≡◌, refl, sym, ap, ◌∙◌}
-use mathlib.Core.Bool.{true, false, false≢true}
+use mathlib.Core.Bool.{true, false≢true}
 use mathlib.Core.List.{List, [], ◌∷◌, ◌++◌}
 use mathlib.Core.Logic.{inr}
 use Prim.Native.Nat.{ℕ}

@@ -16,7 +16,7 @@ use Rattle.sessions.proofs.Reading.{not_closed}
 use Rattle.sessions.proofs.Trichotomy.{one_sort}
 use Rattle.sessions.proofs.States.{state_lawful}
 use Rattle.rulebook.specs.Phase.{Phase, asks, hears, decides}
-use Rattle.rulebook.specs.Session.{rules, Session as WholeSession, Open, Lawful}
+use Rattle.rulebook.specs.Session.{rules, Session as WholeSession, Open}
 use Rattle.rulebook.specs.Machine.{done}
 use Rattle.rulebook.proofs.Kept.{kept}
 use Rattle.session_phase.specs.Waiting.{is_decided}

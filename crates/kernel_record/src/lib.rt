@@ -1,4 +1,6 @@
 // A kernel session recorded onto a tape: each accepted call's event, and after it the command or the decision that it led to.
+#![tactic(auto)]
+
 ghost use Rattle.std.specs.Prelude.{◌≡◌, [], ◌∷◌};
 ghost use Rattle.tape_read.specs.Entries.{entry};
 ghost use Rattle.session_state.specs.Results.{decision_in};

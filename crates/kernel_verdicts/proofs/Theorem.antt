@@ -7,7 +7,7 @@ use mathlib.Core.Path.{◌≡◌, refl, sym, ap, ◌∙◌, subst}
 use mathlib.Core.Bool.{true, false}
 use mathlib.Core.List.{List, [], ◌∷◌, ◌++◌}
 use mathlib.Core.Logic.{inl, inr}
-use Prim.Native.Nat.{ℕ, ◌+◌, ◌*◌, ◌^◌, ◌<◌, ◌≤◌}
+use Prim.Native.Nat.{ℕ, ◌*◌, ◌^◌, ◌<◌, ◌≤◌}
 use native.Mathlib.Omega.{arith}
 use lib.ListN.{length, take, drop, length-append}
 use lib.Seq.{length-take-le}
@@ -18,7 +18,7 @@ use Rattle.tape_read.specs.Tapes.{written}
 use Rattle.tape_read.proofs.Roundtrip.{tape_back, cut_back}
 use Rattle.sessions.specs.Session as Under
 use Rattle.sessions.proofs.Breaks.{part_begins}
-use Rattle.rulebook.specs.Session.{Beginning, AwaitsCard, Closed, Open, Lawful}
+use Rattle.rulebook.specs.Session.{Beginning, Open, Lawful}
 use Rattle.rulebook.proofs.Bound.{session_bound}
 use Rattle.rulebook.proofs.Kept.{kept}
 use Rattle.verdict.specs.Saying.{says}

@@ -1,1 +1,3 @@
 // Kernel sessions recorded and judged: laws only, see proofs/.
+
+#![tactic(auto)]

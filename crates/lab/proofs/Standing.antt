@@ -4,7 +4,6 @@ use mathlib.Core.Path.{◌≡◌, sym, ap, ◌∙◌}
 use mathlib.Core.Bool.{true}
 use mathlib.Core.List.{List, [], ◌∷◌}
 use Prim.Native.Nat.{ℕ, ◌+◌, ◌/◌}
-use lib.Dec.{eqb}
 use lib.ListN.{length}
 use lib.Pow.{are_bytes}
 use borrow.Author.Tests.{eq-eqb, ne_eqb}
@@ -18,7 +17,7 @@ use Rattle.judge.specs.declared.UnderWay.{UnderWay}
 use Rattle.judge.specs.Feeding.{begun, fed_all}
 use Rattle.judge.proofs.Fed.{Bytes, cut_bytes, reader_after_lem}
 use Rattle.judge_due.specs.declared.DueNext.{DueNext}
-use Rattle.judge_due.specs.Telling.{handed, told}
+use Rattle.judge_due.specs.Telling.{handed}
 use Rattle.judge_due.specs.Standing.{due_of}
 use Rattle.judge_due.specs.Theorem.{AllBytes}
 use Rattle.judge_due.proofs.Fed.{told_of_tapes}

@@ -9,13 +9,7 @@ use recover::{Found, next};
 use tape_write::Writer;
 
 // One entry more on a tape that has so many blocks used, under a session number: 0, or the number under which it is turned away.
-pub fn lab_append(
-    used: usize,
-    session: u32,
-    kind: u8,
-    payload: &[u8],
-    tape: &mut [u8],
-) -> u8
+pub fn lab_append(used: usize, session: u32, kind: u8, payload: &[u8], tape: &mut [u8]) -> u8
     ensures value { result ≡ refusal_of used (entry kind payload.now) tape.old }
     ensures tape_after { tape.new ≡ tape_after (writer used session) (entry kind payload.now) tape.old }
 {

@@ -3,6 +3,8 @@
 use judge_reading::Judged;
 use quick_judge::judge;
 use slices::part;
+use std::io;
+use std::io::{ErrorKind, Read};
 use tape_read::TAPE;
 use text_input::{Filled, fill};
 use verdict::Finding;
@@ -13,7 +15,7 @@ pub const ROOM: usize = TAPE + 1;
 // More pieces than there can be: nothing says that the file ends.
 const MOST: usize = 0x7FFF_FFFF_FFFF_FFFF;
 
-pub fn judge_whole(file: i32, tape: &mut [u8]) -> Judged {
+pub fn judge_whole(file: &mut impl Read, tape: &mut [u8]) -> Judged {
     match fill(file, tape) {
         Filled::Bytes(n) => {
             let found = judge(part(tape, 0, n));
@@ -23,12 +25,12 @@ pub fn judge_whole(file: i32, tape: &mut [u8]) -> Judged {
                 read_out(file, tape, found)
             }
         }
-        Filled::Failed => Judged::Failed,
+        Filled::Failed(e) => Judged::Failed(e),
     }
 }
 
 // The rest of a file that is longer than any tape, so that whoever writes it is not cut off.
-fn read_out(file: i32, rest: &mut [u8], found: Finding) -> Judged {
+fn read_out(file: &mut impl Read, rest: &mut [u8], found: Finding) -> Judged {
     let mut left: usize = MOST;
     while 0 < left {
         match fill(file, rest) {
@@ -37,11 +39,11 @@ fn read_out(file: i32, rest: &mut [u8], found: Finding) -> Judged {
                     return Judged::Found(found);
                 }
             }
-            Filled::Failed => {
-                return Judged::Failed;
+            Filled::Failed(e) => {
+                return Judged::Failed(e);
             }
         }
         left -= 1;
     }
-    Judged::Failed
+    Judged::Failed(io::Error::from(ErrorKind::FileTooLarge))
 }

@@ -20,14 +20,20 @@
 //
 // The first argument names a file for the tape, the second is the session number (0 where there is none). A file that is there is not
 // touched, unless --over stands before its name. A block is on the disk before the line that it belongs to is said.
+#![tactic(auto)]
+
 mod streams;
 mod tape;
 
 ghost use Rattle.std.specs.Prelude.{◌≤◌};
 
 use kernel::Session;
-use libc::STDERR_FILENO;
-use playing::{NONE, next};
+use playing::next;
+use slices::part;
+use std::env::FillError;
+use std::fs::{File, OpenFile};
+use std::io::Write;
+use std::rt::Env;
 use tape_read::TAPE;
 use tape_write::Writer;
 use text_lines::decimal::{NO_NUMBER, decimal};
@@ -35,55 +41,72 @@ use text_lines::decimal::{NO_NUMBER, decimal};
 // A line of the longest word and the longest payload: eight bytes, and the digits of 4,096.
 const LONGEST: usize = 8200;
 
-fn main() {
-    if !streams::are_open() {
+fn main(rt: HostRuntime) {
+    if !streams::are_open(&rt, &rt.stderr()) {
         return;
     }
-    let at = tape::name_at();
-    if os::arg_count() <= at {
-        play(NONE, 0);
+    let at = tape::name_at(&rt);
+    if !is_there(&rt, at) {
+        let mut none: Option<File> = None;
+        play(&rt, &mut none, 0);
         return;
     }
-    let number = number_asked(at + 1);
+    let number = number_asked(&rt, at + 1);
     if number == NO_NUMBER {
-        io::write_all(
-            STDERR_FILENO,
-            b"session number: not a number from 0 to 4294967295\n",
-        );
+        let _ = rt.eprint("session number: not a number from 0 to 4294967295\n");
         return;
     }
-    let file = tape::open(at);
-    if 0 <= file {
-        play(file, number as u32);
-        libc::close(file);
+    let mut file = tape::open(&rt, at);
+    if file.is_some() {
+        play(&rt, &mut file, number as u32);
+    }
+}
+
+// Whether there is an argument at a place.
+fn is_there(rt: &impl Env, at: usize) -> bool {
+    let mut none = [0u8; 0];
+    match rt.arg(at, &mut none) {
+        Ok(_) => true,
+        Err(FillError::TooLong) => true,
+        Err(FillError::NotPresent) => false,
     }
 }
 
 // The session number that was asked for; NO_NUMBER where it is none.
-fn number_asked(at: usize) -> usize
+fn number_asked(rt: &impl Env, at: usize) -> usize
     ensures { result ≤ 0x100000000 }
 {
-    if os::arg_count() <= at {
+    if !is_there(rt, at) {
         return 0;
     }
-    let mut digits = io::buffer();
-    let n = os::arg(at, &mut digits);
-    decimal(&digits[..n])
+    let mut digits = [0u8; tape::ROOM];
+    let n = rt.arg(at, &mut digits).unwrap_or(0);
+    decimal(part(&digits, 0, n))
 }
 
-fn play(file: i32, number: u32) {
+fn play<F: Write + OpenFile>(
+    rt: &(impl Input + Print + Eprint),
+    file: &mut Option<F>,
+    number: u32,
+) {
     let mut line = [0u8; LONGEST];
     let mut tape = [0u8; TAPE];
-    play_lines(file, number, &mut line, &mut tape);
+    play_lines(rt, file, number, &mut line, &mut tape);
 }
 
 // Lines are counted down from more than there can be, since nothing says that the input ends.
-fn play_lines(file: i32, number: u32, line: &mut [u8], tape: &mut [u8]) {
+fn play_lines<F: Write + OpenFile>(
+    rt: &(impl Input + Print + Eprint),
+    file: &mut Option<F>,
+    number: u32,
+    line: &mut [u8],
+    tape: &mut [u8],
+) {
     let mut session = Session::fresh();
     let mut writer = Writer::new(number);
     let mut left: usize = 0x7FFF_FFFF_FFFF_FFFF;
     while 0 < left {
-        let t = next(session, writer, file, line, tape);
+        let t = next(rt, session, writer, file, line, tape);
         if !t.goes_on {
             return;
         }

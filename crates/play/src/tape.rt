@@ -1,49 +1,85 @@
 // The tape's name and its file.
 ghost use Rattle.std.specs.Prelude.{◌≤◌};
 
-use libc::STDERR_FILENO;
-use playing::NONE;
-use slices::{alike, byte};
+use slices::{alike, byte, part};
+use std::env::FillError;
+use std::fs::OpenOptions;
+use std::io;
+use std::rt::{Env, Files};
+use text_print::fail;
+
+// More bytes than the name of a file can have.
+pub const ROOM: usize = 4096;
 
 const OVER: usize = 2;
 
 const DASH: usize = 0x2D;
 
+// The system's numbers for an argument that is not there, for one that is too long, and for one that is no text.
+const MISSING: i32 = 22;
+
+const LONG: i32 = 36;
+
+const NO_TEXT: i32 = 84;
+
 // Where the name stands among the arguments: the second where the first says that a tape may be written over.
-pub fn name_at() -> usize
+pub fn name_at(rt: &impl Env) -> usize
     ensures { result ≤ 2 }
 {
-    let mut word = io::buffer();
-    let n = os::arg(1, &mut word);
-    if alike(&word[..n], b"--over") {
+    let mut word = [0u8; ROOM];
+    let n = rt.arg(1, &mut word).unwrap_or(0);
+    if alike(part(&word, 0, n), b"--over") {
         OVER
     } else {
         1
     }
 }
 
-// The file, or below 0 where it cannot be opened for writing. A name with a dash in front is none: it was meant for an option.
-pub fn open(at: usize) -> i32 {
-    let mut name = io::buffer();
-    let n = os::arg(at, &mut name);
-    if os::errno() != 0 {
-        os::fail(b"tape");
-        return NONE;
+// The file, where it can be opened for writing. A name with a dash in front is none: it was meant for an option.
+pub fn open<R: Env + Files + Eprint>(rt: &R, at: usize) -> Option<R::File> {
+    let mut bytes = [0u8; ROOM];
+    match name_in(rt, at, &mut bytes) {
+        Ok(name) => open_told(rt, at, name),
+        Err(e) => {
+            fail(rt, "tape", &e);
+            None
+        }
     }
-    if byte(&name[..n], 0) == DASH {
-        io::write_all(STDERR_FILENO, b"usage: play [[--over] TAPE [SESSION]]\n");
-        return NONE;
-    }
-    let file = open_named(at, &name[..n]);
-    if file < 0 {
-        os::fail(&name[..n]);
-    }
-    file
 }
 
-fn open_named(at: usize, name: &[u8]) -> i32 {
-    if at == OVER {
-        return os::open_overwrite(name);
+fn name_in<'a>(rt: &impl Env, at: usize, bytes: &'a mut [u8]) -> io::Result<&'a str> {
+    let n = match rt.arg(at, bytes) {
+        Ok(n) => n,
+        Err(FillError::NotPresent) => return Err(io::Error::from_raw_os_error(MISSING)),
+        Err(FillError::TooLong) => return Err(io::Error::from_raw_os_error(LONG)),
+    };
+    match str::from_utf8(part(bytes, 0, n)) {
+        Ok(name) => Ok(name),
+        Err(_) => Err(io::Error::from_raw_os_error(NO_TEXT)),
     }
-    os::create(name)
+}
+
+fn open_told<R: Files + Eprint>(rt: &R, at: usize, name: &str) -> Option<R::File> {
+    if byte(name.as_bytes(), 0) == DASH {
+        let _ = rt.eprint("usage: play [[--over] TAPE [SESSION]]\n");
+        return None;
+    }
+    match open_named(rt, at, name) {
+        Ok(file) => Some(file),
+        Err(e) => {
+            fail(rt, name, &e);
+            None
+        }
+    }
+}
+
+fn open_named<R: Files>(rt: &R, at: usize, name: &str) -> io::Result<R::File> {
+    let mut how = OpenOptions::new();
+    how.write(true);
+    if at == OVER {
+        how.create(true).truncate(true);
+    } else {
+        how.create_new(true);
+    }
+    how.open(rt, name)
 }

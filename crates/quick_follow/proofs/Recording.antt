@@ -33,7 +33,8 @@ pub next_due : (s : Situation) (afl : List ℕ) (c : Cursor) → is_left afl c �
 unfolding read_on
 next_due s afl c left = ap (read_on s) (one_less afl c left)
 
-pub fewer_left : (afl : List ℕ) (c : Cursor) → is_left afl c ≡ true → length (remaining afl c) ≡ suc (length (remaining afl (stepped afl c)))
+pub fewer_left : (afl : List ℕ) (c : Cursor) → is_left afl c ≡ true → length (remaining afl c)
+    ≡ suc (length (remaining afl (stepped afl c)))
 fewer_left afl c left = ap length (one_less afl c left)
 
 module _ (start a names d out : List ℕ) (why : ℕ) (all : length d ≡ end) (counts : names ≡ names_for (reading_of start))

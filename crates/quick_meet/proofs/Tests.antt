@@ -71,7 +71,8 @@ module _ (t : List ℕ) (k : ℕ) where
   unfolding answer_met ends breaks is_end
   answer_inside =
       picked Within (is_end t k) _ _ (λ y. never (ends k) refl)
-      (λ f. picked Within (eqb (kind_at k t) answer) _ _ (λ y h. omega (arith, leb-false (length t / block_size) k f)) (λ n. silence_within))
+      (λ f. picked Within (eqb (kind_at k t) answer) _ _ (λ y h. omega (arith, leb-false (length t / block_size) k f))
+      (λ n. silence_within))
 
 -- a command that was answered
 pub exchange_inside : (t : List ℕ) (k : ℕ) (c : List ℕ) → (exchange_met c k t).there ≡ true → k + 2 ≤ length t / block_size

@@ -9,11 +9,14 @@
 //     ACCEPTED convention protocol mode parameters historical=start..end:bytes     (and data=bytes under the inverse convention)
 //     REFUSED rule@place ..                                                        (in the order of the characters)
 //     ERROR why                                                                    (the line is neither)
+#![tactic(auto)]
+
 mod names;
 mod report;
 
 use report::report;
 use slices::{alike, part};
+use std::io;
 use text_hex::unhex;
 use text_input::{Line, read_line};
 use text_lines::{after_word, word_end};
@@ -21,47 +24,45 @@ use text_lines::{after_word, word_end};
 // A line of the longest capture that is taken: the word, a space and the digits of 4,096 bytes.
 const LONGEST: usize = 8197;
 
-fn main() {
+fn main(rt: HostRuntime) -> io::Result<()> {
     let mut line = [0u8; LONGEST];
-    read_all(&mut line);
+    read_all(&rt, &mut line)
 }
 
 // Lines are counted down from more than there can be, since nothing says that the input ends.
-fn read_all(line: &mut [u8]) {
+fn read_all(rt: &(impl Input + Print), line: &mut [u8]) -> io::Result<()> {
     let mut left: usize = 0x7FFF_FFFF_FFFF_FFFF;
     while 0 < left {
-        match read_line(line) {
-            Line::Whole(n) => answer(part(line, 0, n)),
-            Line::Long => too_long(),
-            Line::End => return,
+        match read_line(rt, line) {
+            Line::Whole(n) => answer(rt, part(line, 0, n))?,
+            Line::Long => too_long(rt)?,
+            Line::End => return Ok(()),
         }
         left -= 1;
     }
+    Ok(())
 }
 
-fn too_long() {
-    text_print::text(b"ERROR line too long\n");
+fn too_long(rt: &impl Print) -> io::Result<()> {
+    text_print::text(rt, b"ERROR line too long\n")
 }
 
-fn answer(line: &[u8]) {
+fn answer(rt: &impl Print, line: &[u8]) -> io::Result<()> {
     let word = part(line, 0, word_end(line, 0));
     if alike(word, b"COLD") {
-        captured(after_word(line), false);
-        return;
+        return captured(rt, after_word(line), false);
     }
     if alike(word, b"WARM") {
-        captured(after_word(line), true);
-        return;
+        return captured(rt, after_word(line), true);
     }
-    text_print::text(b"ERROR unknown word\n");
+    text_print::text(rt, b"ERROR unknown word\n")
 }
 
-fn captured(digits: &[u8], warm: bool) {
+fn captured(rt: &impl Print, digits: &[u8], warm: bool) -> io::Result<()> {
     let mut bytes = [0u8; 4096];
     let n = unhex(digits, &mut bytes);
     if digits.len() != 2 * n {
-        text_print::text(b"ERROR not whole bytes in hexadecimal\n");
-        return;
+        return text_print::text(rt, b"ERROR not whole bytes in hexadecimal\n");
     }
-    report(&bytes[0..n], warm);
+    report(rt, &bytes[0..n], warm)
 }

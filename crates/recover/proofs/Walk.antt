@@ -19,7 +19,8 @@ module _ (t : List ℕ) (k : ℕ) where
   pub steps_end : length t / block_size ≤ k → blocks_of (drop (k * block_size) t) ≡ []
   steps_end past = blocks_end (drop (k * block_size) t) (omega (arith, length-drop (k * block_size) t))
 
-  pub steps_more : k < length t / block_size → blocks_of (drop (k * block_size) t) ≡ block_at k t ∷ blocks_of (drop ((k + 1) * block_size) t)
+  pub steps_more : k < length t / block_size → blocks_of (drop (k * block_size) t)
+      ≡ block_at k t ∷ blocks_of (drop ((k + 1) * block_size) t)
   unfolding block_at
   steps_more there =
       blocks_more (drop (k * block_size) t) (omega (arith, length-drop (k * block_size) t))

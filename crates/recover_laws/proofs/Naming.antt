@@ -41,7 +41,8 @@ named : (s : ℕ) (u : List ℕ) (left n : ℕ) → n + left < steps u → check
 unfolding block_at preceded
 named s u zero n there bad good =
     let here : n + 0 ≡ n = omega arith in
-    let wrong : code_of n s (block_at n u) ≡ 3 = code_check_lem n s (block_at n u) (ap (λ (k : ℕ). check_bad (block_at k u)) (sym here) ∙ bad) in
+    let wrong : code_of n s (block_at n u) ≡ 3 = code_check_lem n s (block_at n u)
+    (ap (λ (k : ℕ). check_bad (block_at k u)) (sym here) ∙ bad) in
     read_bad n s (drop (n * block_size) u) (omega (arith, length-drop (n * block_size) u)) (λ e. omega (arith, e, wrong))
     ∙ ap₂ unreadable (sym here) wrong
 named s u (suc left) n there bad good =

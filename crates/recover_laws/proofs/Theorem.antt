@@ -58,7 +58,8 @@ listed_written s es h most known =
     sym (readable_listed (written 0 s es) es (tape_back s es h most known)) ∙ written_listed s es h (omega arith) known
 
 -- entries written one after the other
-pub written_recovers : (hit : ℕ → Bool) (s : ℕ) (es : List Entry) (u : List ℕ) → all_storable es ≡ true → length es ≤ blocks_most → s < 2 ^ 32
+pub written_recovers : (hit : ℕ → Bool) (s : ℕ) (es : List Entry) (u : List ℕ) → all_storable es ≡ true → length es ≤ blocks_most
+    → s < 2 ^ 32
     → Overwritten hit (written 0 s es) u → Recovers hit s es u
 written_recovers hit s es u h most known w =
     let all = recovers hit (written 0 s es) u es (tape_back s es h most known) w in

@@ -43,7 +43,8 @@ module _ (t : List ℕ) (k : ℕ) (there : k < steps t) (good : is_good (block_a
   part_size : length (payload_in (block_at k t)) ≡ length_in (block_at k t)
   part_size =
       ap length part
-      ∙ length-take-le _ (drop payload_at (block_at k t)) (omega (arith, sized, length-drop payload_at (block_at k t), step_whole t k there))
+      ∙ length-take-le _ (drop payload_at (block_at k t))
+      (omega (arith, sized, length-drop payload_at (block_at k t), step_whole t k there))
 
   pub payload_there : payload_of t (told k (block_at k t)) ≡ payload_in (block_at k t)
   unfolding block_at

@@ -68,7 +68,8 @@ module _ (s : Situation) where
   -- the same after an exchange
   goes_fewer : (n reason : ℕ) (next : Phase) → 3 ≤ n → (reason ≡ 0 → 2 + to_come next ≤ n) → 2 + to_come (goes_on reason s next) ≤ n
   unfolding goes_on ended to_come
-  goes_fewer n reason next three h = picked (λ (p : Phase). 2 + to_come p ≤ n) (eqb reason 0) _ _ (λ e. h (eqb-true reason 0 e)) (λ e. three)
+  goes_fewer n reason next three h = picked (λ (p : Phase). 2 + to_come p ≤ n) (eqb reason 0) _ _ (λ e. h (eqb-true reason 0 e))
+      (λ e. three)
 
   requested_few : (reason : ℕ) → to_come (requested reason s) ≤ from_first
   unfolding requested to_come after_asking
@@ -119,7 +120,8 @@ turn_fewer (optioning s list) a =
     let limit = (options_entries a e).1 in
     omega arith)
 turn_fewer (reading s number file rest) a = goes_fewer s _ _ _ (omega arith) (λ e. let few = read_few (with_record s a) rest in omega arith)
-turn_fewer (first s request) a = goes_fewer s _ _ _ (omega arith) (λ e. let few = by_first_few (answered s) (cryptogram_of a) in omega arith)
+turn_fewer (first s request) a = goes_fewer s _ _ _ (omega arith)
+    (λ e. let few = by_first_few (answered s) (cryptogram_of a) in omega arith)
 turn_fewer (second s request code) a = goes_fewer s _ _ _ (omega arith) (λ e. omega arith)
 
 -- and what is heard its one

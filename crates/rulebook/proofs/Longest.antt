@@ -193,7 +193,8 @@ full_right : record_reason (names_for optioned.terminal) (λ tag. is_some (optio
 unfolding reached
 full_right = refl
 
-full_read : (number file : ℕ) (rest : List (ℕ × ℕ)) → turn (reading optioned number file rest) full ≡ read_on (with_record optioned full) rest
+full_read : (number file : ℕ) (rest : List (ℕ × ℕ)) → turn (reading optioned number file rest) full
+    ≡ read_on (with_record optioned full) rest
 unfolding turn after_record goes_on
 full_read number file rest = pick_yes _ _ _ (ap (λ (n : ℕ). eqb n 0) full_right)
 
@@ -233,7 +234,8 @@ unfolding and_on
 options_end =
     let play = records_read (to_read (locator files)) (let n = most_named in omega arith) in
     run_append rules options records_on (at options_asked)
-    ∙ (ap (and_on (run rules records_on)) options_run ∙ follows_ends rules records_on (at (read_on optioned (to_read (locator files)))) play)
+    ∙ (ap (and_on (run rules records_on)) options_run
+    ∙ follows_ends rules records_on (at (read_on optioned (to_read (locator files)))) play)
 
 pub options_played : Plays options_asked from_options
 options_played = ends_follow rules from_options (at options_asked) options_end

@@ -66,7 +66,8 @@ sample =
     ∷ []
 
 pub sample_valid : valid_start sample ≡ true
-unfolding valid_start every pick between is_length valid_kind valid_digits digits_only decimal_byte valid_start_date month_and_day valid_random
+unfolding valid_start every pick between is_length valid_kind valid_digits digits_only decimal_byte valid_start_date month_and_day
+    valid_random
     valid_percentages valid_threshold valid_aid zeros_only reading_of decimal decimal_from
 sample_valid = refl
 

@@ -30,13 +30,16 @@ use Rattle.decide_requests.specs.Requests.{issuer_code, code_match, by_type, fir
 use Rattle.rulebook_cases.specs.Table.{plain, no_codes, trial, amount7500, amount7499, located, unprofiled, Cases}
 
 pub table : Cases
-unfolding pick first_of unless_empty counted shorter zeros first_byte constructed two_bytes tag_size tag_of tag_right length_byte length_form
+unfolding pick first_of unless_empty counted shorter zeros first_byte constructed two_bytes tag_size tag_of tag_right length_byte
+    length_form
     length_size length_of value_start value_end whole between first_object is_some before right_inside listed objects shaped format_of
-    record_command first_entry entries sfi records entry_right entries_right records_of record_count too_many run read_entry read_all to_read
+    record_command first_entry entries sfi records entry_right entries_right records_of record_count too_many run read_entry
+    read_all to_read
     joined meet biased chosen issuer_code code_match by_type first_request plain no_codes data_field met lookup every within any_of beside
     size_bad status_bad only outer tagged value_under is_one inside outer_bad frame whole_entries meets rules rule_for right_value lacks
     profile_of locator_of options_wrong options_lines options_reason members_in named among direct standing times told value_of wrong_value
-    any_times any_wrong file_right is_list read_refusal decimal_from decimal and_then size_at first_wanted asks wanted_step entries_of total fits
+    any_times any_wrong file_right is_list read_refusal decimal_from decimal and_then size_at first_wanted asks wanted_step entries_of
+    total fits
     fillable own_field value_by value_for with_format supplied entry_bytes filled filled_by filled_list filling selected trial
     amount7500 amount7499 located unprofiled
 table =

@@ -22,7 +22,8 @@ use Rattle.select_names.specs.Names.{begins_with, matches, supported}
 use Rattle.select_answers.specs.Objects.{name_right, indicator_right, indicator_of, file_right}
 use Rattle.select_answers.specs.Files.{environment, environment_right, directory_file, application_right, is_application, application_name}
 use Rattle.select_answers.specs.Files.{application_indicator}
-use Rattle.select_answers.specs.Directory.{Met, is_named, entry_right, entries as entries_of, entries_in, record_right, entry_name, entry_indicator}
+use Rattle.select_answers.specs.Directory.{Met, is_named, entry_right, entries as entries_of}
+use Rattle.select_answers.specs.Directory.{entries_in, record_right, entry_name, entry_indicator}
 use Rattle.select_answers.specs.Directory.{applications, applications_of}
 use Rattle.select_list.specs.Order.{Candidate, priority, confirms, standing_of, candidate_of, placed, without}
 use Rattle.select_list.specs.Kept.{candidate_in, candidate_at}
@@ -78,9 +79,11 @@ met = record { name = aid; indicator = 0 }
 
 -- a search with every definition under it open
 unfoldable pub computed : Choosing → List ℕ → ChoosingPhase
-unfolding reached room_in name_in mark_in rows_in count_in fields_in listed_of applications_in listed_at valid_field valid_list is_listing with_first_alone
+unfolding reached room_in name_in mark_in rows_in count_in fields_in listed_of applications_in listed_at valid_field valid_list is_listing
+    with_first_alone
     valid_listing begins_with matches supported name_right indicator_right indicator_of file_right environment_right directory_file
-    application_right is_application application_name application_indicator is_named entry_right entries_of entries_in record_right entry_name
+    application_right is_application application_name application_indicator is_named entry_right entries_of entries_in record_right
+    entry_name
     entry_indicator applications applications_of candidate_in candidate_at priority confirms standing_of candidate_of placed without
     after_environment next_record after_record attended unattended final_selection less_one selected after_final heard_at heard
     select_by command_at asked may_go_on goes offers has_status searched following further listed allowed_later after_later
@@ -142,7 +145,8 @@ unfolding computed
 one_more_lem zero = refl
 one_more_lem (suc n) = ap (λ (l : List Candidate). one ∷ l) (one_more_lem n)
 
-joins : (n : ℕ) → pick (supported (applications_in listing) aid) (placed (candidate_of (applications_in listing).choice aid 0) (replicate n one))
+joins : (n : ℕ) → pick (supported (applications_in listing) aid)
+    (placed (candidate_of (applications_in listing).choice aid 0) (replicate n one))
     (replicate n one)
     ≡ replicate (suc n) one
 joins n =

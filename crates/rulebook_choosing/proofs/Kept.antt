@@ -134,7 +134,8 @@ or_left false t h n = sym n ∙ h
 shown_few : (l : List Candidate) → shown_of l ≤ length l
 unfolding shown_of
 shown_few l =
-    picked (λ (n : ℕ). n ≤ length l) (leb (length l) most_shown) (length l) most_shown (λ y. omega arith) (λ n. omega (arith, leb-false (length l) most_shown n))
+    picked (λ (n : ℕ). n ≤ length l) (leb (length l) most_shown) (length l) most_shown (λ y. omega arith)
+    (λ n. omega (arith, leb-false (length l) most_shown n))
 
 -- a place that may be said is one of the list
 place_there : (shown : List Candidate) (p : List ℕ) → is_choice (shown_of shown) p ≡ true → eqb (get_or p 0 0) 0xFF ≡ false

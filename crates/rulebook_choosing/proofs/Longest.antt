@@ -101,7 +101,8 @@ unfolding computed
 with_list_payload = refl
 
 -- as often in vain as there are exchanges before the hundredth
-taken_often : (k m e : ℕ) (step : Step) (fallen : Bool) → e + k ≡ 99 → k < m → Plays (hears (HeardLater.new (at e step fallen m))) (rounds k)
+taken_often : (k m e : ℕ) (step : Step) (fallen : Bool) → e + k ≡ 99 → k < m
+    → Plays (hears (HeardLater.new (at e step fallen m))) (rounds k)
 taken_often k zero e step fallen left there = absurd (omega arith)
 taken_often zero (suc m) e step fallen left there =
     takes e step fallen m (omega arith) with_list with_list_payload

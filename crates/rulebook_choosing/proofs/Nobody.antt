@@ -58,7 +58,8 @@ unfolding count_in
 list_few p =
     let many = list_count p in
     let few : count_in p ≤ 8 =
-    picked (λ (n : ℕ). n ≤ 8) (leb (get_or p count_at 0) 8) (get_or p count_at 0) 8 (λ y. leb-true (get_or p count_at 0) 8 y) (λ n. omega arith) in
+    picked (λ (n : ℕ). n ≤ 8) (leb (get_or p count_at 0) 8) (get_or p count_at 0) 8 (λ y. leb-true (get_or p count_at 0) 8 y)
+    (λ n. omega arith) in
     omega arith
 
 some_suc : (n : ℕ) → 0 < n → (m : ℕ) × (n ≡ suc m)

@@ -103,7 +103,8 @@ module _ (aid : List ℕ) (t : Terminal) where
       (ap₂ (λ (a b : Bool). flag a 0x80 + (expiry + flag b 0x20)) (versions_same (f 0x9F08)) (effective_same (f 0x5F25)))
       (risks_same profile)
 
-  pub verified_bits : (f : Facts) (results tvr : List ℕ) → tvr_after_results (terminal_with aid t) f results tvr ≡ tvr_after_results t f results tvr
+  pub verified_bits : (f : Facts) (results tvr : List ℕ) → tvr_after_results (terminal_with aid t) f results tvr
+      ≡ tvr_after_results t f results tvr
   unfolding reached terminal_with
   verified_bits f results tvr = refl
 
@@ -111,7 +112,8 @@ module _ (aid : List ℕ) (t : Terminal) where
   unfolding reached terminal_with
   request_same f tvr = refl
 
-  pub second_same : (reply : HostReply) (f : Facts) (tvr : List ℕ) → second_request reply (terminal_with aid t) f tvr ≡ second_request reply t f tvr
+  pub second_same : (reply : HostReply) (f : Facts) (tvr : List ℕ) → second_request reply (terminal_with aid t) f tvr
+      ≡ second_request reply t f tvr
   unfolding reached terminal_with
   second_same Approve f tvr = refl
   second_same Decline f tvr = refl

@@ -154,10 +154,12 @@ module _ (aid : List ℕ) where
         tsi = s.tsi;
       }) rest))
       (names_same aid t)
-      ∙ (ap (goes_on (record_reason (names_for t) (λ tag. is_some (s.facts tag)) a) (situation_with aid s)) (read_same (with_record s a) rest)
+      ∙ (ap (goes_on (record_reason (names_for t) (λ tag. is_some (s.facts tag)) a) (situation_with aid s))
+      (read_same (with_record s a) rest)
       ∙ goes_same (record_reason (names_for t) (λ tag. is_some (s.facts tag)) a) s (read_on (with_record s a) rest))
 
-  replied_same : (s : Situation) (reply : HostReply) (code : List ℕ) → replied (situation_with aid s) reply code ≡ phase_with aid (replied s reply code)
+  replied_same : (s : Situation) (reply : HostReply) (code : List ℕ) → replied (situation_with aid s) reply code
+      ≡ phase_with aid (replied s reply code)
   unfolding replied ended list_in phase_with asked_with situation_with
   replied_same s reply code =
       let fits = fillable (list_in s 0x8D) in
@@ -206,7 +208,8 @@ module _ (aid : List ℕ) where
   allowed_same Host s p = refl
   allowed_same Results s p = refl
 
-  pub after_same : (word : Word) (s : Situation) (p : List ℕ) → after (says word (situation_with aid s)) p ≡ phase_with aid (after (says word s) p)
+  pub after_same : (word : Word) (s : Situation) (p : List ℕ) → after (says word (situation_with aid s)) p
+      ≡ phase_with aid (after (says word s) p)
   unfolding after issuer_replied verified_by situation_with
   after_same Host s p = replied_same s (reply_made (reply_of p)) (code_in p)
   after_same Results s p =

@@ -67,7 +67,8 @@ first_of_two true b e n = refl
 first_of_two false b e n = absurd (false≢true (sym n ∙ e))
 
 -- a choice that is allowed and not 'FF' is a place in the list
-place_there : (l : List Candidate) (p : List ℕ) → is_choice (shown_of l) p ≡ true → eqb (get_or p 0 0) 0xFF ≡ false → get_or p 0 0 < length l
+place_there : (l : List Candidate) (p : List ℕ) → is_choice (shown_of l) p ≡ true → eqb (get_or p 0 0) 0xFF ≡ false
+    → get_or p 0 0 < length l
 unfolding is_choice shown_of
 place_there l p e n =
     let one = first_held _ _ e in

@@ -76,7 +76,8 @@ pub record Rulebook : Type 0 where
   pub untouched : (es : List Entry) (ps : List ChoosingPhase) → Reads es ps → Each Untouched ps
   -- from GPO on neither the AID nor the list of START is looked at
   pub unlooked : (aid : List ℕ) {p : Phase} {es : List Entry} → FromOptions p → (play : today.Plays p es) → Unlooked aid play
-  pub unlooked_on : (aid : List ℕ) (p : Phase) (es : List Entry) → FromOptions p → Plays (as_was p) es → Plays (as_was (phase_with aid p)) es
+  pub unlooked_on : (aid : List ℕ) (p : Phase) (es : List Entry) → FromOptions p → Plays (as_was p) es
+      → Plays (as_was (phase_with aid p)) es
   -- a directory without end
   pub exhausted : (p : List ℕ) (es : List Entry) → is_listing p ≡ true → Session (entry start p ∷ es) → Endless es → Exhausted p es
 

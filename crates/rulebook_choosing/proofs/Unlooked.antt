@@ -67,7 +67,8 @@ read_from_lem s (r ∷ rest) = tt
 
 replied_from : (s : Situation) (reply : HostReply) (code : List ℕ) → FromOptions (replied s reply code)
 unfolding replied ended
-replied_from s reply code = picked FromOptions (fillable (list_in s 0x8D)) (asks (second s _ _)) (decides terminated for_list s) (λ y. tt) (λ n. tt)
+replied_from s reply code = picked FromOptions (fillable (list_in s 0x8D)) (asks (second s _ _)) (decides terminated for_list s)
+    (λ y. tt) (λ n. tt)
 
 given_from : (g : Given) (s : Situation) → FromOptions (by_first g s)
 unfolding by_first decided online
@@ -80,9 +81,11 @@ given_from Reserved s = tt
 turn_from : (w : Asked) (a : List ℕ) → FromOptions (asks w) → FromOptions (turn w a)
 unfolding turn optioned recorded first_answered second_answered decided
 turn_from (selecting s) a h = absurd h
-turn_from (optioning s list) a h = goes_from_lem (options_reason a) s _ (read_from_lem (with_profile s (profile_of a)) (to_read (locator_of a)))
+turn_from (optioning s list) a h = goes_from_lem (options_reason a) s _
+    (read_from_lem (with_profile s (profile_of a)) (to_read (locator_of a)))
 turn_from (reading s number file rest) a h = goes_from_lem _ s _ (read_from_lem (with_record s a) rest)
-turn_from (first s request) a h = goes_from_lem (cryptogram_reason (allowed_by (First request)) a) s _ (given_from (cryptogram_of a) (answered s))
+turn_from (first s request) a h = goes_from_lem (cryptogram_reason (allowed_by (First request)) a) s _
+    (given_from (cryptogram_of a) (answered s))
 turn_from (second s request code) a h = goes_from_lem (cryptogram_reason (allowed_by (Second request)) a) s _ tt
 
 after_from : (word : Word) (s : Situation) (p : List ℕ) → FromOptions (after (says word s) p)

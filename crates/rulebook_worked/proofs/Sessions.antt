@@ -8,7 +8,8 @@ use Rattle.numbers.specs.Tables.{start, host, decision}
 use Rattle.tape_read.specs.Entries.{Entry, entry}
 use Rattle.rulebook.specs.Session.{Session}
 use Rattle.rulebook.proofs.Opening.{reached}
-use Rattle.rulebook.proofs.Made.{start_in, amount_of, start_of, select, selected, options, optioned, read_one, recorded_with, recorded, expiring}
+use Rattle.rulebook.proofs.Made.{start_in, amount_of, start_of, select, selected, options}
+use Rattle.rulebook.proofs.Made.{optioned, read_one, recorded_with, recorded, expiring}
 use Rattle.rulebook.proofs.Made.{number, first_asked, second_asked, given, aac, tc, arqc, decides, exchange, opening_with, opening, reads}
 use Rattle.rulebook.proofs.Offline.{offline}
 

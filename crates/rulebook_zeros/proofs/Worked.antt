@@ -76,6 +76,7 @@ capabilities = (refl, refl, refl)
 
 -- a list that cannot be filled, here for its last byte, counts nothing
 pub not_filled : lacking sample (0x82 ∷ 2 ∷ 0x9F ∷ []) ≡ 0
-unfolding unsupplied_asking unsupplied fillable fits entries_of shorter counted wanted_step asks_for and_then first_wanted tag_size tag_right
+unfolding unsupplied_asking unsupplied fillable fits entries_of shorter counted wanted_step asks_for and_then first_wanted
+    tag_size tag_right
     two_bytes first_byte pick between every
 not_filled = refl

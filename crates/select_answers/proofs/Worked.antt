@@ -78,7 +78,8 @@ unfolding is_good
 applications_told = refl
 
 recorded : List ℕ → Bool × List Met
-unfolding opened record_right applications_of applications entries_in entries entry_right is_named entry_name entry_indicator indicator_of name_right
+unfolding opened record_right applications_of applications entries_in entries entry_right is_named entry_name entry_indicator indicator_of
+    name_right
     indicator_right between
 recorded a = (record_right a, applications_of a)
 

@@ -83,13 +83,15 @@ final_blind t s h =
     (pick t.choice (attended (cut_to m s)) (unattended (cut_to m s)))
     (none_seen m s.list (omega arith))
     refl
-    (cut_pick (attended s) (attended (cut_to m s)) (unattended s) (unattended (cut_to m s)) refl (attended_blind s h) (unattended_blind s h))
+    (cut_pick (attended s) (attended (cut_to m s)) (unattended s) (unattended (cut_to m s)) refl (attended_blind s h)
+    (unattended_blind s h))
 
 pub next_blind : (t : Applications) (k : ℕ) → Blind (λ s. next_aid t s k)
 unfolding next_aid
 next_blind t k s h =
     let m = room_next s in
-    cut_pick (goes s (Listed (k + 1) false)) (goes (cut_to m s) (Listed (k + 1) false)) (final_selection t s) (final_selection t (cut_to m s))
+    cut_pick (goes s (Listed (k + 1) false)) (goes (cut_to m s) (Listed (k + 1) false)) (final_selection t s)
+    (final_selection t (cut_to m s))
     refl
     (goes_blind (Listed (k + 1) false) s h)
     (final_blind t s h)

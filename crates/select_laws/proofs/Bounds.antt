@@ -49,7 +49,8 @@ final_bounded t s =
 
 next_bounded : (t : Applications) (s : Search) (k : ℕ) → Bounded (next_aid t s k)
 unfolding next_aid
-next_bounded t s k = one_of _ (goes s (Listed (k + 1) false)) (final_selection t s) (goes_bounded s (Listed (k + 1) false) tt) (final_bounded t s)
+next_bounded t s k = one_of _ (goes s (Listed (k + 1) false)) (final_selection t s) (goes_bounded s (Listed (k + 1) false) tt)
+    (final_bounded t s)
 
 first_bounded : (s : Search) → Bounded (from_first s)
 unfolding from_first
@@ -60,13 +61,15 @@ module _ (t : Applications) (s : Search) (a : List ℕ) where
   unfolding compared
   compared_bounded k =
       one_of _ (next_aid t (joined_by t a s) k) _ (next_bounded t (joined_by t a s) k)
-      (one_of _ (goes (joined_by t a s) (Listed k true)) (next_aid t s k) (goes_bounded (joined_by t a s) (Listed k true) tt) (next_bounded t s k))
+      (one_of _ (goes (joined_by t a s) (Listed k true)) (next_aid t s k) (goes_bounded (joined_by t a s) (Listed k true) tt)
+      (next_bounded t s k))
 
   at_step : (step : Step) → Bounded (heard_at t s a step)
   unfolding heard_at after_environment after_record after_listed after_final
   at_step Environment =
       one_of _ (over 12) _ (omega arith)
-      (one_of _ (goes s (Directory (directory_file a) 1)) (from_first s) (goes_bounded s (Directory (directory_file a) 1) tt) (first_bounded s))
+      (one_of _ (goes s (Directory (directory_file a) 1)) (from_first s) (goes_bounded s (Directory (directory_file a) 1) tt)
+      (first_bounded s))
   at_step (Directory file number) =
       let more = with_list (joined_all t (applications_of a) s.list) s in
       let next = Directory file (next_record number) in

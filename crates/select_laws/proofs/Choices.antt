@@ -260,7 +260,8 @@ module _ (t : Applications) (s : Search) (a : List ℕ) where
       let most = lesser (length (without place s.list)) (left s) in
       picked (λ (f : Found). choices_in f ≤ most) (selected s.list place a) (pick (fillable (pdol_of a)) (runs (pdol_of a)) (over 9))
       (final_selection t (less_one place taken s))
-      (λ y. picked (λ (f : Found). choices_in f ≤ most) (fillable (pdol_of a)) (runs (pdol_of a)) (over 9) (λ f. omega arith) (λ f. omega arith))
+      (λ y. picked (λ (f : Found). choices_in f ≤ most) (fillable (pdol_of a)) (runs (pdol_of a)) (over 9) (λ f. omega arith)
+      (λ f. omega arith))
       (λ n. final_few (less_one place taken s) t)
 
   at_step : (step : Step) → choices_in (heard_at t s a step) ≤ choices_at (e s) s.list step
@@ -279,7 +280,8 @@ module _ (t : Applications) (s : Search) (a : List ℕ) where
 
 -- ---- a choice of one that stands in the list, or of none
 
-pub chosen_few : (s : Search) (place : ℕ) → (eqb place 0xFF ≡ false → place < length s.list) → 1 + choices_in (chosen s place) ≤ choices_shown s
+pub chosen_few : (s : Search) (place : ℕ) → (eqb place 0xFF ≡ false → place < length s.list) → 1
+    + choices_in (chosen s place) ≤ choices_shown s
 unfolding chosen choices_shown choices_in choices_at
 chosen_few s place h =
     let r = most_exchanges - (e s + 1) in

@@ -19,7 +19,8 @@ use Rattle.answer_select.specs.Select.{pdol_of}
 use Rattle.select_answers.specs.Files.{directory_file, is_application, application_name}
 use Rattle.select_answers.specs.Directory.{record_right, applications_of}
 use Rattle.select_list.specs.Kept.{candidate_at}
-use Rattle.select_search.specs.Search.{Search, asks, shows, runs, over, begun, most_exchanges, may_go_on, goes, offers, with_list, has_status}
+use Rattle.select_search.specs.Search.{Search, asks, shows, runs, over, begun}
+use Rattle.select_search.specs.Search.{most_exchanges, may_go_on, goes, offers, with_list, has_status}
 use Rattle.select_search.specs.Final.{attended, unattended, final_selection, chosen, less_one, selected, after_final}
 use Rattle.select_search.specs.Listing.{from_first, next_aid, joined_by, compared, after_listed}
 use Rattle.select_search.specs.Directory.{after_environment, next_record, joined_all, after_record}
@@ -85,7 +86,8 @@ compared_numbered t s k a =
     picked Numbered (alike (listed_at t k).aid (application_name a)) (next_aid t (joined_by t a s) k) _
     (λ y. next_numbered t (joined_by t a s) k)
     (λ n.
-    picked Numbered (begins_with (listed_at t k).aid (application_name a) && (listed_at t k).partial) (goes (joined_by t a s) (Listed k true))
+    picked Numbered (begins_with (listed_at t k).aid (application_name a) && (listed_at t k).partial)
+    (goes (joined_by t a s) (Listed k true))
     (next_aid t s k)
     (λ y. listed_on (joined_by t a s) k true)
     (λ m. next_numbered t s k))

@@ -53,7 +53,8 @@ module _ (v : List ℕ) (m : ℕ) (z : List ℕ) (short : length v ≤ name_room
       ∙ (take-set-le name_room (drop 1 named) 16 m (omega arith) ∙ ap (take name_room) (put_drop v 1 headed (omega arith))) in
       ap (λ x. take (get_or x 0 0) (take name_room (drop 1 x))) row_put
       ∙ (ap₂ (λ (n : ℕ) (x : List ℕ). take n x) first rest
-      ∙ (take-take (length v) name_room (v ++ drop (length v) (drop 1 headed)) short ∙ take-append_seam v (drop (length v) (drop 1 headed))))
+      ∙ (take-take (length v) name_room (v ++ drop (length v) (drop 1 headed)) short
+      ∙ take-append_seam v (drop (length v) (drop 1 headed))))
 
   pub row_mark : mark_in row ≡ m
   unfolding mark_in

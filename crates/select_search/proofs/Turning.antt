@@ -161,7 +161,8 @@ environment_any stand b l =
   where
     same : (t : Bool) (x x' y y' : Found) → turn_of x ≡ turn_of x' → turn_of y ≡ turn_of y' → turn_of (pick t x y) ≡ turn_of (pick t x' y')
     same t x x' y y' e f =
-        pick_ap turn_of t x y ∙ (pick_cong t (turn_of x) (turn_of x') (turn_of y) (turn_of y') (λ z. e) (λ z. f) ∙ sym (pick_ap turn_of t x' y'))
+        pick_ap turn_of t x y ∙ (pick_cong t (turn_of x) (turn_of x') (turn_of y) (turn_of y') (λ z. e) (λ z. f)
+        ∙ sym (pick_ap turn_of t x' y'))
 
 -- a choice, whoever stands in the list
 pub chosen_turned : (stand : Stand) (place : ℕ) (l : List Candidate) (a : List ℕ)

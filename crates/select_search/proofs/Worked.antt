@@ -36,7 +36,8 @@ turn : Applications → Found → Said → Found
 unfolding opened between alike and_then size_at first_wanted asks_for wanted_step entries_of total fits fillable inner pdol_of begins_with
     matches supported name_right indicator_right indicator_of file_right environment_right directory_file application_right is_application
     application_name application_indicator is_named entry_right entries entries_in record_right entry_name entry_indicator applications
-    applications_of priority confirms standing_of candidate_of placed without candidate_at listed_at may_go_on goes offers with_list has_status
+    applications_of priority confirms standing_of candidate_of placed without candidate_at listed_at may_go_on goes offers with_list
+    has_status
     attended unattended final_selection chosen less_one selected after_final from_first next_aid joined_by compared after_listed
     after_environment joined_all next_record after_record heard_at heard
 turn t (asks s) (answer a) = heard t s a

@@ -47,4 +47,5 @@ selected l place a =
 -- selection is over, unless 9F38 cannot be filled (01, reason 9); any other answer removes the application, and processing resumes at 1
 unfoldable pub after_final : Applications → Search → ℕ → Bool → List ℕ → Found
 after_final t s place taken a =
-    pick (selected s.list place a) (pick (fillable (pdol_of a)) (runs (pdol_of a)) (over for_list)) (final_selection t (less_one place taken s))
+    pick (selected s.list place a) (pick (fillable (pdol_of a)) (runs (pdol_of a)) (over for_list))
+    (final_selection t (less_one place taken s))

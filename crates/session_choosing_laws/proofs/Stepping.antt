@@ -5,12 +5,11 @@ use mathlib.Core.Path.{◌≡◌, refl, sym, ap, ◌∙◌, subst}
 use mathlib.Core.Bool.{true, false}
 use mathlib.Core.List.{List, [], ◌∷◌, ◌++◌}
 use mathlib.Core.Option.{some}
-use Prim.Native.Nat.{ℕ, ◌+◌, ◌-◌, ◌<◌}
+use Prim.Native.Nat.{ℕ, ◌-◌, ◌<◌}
 use native.Mathlib.Omega.{arith}
-use lib.Dec.{eqb, ltb, leb}
+use lib.Dec.{eqb, leb}
 use lib.ListN.{length, take, get_or}
 use borrow.Author.Tests.{ltb-true, leb-true, eqb-false}
-use Rattle.slices.specs.Choice.{pick}
 use Rattle.slices.proofs.Choice.{pick_yes, pick_no, picked, either}
 use Rattle.numbers.specs.Tables.{answer}
 use Rattle.tape_read.specs.Entries.{Entry, entry}
@@ -140,7 +139,7 @@ module _ (s : State) (l : List Candidate) (a buf : List ℕ) (ok : is_payload a 
       (sym (ap (λ (x : Waiting). later_at x s l a buf) stands.waits))
       (carried (owes (AskedLater.was w)) (entry answer a) (turn w a) buf (step s a buf) l (owes w) (entry answer a)
       (takes_answer rules (AskedLater.was w) a ok)
-      (today.answer_step s w a buf (asks_before s l w stands) ok))
+      (today.answer_step_lem s w a buf (asks_before s l w stands) ok))
   answer_step_lem (AskedLater.new x) stands =
       subst (Follows (owes (AskedLater.new x)) (entry answer a) (searched x a) buf)
       (sym (ap (λ (v : Waiting). later_at v s l a buf) stands.waits))
@@ -194,7 +193,7 @@ module _ (s : State) (l : List Candidate) (p buf : List ℕ) (ok : is_payload p 
         subst (λ (q : ChoosingPhase). Follows σ e q buf (step_later s l p buf)) (sym phase)
         (subst (Follows σ e (as_was (after terminal p)) buf) (sym (starts ∙ pick_no _ _ _ n))
         (carried σ e (after terminal p) buf (step s p buf) l _ _ (takes ∙ ap (λ (q : ChoosingPhase). some (at q)) phase)
-        (today.word_step s terminal p buf (hears_before s l terminal stands) may ok)))
+        (today.word_step_lem s terminal p buf (hears_before s l terminal stands) may ok)))
 
   -- the shopper's choice
   module _ (x : Choosing) (alike : Alike (room_next x.search) s l x) (fits : may_choose x p ≡ true) where
@@ -236,7 +235,7 @@ module _ (s : State) (l : List Candidate) (p buf : List ℕ) (ok : is_payload p 
       (sym (ap (λ (x : Waiting). later_at x s l p buf) stands.waits))
       (carried (at (hears (HeardLater.was (says word z)))) (entry (due_kind (says word z)) p) (after (says word z) p) buf (step s p buf) l _ _
       (takes_heard rules (HeardLater.was (says word z)) p fits ok)
-      (today.word_step s (says word z) p buf (hears_before s l (says word z) stands) fits ok))
+      (today.word_step_lem s (says word z) p buf (hears_before s l (says word z) stands) fits ok))
   word_step_lem (HeardLater.new x) stands fits =
       subst (Follows (at (hears (HeardLater.new x))) (entry (rules.due_kind (HeardLater.new x)) p) (chose x p) buf)
       (sym (ap (λ (v : Waiting). later_at v s l p buf) stands.waits))

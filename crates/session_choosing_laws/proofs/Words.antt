@@ -49,7 +49,7 @@ NoStart (HeardLater.new x) = Unit {0}
 pub allowed_by_lem : (h : HeardLater Choosing) → NoStart h → (p : List ℕ) → allowed_by (speaker_later h) p ≡ rules.allowed h p
 unfolding speaker_later allowed_later allowed_by may_choose
 allowed_by_lem (HeardLater.was terminal) n p = absurd n
-allowed_by_lem (HeardLater.was (says word z)) n p = today.allowed_by (says word z) p
+allowed_by_lem (HeardLater.was (says word z)) n p = today.allowed_by_lem (says word z) p
 allowed_by_lem (HeardLater.new x) n p = refl
 
 pub allowed_short : (h : HeardLater Choosing) (p : List ℕ) → rules.allowed h p ≡ true → length p ≤ payload_most

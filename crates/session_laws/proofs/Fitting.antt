@@ -110,7 +110,8 @@ module _ (s : State) where
 
   -- the next record is the one at the cursor, and the cursor goes one further
   read_fits : Fits (read_on (late s) (records_left s)) s
-  unfolding read_on records_left Fits Knows forgets standing changed kept_as question_of tvr_of tsi_of situation_of cursor_after cursor_asking
+  unfolding read_on records_left Fits Knows forgets standing changed kept_as question_of tvr_of tsi_of situation_of cursor_after
+      cursor_asking
       asked_by late situation_with
   read_fits =
       let v = in_run s.locator in
@@ -169,7 +170,8 @@ turn_fits (Second request) s a = second_fits s a request
 
 -- START
 started_fits : (b : List ℕ) → length b ≤ full_length → Fits (opened (reading_of b)) (begun b)
-unfolding opened Fits Knows forgets standing changed kept_as question_of tvr_of tsi_of situation_of cursor_after cursor_asking asked_by early
+unfolding opened Fits Knows forgets standing changed kept_as question_of tvr_of tsi_of situation_of cursor_after cursor_asking
+    asked_by early
     situation_with begun state_at situation_begun
 started_fits b e = ap (λ (z : Situation). selecting z) (early_begun b e)
 

@@ -6,7 +6,8 @@ use mathlib.Core.List.{List, [], ◌∷◌, ◌++◌}
 use Prim.Native.Nat.{ℕ}
 use Rattle.start_fields.specs.Reading.{reading_of}
 use Rattle.rulebook.specs.Situation.{Situation}
-use Rattle.rulebook.specs.Phase.{Asked, selecting, optioning, reading, first, second, asks, decides, situation_of, decision_of, tvr_of, tsi_of}
+use Rattle.rulebook.specs.Phase.{Asked, selecting, optioning, reading, first, second}
+use Rattle.rulebook.specs.Phase.{asks, decides, situation_of, decision_of, tvr_of, tsi_of}
 use Rattle.rulebook.specs.Turn.{turn}
 use Rattle.session_phase.specs.declared.Question.{Question}
 use Rattle.session_phase.specs.declared.Question.TheVariants.{Select, Options, Record, First, Second}

@@ -96,7 +96,8 @@ heard_moved s (says word z) p buf stands =
     ap (λ (x : Waiting). step_at x s p buf) stands.waits ∙ ap (λ (x : Situation). moved (after (says word x) p) s buf) stands.knows
 
 module _ (s : State) (h : Heard) (p buf : List ℕ) (stands : StandsAt s (hears h)) where
-  pub word_step_lem : allowed h p ≡ true → is_payload p ≡ true → Follows (at (hears h)) (entry (due_kind h) p) (after h p) buf (step s p buf)
+  pub word_step_lem : allowed h p ≡ true → is_payload p ≡ true
+      → Follows (at (hears h)) (entry (due_kind h) p) (after h p) buf (step s p buf)
   word_step_lem fits ok =
       follows_as (at (hears h)) (entry (due_kind h) p) (after h p) (goes_from h p s) buf (step s p buf) (heard_moved s h p buf stands)
       (takes_heard rules h p fits ok)

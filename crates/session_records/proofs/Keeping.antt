@@ -105,7 +105,8 @@ pub record Fits (tag : ℕ) (o : Option (List ℕ)) (l : Lookup) : Type 0 where
 module _ (names : List ℕ) (tag : ℕ) (named : listed tag names ≡ true) where
   abbrev pub Goes : List Object → Type 0
   Goes ms =
-      (d : List ℕ) → length d ≡ end → Fits tag (told_in d tag) (lookup tag ms) → told_in (kept_objects names ms d) tag ≡ or_else (told_in d tag)
+      (d : List ℕ) → length d ≡ end → Fits tag (told_in d tag) (lookup tag ms) → told_in (kept_objects names ms d) tag
+      ≡ or_else (told_in d tag)
       (told_of (lookup tag ms))
 
   module _ (m : Object) (ms : List Object) (again : Goes ms) (d : List ℕ) (all : length d ≡ end)

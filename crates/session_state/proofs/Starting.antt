@@ -29,7 +29,13 @@ use Rattle.session_state.proofs.Telling.{nothing_told, facts_told}
 pub early_begun : (b : List ℕ) → length b ≤ full_length → early (begun b) ≡ situation_begun (reading_of b)
 unfolding early situation_with begun state_at situation_begun
 early_begun b e =
-    λ i. record { terminal = reading_of (fixed_first full_length b e i); profile = []; facts = nothing_told i; tvr = zeros 5; tsi = zeros 2 }
+    λ i. record {
+      terminal = reading_of (fixed_first full_length b e i);
+      profile = [];
+      facts = nothing_told i;
+      tvr = zeros 5;
+      tsi = zeros 2;
+    }
 
 module _ (s : State) (a : List ℕ) (good : options_reason a ≡ 0) where
   pub late_options : late (with_options a s) ≡ with_profile (early s) (profile_of a)

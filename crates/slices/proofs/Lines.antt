@@ -24,7 +24,8 @@ unfolding first_of
 last_no e n h = line_no e n [] h
 
 -- two lists of lines that agree from a line on
-pub one_more_lem : {t t' : Bool} (n : ℕ) (x y : List (Bool × ℕ)) → t ≡ t' → first_of x ≡ first_of y → first_of ((t, n) ∷ x) ≡ first_of ((t', n) ∷ y)
+pub one_more_lem : {t t' : Bool} (n : ℕ) (x y : List (Bool × ℕ)) → t ≡ t' → first_of x ≡ first_of y → first_of ((t, n) ∷ x)
+    ≡ first_of ((t', n) ∷ y)
 unfolding first_of
 one_more_lem n x y e f = ap₂ (λ (t : Bool) (r : ℕ). pick t n r) e f
 

@@ -25,16 +25,20 @@ listing edition partial =
     take 57 sample ++ (1 ∷ (take 17 (drop 57 sample) ++ (partial ∷ (zeros 126 ++ (0xE0 ∷ 0xF8 ∷ 0xC8 ∷ 1 ∷ edition ∷ [])))))
 
 pub listing_valid : (valid_listing (listing 1 0) ≡ true) × (valid_listing (listing 1 1) ≡ true)
-unfolding valid_listing is_listing with_first_alone zeros valid_start every pick between is_length valid_kind valid_digits digits_only decimal_byte
-    valid_start_date month_and_day valid_random valid_percentages valid_threshold valid_aid zeros_only reading_of decimal decimal_from valid_list
+unfolding valid_listing is_listing with_first_alone zeros valid_start every pick between is_length valid_kind valid_digits digits_only
+    decimal_byte
+    valid_start_date month_and_day valid_random valid_percentages valid_threshold valid_aid zeros_only reading_of decimal decimal_from
+    valid_list
     count_in fields_in rows_in valid_field room_in mark_in
 listing_valid = (refl, refl)
 
 -- edition 0, a last byte of 2, a byte too few, and a START of an earlier length
 pub listing_invalid : (valid_listing (listing 0 0) ≡ false) × (valid_listing (listing 1 2) ≡ false)
     × (valid_listing (take 206 (listing 1 0)) ≡ false) × (valid_listing sample ≡ false)
-unfolding valid_listing is_listing with_first_alone zeros valid_start every pick between is_length valid_kind valid_digits digits_only decimal_byte
-    valid_start_date month_and_day valid_random valid_percentages valid_threshold valid_aid zeros_only reading_of decimal decimal_from valid_list
+unfolding valid_listing is_listing with_first_alone zeros valid_start every pick between is_length valid_kind valid_digits digits_only
+    decimal_byte
+    valid_start_date month_and_day valid_random valid_percentages valid_threshold valid_aid zeros_only reading_of decimal decimal_from
+    valid_list
     count_in fields_in rows_in valid_field room_in mark_in
 listing_invalid = (refl, refl, refl, refl)
 

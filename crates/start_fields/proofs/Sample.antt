@@ -83,7 +83,8 @@ filled s = s ++ blank (full_length - length s)
 abbrev pub full_sample : List ℕ
 full_sample = filled (sample ++ (0xC1 ∷ 0xC2 ∷ 0xC3 ∷ []))
 
-full_read : ((reading_of full_sample).capabilities ≡ some (0xC1 ∷ 0xC2 ∷ 0xC3 ∷ [])) × ((reading_of full_sample).aid ≡ (reading_of sample).aid)
+full_read : ((reading_of full_sample).capabilities ≡ some (0xC1 ∷ 0xC2 ∷ 0xC3 ∷ []))
+    × ((reading_of full_sample).aid ≡ (reading_of sample).aid)
 unfolding reading_of unless_empty
 full_read = (refl, refl)
 

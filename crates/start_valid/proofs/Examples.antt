@@ -51,7 +51,8 @@ rows =
     ∷ []
 
 rows_judged : map (λ row. valid_start (changed row.0)) rows ≡ map (λ row. row.1) rows
-unfolding valid_start every pick between is_length valid_kind valid_digits digits_only decimal_byte valid_start_date month_and_day valid_random
+unfolding valid_start every pick between is_length valid_kind valid_digits digits_only decimal_byte valid_start_date month_and_day
+    valid_random
     valid_percentages valid_threshold valid_aid zeros_only reading_of decimal decimal_from
 rows_judged = refl
 

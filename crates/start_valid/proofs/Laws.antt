@@ -17,7 +17,8 @@ use Rattle.start_fields.specs.declared.fields.Field.{Field}
 use Rattle.start_fields.specs.declared.fields.Field.TheVariants.{Amount, OtherAmount, FloorLimit, Capabilities}
 use Rattle.slices.specs.Tests.{between}
 use Rattle.start_fields.specs.Layout.{begin_of, size_of, start_length, full_length}
-use Rattle.start_fields.specs.Reading.{Terminal, reading_of, bytes_of, amount_of, other_amount_of, floor_limit_of, threshold_of, aid_length_in}
+use Rattle.start_fields.specs.Reading.{Terminal, reading_of, bytes_of, amount_of}
+use Rattle.start_fields.specs.Reading.{other_amount_of, floor_limit_of, threshold_of, aid_length_in}
 use Rattle.start_valid.specs.Start.{start_tests, valid_kind, valid_digits, valid_random, valid_percentages}
 use Rattle.start_valid.specs.Start.{valid_threshold, valid_aid, valid_start, terminal_of, begins_session}
 use Rattle.slices.proofs.Tests.{each_held}

@@ -32,7 +32,8 @@ digit x = mod-lt x two
 
 -- the digits of an exclusive or
 pub xor_half : (a b : ℕ) → bit_xor a b / 2 ≡ bit_xor (a / 2) (b / 2)
-xor_half a b = ap (λ (x : ℕ). x / 2) (xor_step a b) ∙ digits_div (bit_xor (a / 2) (b / 2)) (differ_below (a % 2) (b % 2) (digit a) (digit b))
+xor_half a b = ap (λ (x : ℕ). x / 2) (xor_step a b)
+    ∙ digits_div (bit_xor (a / 2) (b / 2)) (differ_below (a % 2) (b % 2) (digit a) (digit b))
 
 pub xor_odd : (a b : ℕ) → bit_xor a b % 2 ≡ differ (a % 2) (b % 2)
 xor_odd a b = ap (λ (x : ℕ). x % 2) (xor_step a b) ∙ digits_mod (bit_xor (a / 2) (b / 2)) (differ_below (a % 2) (b % 2) (digit a) (digit b))

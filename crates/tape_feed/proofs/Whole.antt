@@ -267,4 +267,5 @@ pub fed_reading : (t : List ℕ) → reading_of (damage_of (reader_after begun (
 unfolding pieces_of
 fed_reading t =
     let one_more : suc (length t / block_size) ≡ length t / block_size + 1 = omega arith in
-    subst (λ (n : ℕ). reading_of (damage_of (reader_after begun (cut n t))) (entries_read begun (cut n t)) ≡ read_tape t) one_more (fed_pieces t)
+    subst (λ (n : ℕ). reading_of (damage_of (reader_after begun (cut n t))) (entries_read begun (cut n t)) ≡ read_tape t) one_more
+    (fed_pieces t)

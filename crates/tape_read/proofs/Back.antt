@@ -20,7 +20,8 @@ use Rattle.tape_read.specs.Blocks.{head, body, block, all_zero, number_in, sessi
 use Rattle.tape_read.specs.Blocks.{session_bad, kind_bad, spare_bad, padding_bad, code_of, entry_in}
 use Rattle.tape_read.proofs.Extra.{zeros_bytes}
 use Rattle.tape_read.proofs.Numbers.{bytes_are}
-use Rattle.tape_read.proofs.Parts.{number_in_lem, session_in_lem, kind_in_lem, spare_in_lem, length_allowed, payload_in_lem, padding_in_lem, check_in_lem}
+use Rattle.tape_read.proofs.Parts.{number_in_lem, session_in_lem, kind_in_lem, spare_in_lem}
+use Rattle.tape_read.proofs.Parts.{length_allowed, payload_in_lem, padding_in_lem, check_in_lem}
 use Rattle.tape_read.proofs.Codes.{Good, good_code}
 
 pub kind_most : (k : ℕ) → is_kind k ≡ true → k ≤ last_kind

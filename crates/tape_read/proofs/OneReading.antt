@@ -103,7 +103,8 @@ tape_is t es bytes r = size (dec_le (length t) tape_most)
     size (no long) = absurd (apart (read_tape t) es _ _ r (tape_long t (omega (arith, long))))
 
 -- two tapes of bytes that read as the same entries with the same session number are the same bytes
-pub tape_same : (t u : List ℕ) (es : List Entry) → are_bytes t ≡ true → are_bytes u ≡ true → read_tape t ≡ entries es → read_tape u ≡ entries es
+pub tape_same : (t u : List ℕ) (es : List Entry) → are_bytes t ≡ true → are_bytes u ≡ true → read_tape t ≡ entries es → read_tape u
+    ≡ entries es
     → session_of t ≡ session_of u → t ≡ u
 tape_same t u es bt bu rt ru session =
     tape_is t es bt rt ∙ (ap (λ (s : ℕ). written 0 s es) session ∙ sym (tape_is u es bu ru))

@@ -67,7 +67,8 @@ module _ (n s : ℕ) (b : List ℕ) (bytes : are_bytes b ≡ true) (size : lengt
   payload_is = pick_no _ _ _ g.length
 
   payload_length : length (payload_in b) ≡ length_in b
-  payload_length = ap length payload_is ∙ length-take-le (length_in b) (drop payload_at b) (omega (arith, length_is, length-drop payload_at b))
+  payload_length = ap length payload_is ∙ length-take-le (length_in b) (drop payload_at b)
+      (omega (arith, length_is, length-drop payload_at b))
 
   padding_is : take (payload_most - length_in b) (drop (payload_at + length_in b) b) ≡ zeros (payload_most - length_in b)
   unfolding padding_bad padding_in

@@ -95,7 +95,8 @@ content_tests b = (kind_bad b, code_kind) ∷ (spare_bad b, code_spare) ∷ (len
 
 -- the code of a block where this block number and this session number are due; 0: a good block
 unfoldable pub code_of : ℕ → ℕ → List ℕ → ℕ
-code_of number session b = first_of ((check_bad b, code_check) ∷ (number_bad number b, code_number) ∷ (session_bad session b, code_session) ∷ content_tests b)
+code_of number session b = first_of ((check_bad b, code_check) ∷ (number_bad number b, code_number) ∷ (session_bad session b, code_session)
+    ∷ content_tests b)
 
 -- the payload of a block; none where its length is not allowed
 unfoldable pub payload_in : List ℕ → List ℕ

@@ -29,7 +29,8 @@ past_end : (a : ℕ) → ltb (pair a 0) 256 ≡ false
 unfolding digit among pick
 past_end a = le-ltb (pair a 0) 256 (let none = no_pair a 0 (λ h k. omega arith) in omega arith)
 
-front : (s : List ℕ) → unhexed s ≡ pick (ltb (pair (get_or s 0 0) (get_or s 1 0)) 256) (pair (get_or s 0 0) (get_or s 1 0) ∷ unhexed (drop 2 s)) []
+front : (s : List ℕ) → unhexed s ≡ pick (ltb (pair (get_or s 0 0) (get_or s 1 0)) 256)
+    (pair (get_or s 0 0) (get_or s 1 0) ∷ unhexed (drop 2 s)) []
 unfolding unhexed
 front [] = sym (pick_no _ _ _ (past_end 0))
 front (a ∷ []) = sym (pick_no _ _ _ (past_end a))

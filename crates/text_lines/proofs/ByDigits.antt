@@ -15,7 +15,8 @@ use Rattle.text_hex.proofs.Extra.{and_no}
 use Rattle.text_lines.specs.Decimal.{number_from, no_number}
 
 module _ (n : ℕ) (s : List ℕ) (i d : ℕ) (told : d ≡ digit (get_or s i 0)) (h : i < length s) where
-  one_further : number_from n (drop i s) ≡ pick (ltb d 10 && ltb (10 * n + d) no_number) (number_from (10 * n + d) (drop (i + 1) s)) no_number
+  one_further : number_from n (drop i s) ≡ pick (ltb d 10 && ltb (10 * n + d) no_number)
+      (number_from (10 * n + d) (drop (i + 1) s)) no_number
   unfolding number_from
   one_further = ap (number_from n) (drop-cons s i 0 h) ∙ (rw (add-one, told))
 

@@ -12,7 +12,8 @@ use lib.Seq.{get_or-drop}
 use borrow.Author.Tests.{leb-true, leb-false, le-leb, lt-leb, lt-ltb, le-ltb, eq-eqb, ne_eqb}
 use Rattle.slices.specs.Choice.{pick}
 use Rattle.slices.proofs.Choice.{pick_yes, pick_no, either}
-use Rattle.tlv_head.specs.Head.{tag_of, tag_size, tag_right, length_byte, length_form, length_size, length_of, value_start, value_end, whole}
+use Rattle.tlv_head.specs.Head.{tag_of, tag_size, tag_right, length_byte, length_form}
+use Rattle.tlv_head.specs.Head.{length_size, length_of, value_start, value_end, whole}
 use Rattle.tlv_head.specs.Member.{member_at}
 use Rattle.tlv_head.specs.declared.Next.{Next}
 use Rattle.tlv_head.specs.declared.Next.TheVariants.{Member, Broken}

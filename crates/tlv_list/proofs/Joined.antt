@@ -116,7 +116,8 @@ module _ (a b : List ℕ) (w : whole a ≡ true) where
   unfolding first_object between
   same_object =
       let i = inside in
-      let there : take (value_end a - value_start a) (drop (value_start a) (a ++ b)) ≡ take (value_end a - value_start a) (drop (value_start a) a)
+      let there : take (value_end a - value_start a) (drop (value_start a) (a ++ b))
+      ≡ take (value_end a - value_start a) (drop (value_start a) a)
       = ap (take (value_end a - value_start a)) (drop-append-le (value_start a) a b (omega arith))
       ∙ take-append-le (value_end a - value_start a) (drop (value_start a) a) b (rw length-drop (omega arith)) in
       rw (same_tag, same_start, same_end, there)

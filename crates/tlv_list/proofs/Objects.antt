@@ -70,7 +70,8 @@ objects_filler s = objects_step (0 ∷ s) ∙ (pick_no _ _ _ (nonempty (0 ∷ s)
 
 -- where an object is due, and stands there or does not
 module _ (s : List ℕ) (due : eqb (get_or s 0 0) 0 ≡ false) (some_bytes : 0 < length s) where
-  due_step : objects s ≡ pick (whole s && right_inside objects (first_object s)) (before (first_object s) (objects (drop (value_end s) s))) none
+  due_step : objects s ≡ pick (whole s && right_inside objects (first_object s))
+      (before (first_object s) (objects (drop (value_end s) s))) none
   unfolding listed
   due_step = objects_step s ∙ (pick_no _ _ _ (nonempty s some_bytes) ∙ pick_no _ _ _ due)
 

@@ -21,7 +21,8 @@ use Rattle.words.specs.declared.Word.{Word}
 use Rattle.words.specs.declared.Word.TheVariants.{Host, Results}
 use Rattle.rulebook.specs.Situation.{Situation}
 use Rattle.rulebook.specs.Phase.{Asked, selecting, optioning, reading, first, second, situation_of, ended}
-use Rattle.rulebook.specs.Turn.{goes_on, managed, requested, verifying, all_read, read_on, with_profile, optioned, with_record, recorded, turn}
+use Rattle.rulebook.specs.Turn.{goes_on, managed, requested, verifying, all_read, read_on}
+use Rattle.rulebook.specs.Turn.{with_profile, optioned, with_record, recorded, turn}
 use Rattle.rulebook.proofs.Passing.{Due, Awaited}
 use Rattle.verdict_before.specs.Before.{names_before, all_read_before, read_on_before, optioned_before}
 use Rattle.verdict_before.specs.Before.{with_record_before, recorded_before, turn_before}

@@ -31,7 +31,8 @@ use Rattle.dol_values.proofs.Tables.{beside_append}
 use Rattle.dol_values.specs.declared.Own.{Own}
 use Rattle.dol_values.specs.declared.Own.TheVariants.{Of, Nothing}
 use Rattle.verdict_before.specs.Before.{records_before}
-use Rattle.verdict_before.specs.Filled.{own_table_before, formats_before, format_of_before, own_field_before, value_by_before, supplied_before}
+use Rattle.verdict_before.specs.Filled.{own_table_before, formats_before, format_of_before}
+use Rattle.verdict_before.specs.Filled.{own_field_before, value_by_before, supplied_before}
 
 -- ---- tables
 
@@ -189,7 +190,8 @@ module _ (t : Terminal) (early : Early t) (known : Facts) where
   new_same : (rows : Rows) → every (map is_new rows) ≡ true → (tag : ℕ) → with_new rows tag ≡ supplied_before t known tag
   unfolding beside supplied_before format_of_before own_field_before
   new_same [] new tag =
-      ap (λ (f : Format). with_format (beside f tag own_formats) (value_by t (known tag) (beside Nothing tag own_fields))) (told_formats tag)
+      ap (λ (f : Format). with_format (beside f tag own_formats) (value_by t (known tag) (beside Nothing tag own_fields)))
+      (told_formats tag)
       ∙ (ap (λ (f : Format). with_format f (value_by t (known tag) (beside Nothing tag own_fields)))
       (sym (beside_append Unknown tag own_formats (made_formats ++ records_before)))
       ∙ ap (with_format (format_of_before tag)) (value_same tag))

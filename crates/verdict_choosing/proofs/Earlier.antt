@@ -52,7 +52,8 @@ pub reads_earlier : (m : Today.Progress) (e : Entry) → ReadsToday choosing m e
 reads_earlier = Was.reads_was choosing
 
 -- all entries, once START is read
-pub rest_earlier : (es : List Entry) (m : Today.Progress) → StartRead m → reads_all (was_progress m) es ≡ was_progress (Today.reads_all m es)
+pub rest_earlier : (es : List Entry) (m : Today.Progress) → StartRead m → reads_all (was_progress m) es
+    ≡ was_progress (Today.reads_all m es)
 rest_earlier = Was.all_was choosing
 
 -- and from the opening on

@@ -18,7 +18,8 @@ use Rattle.rulebook.specs.Phase.{terminal, says, Phase, opens, asks, hears, deci
 use Rattle.rulebook.specs.Turn.{turn, after, opened}
 use Rattle.rulebook.specs.Session.{rules}
 use Rattle.rulebook.specs.Machine.{Machine, at, owes, done}
-use Rattle.rulebook.specs.Later.{PhaseLater, Added, as_was, command_later, turn_later, kind_later, allowed_later, after_later, later, Earlier}
+use Rattle.rulebook.specs.Later.{PhaseLater, Added, as_was, command_later, turn_later}
+use Rattle.rulebook.specs.Later.{kind_later, allowed_later, after_later, later, Earlier}
 use Rattle.rulebook.proofs.Later.{start_allows, start_after}
 use Rattle.rulebook.proofs.Passing.{Holds, anything_lasts, turn_holds, after_holds}
 use Rattle.verdict_under.specs.Summing.{new_in, count_on, zeros_from, zeros_of}
@@ -137,7 +138,8 @@ module _ {A H : Type 0} (added : Added A H) where
       ap (λ (b : Bool). pick b (closed (n + 1)) (broken n)) (closes_was σ e) ∙ sym (pick_ap was_progress (closes σ e) _ _)
 
   -- an entry of today's makes of the progress what it makes of it today
-  pub reads_was : (m : Progress) (e : Entry) → ReadsToday added m e → reads (later added) (was_progress m) e ≡ was_progress (reads rules m e)
+  pub reads_was : (m : Progress) (e : Entry) → ReadsToday added m e → reads (later added) (was_progress m) e
+      ≡ was_progress (reads rules m e)
   unfolding reads was_progress
   reads_was (reached σ n) e h = ap (onward (was_state σ) n e) (next_was σ e h) ∙ onward_was σ n e (next rules σ e)
   reads_was (closed n) e h = refl

@@ -29,7 +29,8 @@ unfolding line_of word_of field_of decimal digits_of pick
 longest_session = refl
 
 -- "FAIL 10 0 0" and a line feed
-pub two_digits_lem : line_of (finds (says Fail 10 0) 0) ≡ 0x46 ∷ 0x41 ∷ 0x49 ∷ 0x4C ∷ 0x20 ∷ 0x31 ∷ 0x30 ∷ 0x20 ∷ 0x30 ∷ 0x20 ∷ 0x30 ∷ 0x0A ∷ []
+pub two_digits_lem : line_of (finds (says Fail 10 0) 0)
+    ≡ 0x46 ∷ 0x41 ∷ 0x49 ∷ 0x4C ∷ 0x20 ∷ 0x31 ∷ 0x30 ∷ 0x20 ∷ 0x30 ∷ 0x20 ∷ 0x30 ∷ 0x0A ∷ []
 unfolding line_of word_of field_of decimal digits_of pick
 two_digits_lem = refl
 

@@ -22,5 +22,9 @@ block_payload b bytes =
     let p = take (length_in b) (drop payload_at b) in
     picked (λ q. is_payload q ≡ true) (ltb payload_most (length_in b)) [] p (λ y. refl)
     (λ n.
-    let short : length p ≤ payload_most = omega (arith, length-take (length_in b) (drop payload_at b), ltb-false payload_most (length_in b) n) in
+    let short : length p ≤ payload_most = omega (
+      arith,
+      length-take (length_in b) (drop payload_at b),
+      ltb-false payload_most (length_in b) n,
+    ) in
     and_both _ _ (le-leb (length p) payload_most short) (bytes_take (length_in b) (drop payload_at b) (bytes_drop payload_at b bytes)))

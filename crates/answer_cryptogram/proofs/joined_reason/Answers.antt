@@ -19,7 +19,8 @@ use Rattle.answer_cryptogram.proofs.joined_reason.Goals as goal
 
 pub returns-then-both-lt11 : goal.returns-then-both-lt11
 returns-then-both-lt11 c =
-    let left : first_of (frame both_forms c.args.answer.now ++ cryptogram_lines (allowed_by c.args.request) c.args.answer.now) ≡ first_of ((not (within 11 43 (length c.value-both.result.now)), 5) ∷ last (allowed_by c.args.request) c.value-both.result.now) =
+    let left : first_of (frame both_forms c.args.answer.now ++ cryptogram_lines (allowed_by c.args.request) c.args.answer.now)
+    ≡ first_of ((not (within 11 43 (length c.value-both.result.now)), 5) ∷ last (allowed_by c.args.request) c.value-both.result.now) =
     let a = c.args in
     joined_reason (allowed_by a.request) a.answer.now a.start a.end c.requires
     (c.value-both.ensures ∙ ap (λ (x : List ℕ). between x a.start a.end) c.data_field.ensures)
@@ -28,7 +29,8 @@ returns-then-both-lt11 c =
 
 pub returns-then-both-gt43 : goal.returns-then-both-gt43
 returns-then-both-gt43 c =
-    let left : first_of (frame both_forms c.args.answer.now ++ cryptogram_lines (allowed_by c.args.request) c.args.answer.now) ≡ first_of ((not (within 11 43 (length c.value-both.result.now)), 5) ∷ last (allowed_by c.args.request) c.value-both.result.now) =
+    let left : first_of (frame both_forms c.args.answer.now ++ cryptogram_lines (allowed_by c.args.request) c.args.answer.now)
+    ≡ first_of ((not (within 11 43 (length c.value-both.result.now)), 5) ∷ last (allowed_by c.args.request) c.value-both.result.now) =
     let a = c.args in
     joined_reason (allowed_by a.request) a.answer.now a.start a.end c.requires
     (c.value-both.ensures ∙ ap (λ (x : List ℕ). between x a.start a.end) c.data_field.ensures)
@@ -37,7 +39,8 @@ returns-then-both-gt43 c =
 
 pub returns : goal.returns
 returns c =
-    let left : first_of (frame both_forms c.args.answer.now ++ cryptogram_lines (allowed_by c.args.request) c.args.answer.now) ≡ first_of ((not (within 11 43 (length c.value-both.result.now)), 5) ∷ last (allowed_by c.args.request) c.value-both.result.now) =
+    let left : first_of (frame both_forms c.args.answer.now ++ cryptogram_lines (allowed_by c.args.request) c.args.answer.now)
+    ≡ first_of ((not (within 11 43 (length c.value-both.result.now)), 5) ∷ last (allowed_by c.args.request) c.value-both.result.now) =
     let a = c.args in
     joined_reason (allowed_by a.request) a.answer.now a.start a.end c.requires
     (c.value-both.ensures ∙ ap (λ (x : List ℕ). between x a.start a.end) c.data_field.ensures)

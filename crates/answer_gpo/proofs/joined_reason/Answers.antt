@@ -27,7 +27,9 @@ returns-then-not-are_whole c =
     ∙ (to_end (length v.result.now) 2 v.result.now (omega arith)
     ∙ ap (drop 2) (v.ensures ∙ ap (λ (x : List ℕ). between x a.start a.end) c.data_field.ensures))
     in
-    let left : first_of (frame both_forms c.args.answer.now ++ options_lines c.args.answer.now) ≡ first_of ((not (whole_entries c.part-afl.result.now), 5) ∷ (not (entries_right c.part-afl.result.now), 6) ∷ (too_many c.part-afl.result.now, 7) ∷ []) =
+    let left : first_of (frame both_forms c.args.answer.now ++ options_lines c.args.answer.now)
+    ≡ first_of ((not (whole_entries c.part-afl.result.now), 5) ∷ (not (entries_right c.part-afl.result.now), 6)
+    ∷ (too_many c.part-afl.result.now, 7) ∷ []) =
     joined_reason c.args.answer.now c.args.start c.args.end c.requires (here)
     in
     sym (left ∙ line_yes (ap not c.are_whole.ensures) 5 _ (ap not c.if-not-are_whole.true))
@@ -41,7 +43,9 @@ returns-then-not-are_right c =
     ∙ (to_end (length v.result.now) 2 v.result.now (omega arith)
     ∙ ap (drop 2) (v.ensures ∙ ap (λ (x : List ℕ). between x a.start a.end) c.data_field.ensures))
     in
-    let left : first_of (frame both_forms c.args.answer.now ++ options_lines c.args.answer.now) ≡ first_of ((not (whole_entries c.part-afl.result.now), 5) ∷ (not (entries_right c.part-afl.result.now), 6) ∷ (too_many c.part-afl.result.now, 7) ∷ []) =
+    let left : first_of (frame both_forms c.args.answer.now ++ options_lines c.args.answer.now)
+    ≡ first_of ((not (whole_entries c.part-afl.result.now), 5) ∷ (not (entries_right c.part-afl.result.now), 6)
+    ∷ (too_many c.part-afl.result.now, 7) ∷ []) =
     joined_reason c.args.answer.now c.args.start c.args.end c.requires (here)
     in
     sym
@@ -58,7 +62,9 @@ returns-then-are_too_many c =
     ∙ (to_end (length v.result.now) 2 v.result.now (omega arith)
     ∙ ap (drop 2) (v.ensures ∙ ap (λ (x : List ℕ). between x a.start a.end) c.data_field.ensures))
     in
-    let left : first_of (frame both_forms c.args.answer.now ++ options_lines c.args.answer.now) ≡ first_of ((not (whole_entries c.part-afl.result.now), 5) ∷ (not (entries_right c.part-afl.result.now), 6) ∷ (too_many c.part-afl.result.now, 7) ∷ []) =
+    let left : first_of (frame both_forms c.args.answer.now ++ options_lines c.args.answer.now)
+    ≡ first_of ((not (whole_entries c.part-afl.result.now), 5) ∷ (not (entries_right c.part-afl.result.now), 6)
+    ∷ (too_many c.part-afl.result.now, 7) ∷ []) =
     joined_reason c.args.answer.now c.args.start c.args.end c.requires (here)
     in
     sym
@@ -76,10 +82,13 @@ returns-else-are_too_many c =
     ∙ (to_end (length v.result.now) 2 v.result.now (omega arith)
     ∙ ap (drop 2) (v.ensures ∙ ap (λ (x : List ℕ). between x a.start a.end) c.data_field.ensures))
     in
-    let left : first_of (frame both_forms c.args.answer.now ++ options_lines c.args.answer.now) ≡ first_of ((not (whole_entries c.part-afl.result.now), 5) ∷ (not (entries_right c.part-afl.result.now), 6) ∷ (too_many c.part-afl.result.now, 7) ∷ []) =
+    let left : first_of (frame both_forms c.args.answer.now ++ options_lines c.args.answer.now)
+    ≡ first_of ((not (whole_entries c.part-afl.result.now), 5) ∷ (not (entries_right c.part-afl.result.now), 6)
+    ∷ (too_many c.part-afl.result.now, 7) ∷ []) =
     joined_reason c.args.answer.now c.args.start c.args.end c.requires (here)
     in
     sym
     (left
     ∙ (line_no (ap not c.are_whole.ensures) 5 _ (ap not c.if-not-are_whole.false)
-    ∙ (line_no (ap not c.are_right.ensures) 6 _ (ap not c.if-not-are_right.false) ∙ last_no c.are_too_many.ensures 7 c.if-are_too_many.false)))
+    ∙ (line_no (ap not c.are_right.ensures) 6 _ (ap not c.if-not-are_right.false)
+    ∙ last_no c.are_too_many.ensures 7 c.if-are_too_many.false)))

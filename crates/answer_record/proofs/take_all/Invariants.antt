@@ -8,7 +8,8 @@ use Rattle.answer_record.proofs.take_all.Given as goal
 
 abbrev pub invariant-loop-p : goal.invariant-loop-p
 invariant-loop-p l =
-    (length l.told ≡ length l.initial.told) × (taken_from l.names l.s l.p (taken l.why l.told) ≡ taken_from l.names l.s 0 (taken 0 l.initial.told))
+    (length l.told ≡ length l.initial.told) × (taken_from l.names l.s l.p (taken l.why l.told)
+    ≡ taken_from l.names l.s 0 (taken 0 l.initial.told))
 
 abbrev pub decreases-loop-p : goal.decreases-loop-p
 decreases-loop-p l = length l.s - l.p

@@ -15,7 +15,8 @@ use Rattle.answer_record.proofs.take_one.Goals as goal
 
 module _ (names : List ℕ) (tag : ℕ) (v : List ℕ) (why : ℕ) (d : List ℕ) where
   module _ (l : listed tag names ≡ true) {again : Bool} (h : again ≡ is_some (told_in d tag)) {w : ℕ} {out : List ℕ} where
-    counted : (right : Bool) (x : List ℕ) → right_value tag v ≡ right → pick right v [] ≡ x → w ≡ worse why again right → out ≡ kept_in tag x d
+    counted : (right : Bool) (x : List ℕ) → right_value tag v ≡ right → pick right v [] ≡ x → w ≡ worse why again right → out
+        ≡ kept_in tag x d
         → taken w out ≡ one_taken names tag v (taken why d)
     unfolding one_taken taken
     counted right x r e f g =

@@ -25,7 +25,8 @@ module _ (x y : List ℕ) (i : ℕ) where
   unfolding begins
   both h k = rw (add-one, drop-cons x i 0, drop-cons y i 0)
 
-  one_on : i < length x → i < length y → get_or x i 0 ≡ get_or y i 0 → begins (drop i x) (drop i y) ≡ begins (drop (i + 1) x) (drop (i + 1) y)
+  one_on : i < length x → i < length y → get_or x i 0 ≡ get_or y i 0 → begins (drop i x) (drop i y)
+      ≡ begins (drop (i + 1) x) (drop (i + 1) y)
   one_on h k e = both h k ∙ ap (λ (t : Bool). t && begins (drop (i + 1) x) (drop (i + 1) y)) (eq-eqb _ _ e)
 
   differ : i < length x → i < length y → (get_or x i 0 ≡ get_or y i 0 → ⊥) → begins (drop i x) (drop i y) ≡ false

@@ -50,7 +50,8 @@ returns-then-any_times c =
     c.value-s.ensures
     ∙ ap (λ (x : List ℕ). between x a.start a.end) c.data_field.ensures
     in
-    let seen : Seen c.args.answer.now c.value-s.result.now c.value_of-p.result.now c.members-m.result.first c.members-m.result.second c.members-n.result.first =
+    let seen : Seen c.args.answer.now c.value-s.result.now c.value_of-p.result.now c.members-m.result.first c.members-m.result.second
+    c.members-n.result.first =
     let a = c.args in
     let aid = a.aid.now in
     let y = not-false _ c.if-not-m.false in
@@ -81,7 +82,8 @@ returns-then-is_wrong c =
     c.value-s.ensures
     ∙ ap (λ (x : List ℕ). between x a.start a.end) c.data_field.ensures
     in
-    let seen : Seen c.args.answer.now c.value-s.result.now c.value_of-p.result.now c.members-m.result.first c.members-m.result.second c.members-n.result.first =
+    let seen : Seen c.args.answer.now c.value-s.result.now c.value_of-p.result.now c.members-m.result.first c.members-m.result.second
+    c.members-n.result.first =
     let a = c.args in
     let aid = a.aid.now in
     let y = not-false _ c.if-not-m.false in
@@ -120,7 +122,8 @@ returns-then-any_times-2 c =
     c.value-s.ensures
     ∙ ap (λ (x : List ℕ). between x a.start a.end) c.data_field.ensures
     in
-    let seen : Seen c.args.answer.now c.value-s.result.now c.value_of-p.result.now c.members-m.result.first c.members-m.result.second c.members-n.result.first =
+    let seen : Seen c.args.answer.now c.value-s.result.now c.value_of-p.result.now c.members-m.result.first c.members-m.result.second
+    c.members-n.result.first =
     let a = c.args in
     let aid = a.aid.now in
     let y = not-false _ c.if-not-m.false in
@@ -167,7 +170,8 @@ returns-then-is_fillable c =
     c.value-s.ensures
     ∙ ap (λ (x : List ℕ). between x a.start a.end) c.data_field.ensures
     in
-    let seen : Seen c.args.answer.now c.value-s.result.now c.value_of-p.result.now c.members-m.result.first c.members-m.result.second c.members-n.result.first =
+    let seen : Seen c.args.answer.now c.value-s.result.now c.value_of-p.result.now c.members-m.result.first c.members-m.result.second
+    c.members-n.result.first =
     let a = c.args in
     let aid = a.aid.now in
     let y = not-false _ c.if-not-m.false in
@@ -223,7 +227,8 @@ returns-else-is_fillable c =
     c.value-s.ensures
     ∙ ap (λ (x : List ℕ). between x a.start a.end) c.data_field.ensures
     in
-    let seen : Seen c.args.answer.now c.value-s.result.now c.value_of-p.result.now c.members-m.result.first c.members-m.result.second c.members-n.result.first =
+    let seen : Seen c.args.answer.now c.value-s.result.now c.value_of-p.result.now c.members-m.result.first c.members-m.result.second
+    c.members-n.result.first =
     let a = c.args in
     let aid = a.aid.now in
     let y = not-false _ c.if-not-m.false in

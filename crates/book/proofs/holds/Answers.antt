@@ -19,7 +19,8 @@ loop-k-init c =
 pub returns-then-tape_in-tape : goal.returns-then-tape_in-tape
 unfolding stored
 returns-then-tape_in-tape c =
-    let stored_all : entered c.args.tape (entries_in c.least-n.result c.args.bytes.now) ≡ entered c.args.tape (stored c.args.used c.args.bytes.now) =
+    let stored_all : entered c.args.tape (entries_in c.least-n.result c.args.bytes.now)
+    ≡ entered c.args.tape (stored c.args.used c.args.bytes.now) =
     ap (λ (m : ℕ). entered c.args.tape (entries_in m c.args.bytes.now)) c.least-n.ensures
     in
     let told : c.tape_in.result ≡ tape_in (block_at c.loop-k.k c.args.bytes.now) =
@@ -45,7 +46,8 @@ loop-k-preserved c =
 pub returns : goal.returns
 unfolding stored
 returns c =
-    let stored_all : entered c.args.tape (entries_in c.least-n.result c.args.bytes.now) ≡ entered c.args.tape (stored c.args.used c.args.bytes.now) =
+    let stored_all : entered c.args.tape (entries_in c.least-n.result c.args.bytes.now)
+    ≡ entered c.args.tape (stored c.args.used c.args.bytes.now) =
     ap (λ (m : ℕ). entered c.args.tape (entries_in m c.args.bytes.now)) c.least-n.ensures
     in
     let a = c.args in

@@ -42,7 +42,8 @@ returns-then-code-ge-NO_NUMBER c =
     let placed : leb no_number (number_in (word_in (after_word (second)))) ≡ false =
     under _ _ (place) c.if-place-ge-NO_NUMBER.false
     in
-    c.nothing_said-then-code-ge-NO_NUMBER.ensures ∙ sym (pick_no _ _ _ (placed) ∙ pick_yes _ _ _ (over _ _ (code) c.if-code-ge-NO_NUMBER.true))
+    c.nothing_said-then-code-ge-NO_NUMBER.ensures ∙ sym
+    (pick_no _ _ _ (placed) ∙ pick_yes _ _ _ (over _ _ (code) c.if-code-ge-NO_NUMBER.true))
 
 pub returns-then-is_closed : goal.returns-then-is_closed
 unfolding fields_said

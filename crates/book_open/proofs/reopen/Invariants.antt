@@ -11,7 +11,8 @@ use Rattle.book_open.proofs.Blockwise.{onward}
 use Rattle.book_open.proofs.reopen.Given as goal
 
 abbrev pub invariant-loop-k : goal.invariant-loop-k
-invariant-loop-k l = (l.k ≤ length l.bytes / block_size) × (onward l.k l.bytes ≡ read_book l.bytes) × (l.book ≡ end_of (entries_in l.k l.bytes))
+invariant-loop-k l = (l.k ≤ length l.bytes / block_size) × (onward l.k l.bytes ≡ read_book l.bytes)
+    × (l.book ≡ end_of (entries_in l.k l.bytes))
 
 abbrev pub decreases-loop-k : goal.decreases-loop-k
 decreases-loop-k l = length l.bytes / block_size - l.k

@@ -20,4 +20,5 @@ returns-then-is_supported c =
 pub returns-else-is_supported : goal.returns-else-is_supported
 unfolding results_due
 returns-else-is_supported c =
-    sym (passed c.has_capabilities.ensures _ (ap not c.if-not-has_capabilities.false) ∙ failed c.is_supported.ensures _ c.if-is_supported.false)
+    sym (passed c.has_capabilities.ensures _ (ap not c.if-not-has_capabilities.false)
+    ∙ failed c.is_supported.ensures _ c.if-is_supported.false)

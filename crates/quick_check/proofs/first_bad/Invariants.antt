@@ -10,7 +10,8 @@ use Rattle.quick_check.proofs.first_bad.Given as goal
 
 abbrev pub invariant-loop-k : goal.invariant-loop-k
 invariant-loop-k l =
-    (l.k ≤ length l.tape / block_size) × (damage_said (read_from l.k l.due (drop (l.k * block_size) l.tape)) ≡ damage_said (read_from 0 l.due l.tape))
+    (l.k ≤ length l.tape / block_size) × (damage_said (read_from l.k l.due (drop (l.k * block_size) l.tape))
+    ≡ damage_said (read_from 0 l.due l.tape))
 
 abbrev pub decreases-loop-k : goal.decreases-loop-k
 decreases-loop-k l = length l.tape / block_size - l.k

@@ -41,8 +41,10 @@ pub returns-in-Directory : goal.returns-in-Directory
 unfolding command_at
 returns-in-Directory c =
     let a = c.args in
-    let both = asked_at (applications_in a.start.now) (list_in a.list.now) a.step a.buf.now _ _ (Directory c.in-Directory.file c.in-Directory.record)
-    (record_command c.in-Directory.record c.in-Directory.file) c.in-Directory.is refl (c.«record».ensures.size, c.«record».ensures.buffer) in
+    let both = asked_at (applications_in a.start.now) (list_in a.list.now) a.step a.buf.now _ _
+    (Directory c.in-Directory.file c.in-Directory.record)
+    (record_command c.in-Directory.record c.in-Directory.file) c.in-Directory.is refl
+    (c.«record».ensures.size, c.«record».ensures.buffer) in
     record { size = both.0; buffer = both.1 }
 
 pub returns-in-Listed : goal.returns-in-Listed
@@ -51,7 +53,8 @@ returns-in-Listed c =
     let a = c.args in
     let both = asked_at (applications_in a.start.now) (list_in a.list.now) a.step a.buf.now _ _ (Listed c.in-Listed.aid c.in-Listed.again)
     (select_by c.occurrence.result c.listed_aid.result.now) c.in-Listed.is
-    (ap₂ (λ (p : ℕ) (name : List ℕ). select_by p name) c.occurrence.ensures c.listed_aid.ensures) (c.select_name-in-Listed.ensures.size, c.select_name-in-Listed.ensures.buffer) in
+    (ap₂ (λ (p : ℕ) (name : List ℕ). select_by p name) c.occurrence.ensures c.listed_aid.ensures)
+    (c.select_name-in-Listed.ensures.size, c.select_name-in-Listed.ensures.buffer) in
     record { size = both.0; buffer = both.1 }
 
 pub returns-in-Final : goal.returns-in-Final
@@ -59,5 +62,6 @@ unfolding command_at
 returns-in-Final c =
     let a = c.args in
     let both = asked_at (applications_in a.start.now) (list_in a.list.now) a.step a.buf.now _ _ (Final c.in-Final.place _)
-    (select_by 0 c.name_at.result.now) c.in-Final.is (ap (select_by 0) c.name_at.ensures) (c.select_name-in-Final.ensures.size, c.select_name-in-Final.ensures.buffer) in
+    (select_by 0 c.name_at.result.now) c.in-Final.is (ap (select_by 0) c.name_at.ensures)
+    (c.select_name-in-Final.ensures.size, c.select_name-in-Final.ensures.buffer) in
     record { size = both.0; buffer = both.1 }

@@ -10,7 +10,8 @@ use native.Mathlib.Omega.{arith}
 use Rattle.slices.proofs.blank.Given as goal
 
 abbrev pub invariant-loop-i : goal.invariant-loop-i
-invariant-loop-i l = (l.i ≤ length l.initial.buf) × (length l.buf ≡ length l.initial.buf) × (l.buf ≡ replicate l.i l.b ++ drop l.i l.initial.buf)
+invariant-loop-i l = (l.i ≤ length l.initial.buf) × (length l.buf ≡ length l.initial.buf)
+    × (l.buf ≡ replicate l.i l.b ++ drop l.i l.initial.buf)
 
 abbrev pub decreases-loop-i : goal.decreases-loop-i
 decreases-loop-i l = length l.initial.buf - l.i

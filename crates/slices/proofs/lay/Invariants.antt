@@ -11,7 +11,8 @@ use Rattle.slices.proofs.Writing.{laid_short, laid_fits, put_pasted}
 use Rattle.slices.proofs.lay.Given as goal
 
 abbrev pub invariant-loop-i : goal.invariant-loop-i
-invariant-loop-i l = (l.i ≤ length l.s) × (l.at + length l.s ≤ length l.initial.buf) × (length l.buf ≡ length l.initial.buf) × (l.buf ≡ paste l.initial.buf l.at l.s l.i)
+invariant-loop-i l = (l.i ≤ length l.s) × (l.at + length l.s ≤ length l.initial.buf) × (length l.buf ≡ length l.initial.buf)
+    × (l.buf ≡ paste l.initial.buf l.at l.s l.i)
 
 abbrev pub decreases-loop-i : goal.decreases-loop-i
 decreases-loop-i l = length l.s - l.i

@@ -18,7 +18,8 @@ overflow_cast-d c = omega (arith, c.type_inv.s (c.args.i + 3))
 
 pub overflow_mul-result : goal.overflow_mul-result
 overflow_mul-result c =
-    let bytes : let at : ℕ → ℕ = λ k. get_or c.args.s.now k 0 in let i = c.args.i in (at i < 256) × (at (i + 1) < 256) × (at (i + 2) < 256) × (at (i + 3) < 256) =
+    let bytes : let at : ℕ → ℕ = λ k. get_or c.args.s.now k 0 in let i = c.args.i in (at i < 256) × (at (i + 1) < 256) × (at (i + 2) < 256)
+    × (at (i + 3) < 256) =
     let byte = c.type_inv.s in
     let i = c.args.i in
     ((byte i).fits, (byte (i + 1)).fits, (byte (i + 2)).fits, (byte (i + 3)).fits)
@@ -27,7 +28,8 @@ overflow_mul-result c =
 
 pub overflow_add-result : goal.overflow_add-result
 overflow_add-result c =
-    let bytes : let at : ℕ → ℕ = λ k. get_or c.args.s.now k 0 in let i = c.args.i in (at i < 256) × (at (i + 1) < 256) × (at (i + 2) < 256) × (at (i + 3) < 256) =
+    let bytes : let at : ℕ → ℕ = λ k. get_or c.args.s.now k 0 in let i = c.args.i in (at i < 256) × (at (i + 1) < 256) × (at (i + 2) < 256)
+    × (at (i + 3) < 256) =
     let byte = c.type_inv.s in
     let i = c.args.i in
     ((byte i).fits, (byte (i + 1)).fits, (byte (i + 2)).fits, (byte (i + 3)).fits)
@@ -36,7 +38,8 @@ overflow_add-result c =
 
 pub overflow_mul-result-2 : goal.overflow_mul-result-2
 overflow_mul-result-2 c =
-    let bytes : let at : ℕ → ℕ = λ k. get_or c.args.s.now k 0 in let i = c.args.i in (at i < 256) × (at (i + 1) < 256) × (at (i + 2) < 256) × (at (i + 3) < 256) =
+    let bytes : let at : ℕ → ℕ = λ k. get_or c.args.s.now k 0 in let i = c.args.i in (at i < 256) × (at (i + 1) < 256) × (at (i + 2) < 256)
+    × (at (i + 3) < 256) =
     let byte = c.type_inv.s in
     let i = c.args.i in
     ((byte i).fits, (byte (i + 1)).fits, (byte (i + 2)).fits, (byte (i + 3)).fits)
@@ -45,7 +48,8 @@ overflow_mul-result-2 c =
 
 pub overflow_add-result-2 : goal.overflow_add-result-2
 overflow_add-result-2 c =
-    let bytes : let at : ℕ → ℕ = λ k. get_or c.args.s.now k 0 in let i = c.args.i in (at i < 256) × (at (i + 1) < 256) × (at (i + 2) < 256) × (at (i + 3) < 256) =
+    let bytes : let at : ℕ → ℕ = λ k. get_or c.args.s.now k 0 in let i = c.args.i in (at i < 256) × (at (i + 1) < 256) × (at (i + 2) < 256)
+    × (at (i + 3) < 256) =
     let byte = c.type_inv.s in
     let i = c.args.i in
     ((byte i).fits, (byte (i + 1)).fits, (byte (i + 2)).fits, (byte (i + 3)).fits)
@@ -54,7 +58,8 @@ overflow_add-result-2 c =
 
 pub overflow_mul-result-3 : goal.overflow_mul-result-3
 overflow_mul-result-3 c =
-    let bytes : let at : ℕ → ℕ = λ k. get_or c.args.s.now k 0 in let i = c.args.i in (at i < 256) × (at (i + 1) < 256) × (at (i + 2) < 256) × (at (i + 3) < 256) =
+    let bytes : let at : ℕ → ℕ = λ k. get_or c.args.s.now k 0 in let i = c.args.i in (at i < 256) × (at (i + 1) < 256) × (at (i + 2) < 256)
+    × (at (i + 3) < 256) =
     let byte = c.type_inv.s in
     let i = c.args.i in
     ((byte i).fits, (byte (i + 1)).fits, (byte (i + 2)).fits, (byte (i + 3)).fits)
@@ -63,7 +68,8 @@ overflow_mul-result-3 c =
 
 pub overflow_add-result-3 : goal.overflow_add-result-3
 overflow_add-result-3 c =
-    let bytes : let at : ℕ → ℕ = λ k. get_or c.args.s.now k 0 in let i = c.args.i in (at i < 256) × (at (i + 1) < 256) × (at (i + 2) < 256) × (at (i + 3) < 256) =
+    let bytes : let at : ℕ → ℕ = λ k. get_or c.args.s.now k 0 in let i = c.args.i in (at i < 256) × (at (i + 1) < 256) × (at (i + 2) < 256)
+    × (at (i + 3) < 256) =
     let byte = c.type_inv.s in
     let i = c.args.i in
     ((byte i).fits, (byte (i + 1)).fits, (byte (i + 2)).fits, (byte (i + 3)).fits)

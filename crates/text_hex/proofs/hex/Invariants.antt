@@ -9,7 +9,8 @@ use Rattle.text_hex.proofs.hex.Given as goal
 
 abbrev pub invariant-loop-i : goal.invariant-loop-i
 invariant-loop-i l =
-    (l.i ≤ length l.src) × (2 * l.i ≤ length l.initial.dst) × (length l.dst ≡ length l.initial.dst) × (l.dst ≡ put (hexed (take l.i l.src)) 0 l.initial.dst)
+    (l.i ≤ length l.src) × (2 * l.i ≤ length l.initial.dst) × (length l.dst ≡ length l.initial.dst)
+    × (l.dst ≡ put (hexed (take l.i l.src)) 0 l.initial.dst)
 
 abbrev pub decreases-loop-i : goal.decreases-loop-i
 decreases-loop-i l = length l.src - l.i

@@ -12,13 +12,23 @@ pub returns-then-why-eq-REFUSED_WRITING : goal.returns-then-why-eq-REFUSED_WRITI
 unfolding refusal_of size_of
 returns-then-why-eq-REFUSED_WRITING c =
     let a = c.args in
-    let e = sym c.refusal-why.ensures ∙ c.if-why-eq-REFUSED_WRITING.true in record { refusal = sym e; size = sym (refused_size a.tag a.value.now a.buf.now 10 e (λ z. omega arith)); buffer = sym (refused_buffer_lem a.tag a.value.now a.buf.now 10 e (λ z. omega arith)) }
+    let e = sym c.refusal-why.ensures ∙ c.if-why-eq-REFUSED_WRITING.true in record {
+      refusal = sym e;
+      size = sym (refused_size a.tag a.value.now a.buf.now 10 e (λ z. omega arith));
+      buffer =
+          sym (refused_buffer_lem a.tag a.value.now a.buf.now 10 e (λ z. omega arith));
+    }
 
 pub returns-then-why-eq-REFUSED_SPACE : goal.returns-then-why-eq-REFUSED_SPACE
 unfolding refusal_of size_of
 returns-then-why-eq-REFUSED_SPACE c =
     let a = c.args in
-    let e = sym c.refusal-why.ensures ∙ c.if-why-eq-REFUSED_SPACE.true in record { refusal = sym e; size = sym (refused_size a.tag a.value.now a.buf.now 11 e (λ z. omega arith)); buffer = sym (refused_buffer_lem a.tag a.value.now a.buf.now 11 e (λ z. omega arith)) }
+    let e = sym c.refusal-why.ensures ∙ c.if-why-eq-REFUSED_SPACE.true in record {
+      refusal = sym e;
+      size = sym (refused_size a.tag a.value.now a.buf.now 11 e (λ z. omega arith));
+      buffer =
+          sym (refused_buffer_lem a.tag a.value.now a.buf.now 11 e (λ z. omega arith));
+    }
 
 pub lay_object-requires : goal.lay_object-requires
 lay_object-requires c =
@@ -43,4 +53,10 @@ returns c =
     (λ e. c.if-why-eq-REFUSED_SPACE.false (c.refusal-why.ensures ∙ e))
     in
     let a = c.args in
-    let ok = taken_on in record { refusal = sym ok.none_told; size = c.lay_object.ensures.size ∙ sym (accepted_size a.tag a.value.now a.buf.now ok.none_told); buffer = c.lay_object.ensures.buffer ∙ sym (accepted_buffer a.tag a.value.now a.buf.now ok.none_told) }
+    let ok = taken_on in record {
+      refusal = sym ok.none_told;
+      size = c.lay_object.ensures.size
+          ∙ sym (accepted_size a.tag a.value.now a.buf.now ok.none_told);
+      buffer = c.lay_object.ensures.buffer
+          ∙ sym (accepted_buffer a.tag a.value.now a.buf.now ok.none_told);
+    }

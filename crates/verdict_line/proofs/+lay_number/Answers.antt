@@ -32,5 +32,6 @@ overflow_add-result-2 t c =
 pub returns : goal.returns
 returns t c =
     let l = c.lay_number-end in
-    let both = large_laid c.args.text.now c.args.at c.args.n c.requires c.if-n-lt10.false l.new.text l.result l.ensures.place l.ensures.digits in
+    let both = large_laid c.args.text.now c.args.at c.args.n c.requires c.if-n-lt10.false l.new.text l.result l.ensures.place
+    l.ensures.digits in
     record { place = both.0; digits = both.1 }

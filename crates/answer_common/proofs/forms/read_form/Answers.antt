@@ -54,5 +54,6 @@ returns-else-tag-eq-JOINED c =
     in
     let a = c.args in
     c.value_in_checked.ensures
-    ∙ in_template a.from a.n a.name a.answer.now c.in-Object.tag c.in-Object.start c.in-Object.end (sym c.single_of.ensures ∙ c.in-Object.is)
+    ∙ in_template a.from a.n a.name a.answer.now c.in-Object.tag c.in-Object.start c.in-Object.end
+    (sym c.single_of.ensures ∙ c.in-Object.is)
     c.value-v.result.now (here) c.if-tag-eq-JOINED.false

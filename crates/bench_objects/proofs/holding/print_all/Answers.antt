@@ -6,5 +6,6 @@ use Rattle.bench_objects.proofs.holding.print_all.Goals as goal
 
 pub loop-at-smaller : goal.loop-at-smaller
 loop-at-smaller g c =
-    let ahead = next_ahead c.args.s.now c.loop-at.at c.in-Member.tag c.in-Member.start c.in-Member.end (sym c.next_from.ensures ∙ c.in-Member.is) in
+    let e = sym c.next_from.ensures ∙ c.in-Member.is in
+    let ahead = next_ahead c.args.s.now c.loop-at.at c.in-Member.tag c.in-Member.start c.in-Member.end e in
     omega arith

@@ -56,7 +56,8 @@ returns-then-turn c =
     let a = c.args in
     inside a.list.now c.loop-i.i (omega arith)
     in
-    let rule : let l = c.loop-i in let a = c.args in let x = c.limit-x.result in let y = c.limit-y.result in c.turn_of-turn.result ≡ turn_at a.c x y a.list.now a.results.now l.i l.bits =
+    let rule : let l = c.loop-i in let a = c.args in let x = c.limit-x.result in let y = c.limit-y.result in c.turn_of-turn.result
+    ≡ turn_at a.c x y a.list.now a.results.now l.i l.bits =
     let a = c.args in
     let x = c.limit-x.result in
     let y = c.limit-y.result in
@@ -77,7 +78,8 @@ loop-i-preserved c =
     let a = c.args in
     inside a.list.now c.loop-i.i (omega arith)
     in
-    let rule : let l = c.loop-i in let a = c.args in let x = c.limit-x.result in let y = c.limit-y.result in c.turn_of-turn.result ≡ turn_at a.c x y a.list.now a.results.now l.i l.bits =
+    let rule : let l = c.loop-i in let a = c.args in let x = c.limit-x.result in let y = c.limit-y.result in c.turn_of-turn.result
+    ≡ turn_at a.c x y a.list.now a.results.now l.i l.bits =
     let a = c.args in
     let x = c.limit-x.result in
     let y = c.limit-y.result in

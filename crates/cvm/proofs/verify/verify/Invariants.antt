@@ -9,7 +9,8 @@ use Rattle.cvm.proofs.verify.verify.Given as goal
 
 abbrev pub invariant-loop-i : goal.invariant-loop-i
 invariant-loop-i l =
-    (l.i ≤ l.count) × (l.count ≡ rules_in l.list) × (verified_from l.c l.x l.y l.bits (drop (8 + 2 * l.i) l.list) (drop l.i l.results) ≡ verified l.c l.list l.results)
+    (l.i ≤ l.count) × (l.count ≡ rules_in l.list) × (verified_from l.c l.x l.y l.bits (drop (8 + 2 * l.i) l.list) (drop l.i l.results)
+    ≡ verified l.c l.list l.results)
 
 abbrev pub decreases-loop-i : goal.decreases-loop-i
 decreases-loop-i l = l.count - l.i

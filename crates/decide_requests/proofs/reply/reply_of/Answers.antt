@@ -42,5 +42,7 @@ returns-else-zero_code c =
 pub returns-in_default : goal.returns-in_default
 unfolding said_by
 returns-in_default c =
-    let none' = pick_no _ _ _ (ne_eqb _ 1 c.in_default.in_default-own.rest.0.0.1) ∙ (pick_no _ _ _ (ne_eqb _ 2 c.in_default.in_default-own.rest.0.1) ∙ pick_no _ _ _ (ne_eqb _ 3 c.in_default.in_default-own.rest.1)) in
+    let none' = pick_no _ _ _ (ne_eqb _ 1 c.in_default.in_default-own.rest.0.0.1)
+    ∙ (pick_no _ _ _ (ne_eqb _ 2 c.in_default.in_default-own.rest.0.1)
+    ∙ pick_no _ _ _ (ne_eqb _ 3 c.in_default.in_default-own.rest.1)) in
     sym (three _ c.if-s-ne3.false (sym c.byte.ensures.0) ∙ none')

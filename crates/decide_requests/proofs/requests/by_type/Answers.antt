@@ -32,4 +32,5 @@ returns-else-online c = sym (ap₂ (λ (k : ℕ) (o : Bool). by_type k c.args.de
 pub returns-in_default : goal.returns-in_default
 unfolding by_type
 returns-in_default c =
-    sym (pick_no _ _ _ (ne_eqb _ 0 c.in_default.in_default-own.rest.0.0.1) ∙ (pick_no _ _ _ (ne_eqb _ 1 c.in_default.in_default-own.rest.0.1) ∙ pick_no _ _ _ (ne_eqb _ 2 c.in_default.in_default-own.rest.1)))
+    sym (pick_no _ _ _ (ne_eqb _ 0 c.in_default.in_default-own.rest.0.0.1)
+    ∙ (pick_no _ _ _ (ne_eqb _ 1 c.in_default.in_default-own.rest.0.1) ∙ pick_no _ _ _ (ne_eqb _ 2 c.in_default.in_default-own.rest.1)))

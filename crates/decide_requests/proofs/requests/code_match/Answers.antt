@@ -10,7 +10,8 @@ use Rattle.decide_requests.proofs.requests.code_match.Goals as goal
 
 pub returns-then-issuer_match : goal.returns-then-issuer_match
 unfolding code_match
-returns-then-issuer_match c = let i = c.issuer_match.ensures in c.if-issuer_match.true ∙ sym (meet_first _ _ _ (sym i ∙ c.if-issuer_match.true))
+returns-then-issuer_match c = let i = c.issuer_match.ensures in c.if-issuer_match.true
+    ∙ sym (meet_first _ _ _ (sym i ∙ c.if-issuer_match.true))
 
 pub returns-else-issuer_match : goal.returns-else-issuer_match
 unfolding code_match

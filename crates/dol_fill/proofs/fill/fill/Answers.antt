@@ -27,7 +27,9 @@ returns-then-n-gt-MOST c =
 
 pub returns-then-buf-at : goal.returns-then-buf-at
 returns-then-buf-at c =
-    let yes_all : (fillable c.args.list.now ≡ true) × (tally c.args.list.now ≡ total_of c.args.list.now) × (filling (reading_of c.args.start.now) (told_in c.args.known.now) c.args.list.now ≡ filled_list (reading_of c.args.start.now) (told_in c.args.known.now) c.args.list.now) =
+    let yes_all : (fillable c.args.list.now ≡ true) × (tally c.args.list.now ≡ total_of c.args.list.now)
+    × (filling (reading_of c.args.start.now) (told_in c.args.known.now) c.args.list.now
+    ≡ filled_list (reading_of c.args.start.now) (told_in c.args.known.now) c.args.list.now) =
     let a = c.args in
     let e = c.total-n.ensures.0 in
     filling_yes (reading_of a.start.now) (told_in a.known.now) a.list.now (omega arith)
@@ -41,7 +43,9 @@ returns-then-buf-at c =
 
 pub returns-then-buf-at-2 : goal.returns-then-buf-at-2
 returns-then-buf-at-2 c =
-    let yes_all : (fillable c.args.list.now ≡ true) × (tally c.args.list.now ≡ total_of c.args.list.now) × (filling (reading_of c.args.start.now) (told_in c.args.known.now) c.args.list.now ≡ filled_list (reading_of c.args.start.now) (told_in c.args.known.now) c.args.list.now) =
+    let yes_all : (fillable c.args.list.now ≡ true) × (tally c.args.list.now ≡ total_of c.args.list.now)
+    × (filling (reading_of c.args.start.now) (told_in c.args.known.now) c.args.list.now
+    ≡ filled_list (reading_of c.args.start.now) (told_in c.args.known.now) c.args.list.now) =
     let a = c.args in
     let e = c.total-n.ensures.0 in
     filling_yes (reading_of a.start.now) (told_in a.known.now) a.list.now (omega arith)
@@ -57,7 +61,9 @@ returns-then-buf-at-2 c =
 
 pub fill_all-requires : goal.fill_all-requires
 fill_all-requires c =
-    let yes_all : (fillable c.args.list.now ≡ true) × (tally c.args.list.now ≡ total_of c.args.list.now) × (filling (reading_of c.args.start.now) (told_in c.args.known.now) c.args.list.now ≡ filled_list (reading_of c.args.start.now) (told_in c.args.known.now) c.args.list.now) =
+    let yes_all : (fillable c.args.list.now ≡ true) × (tally c.args.list.now ≡ total_of c.args.list.now)
+    × (filling (reading_of c.args.start.now) (told_in c.args.known.now) c.args.list.now
+    ≡ filled_list (reading_of c.args.start.now) (told_in c.args.known.now) c.args.list.now) =
     let a = c.args in
     let e = c.total-n.ensures.0 in
     filling_yes (reading_of a.start.now) (told_in a.known.now) a.list.now (omega arith)
@@ -69,7 +75,9 @@ fill_all-requires c =
 
 pub returns : goal.returns
 returns c =
-    let yes_all : (fillable c.args.list.now ≡ true) × (tally c.args.list.now ≡ total_of c.args.list.now) × (filling (reading_of c.args.start.now) (told_in c.args.known.now) c.args.list.now ≡ filled_list (reading_of c.args.start.now) (told_in c.args.known.now) c.args.list.now) =
+    let yes_all : (fillable c.args.list.now ≡ true) × (tally c.args.list.now ≡ total_of c.args.list.now)
+    × (filling (reading_of c.args.start.now) (told_in c.args.known.now) c.args.list.now
+    ≡ filled_list (reading_of c.args.start.now) (told_in c.args.known.now) c.args.list.now) =
     let a = c.args in
     let e = c.total-n.ensures.0 in
     filling_yes (reading_of a.start.now) (told_in a.known.now) a.list.now (omega arith)

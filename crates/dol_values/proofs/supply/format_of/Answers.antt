@@ -70,4 +70,5 @@ returns-in_default c =
     let tag = c.args.tag in
     let rows = map (λ row. (row.0, row.1.1)) own_table ++ made_formats in
     c.format_told.ensures
-    ∙ sym (beside_append Unknown tag rows record_formats ∙ beside_none (beside Unknown tag record_formats) tag rows c.in_default.in_default-own.rest)
+    ∙ sym (beside_append Unknown tag rows record_formats
+    ∙ beside_none (beside Unknown tag record_formats) tag rows c.in_default.in_default-own.rest)

@@ -36,7 +36,8 @@ returns-then-not-is_allowed c =
     let bytes = bytes_each t (λ i h. omega (arith, c.type_inv.tape i)) in
     let small : args.zeros < 2 ^ 64 = omega (arith, c.well_formed) in
     let h = says Host (situation_in args.start.now args.told.now args.profile args.tvr args.tsi) in
-    let test = sym (c.is_allowed.ensures ∙ ap (word_allowed Host 0) c.payload_at-p.ensures) ∙ not-true _ (ap not c.if-not-is_allowed.true) in
+    let test = sym (c.is_allowed.ensures ∙ ap (word_allowed Host 0) c.payload_at-p.ensures)
+    ∙ not-true _ (ap not c.if-not-is_allowed.true) in
     c.fail.ensures
     ∙ heard_fails t bytes args.k args.zeros small h c.word-m.result c.word-m.ensures (not-false _ c.if-not-m.false) test
 
@@ -54,7 +55,8 @@ returns c =
     let bytes = bytes_each t (λ i h. omega (arith, c.type_inv.tape i)) in
     let small : args.zeros < 2 ^ 64 = omega (arith, c.well_formed) in
     let s = situation_in args.start.now args.told.now args.profile args.tvr args.tsi in
-    let test = sym (c.is_allowed.ensures ∙ ap (word_allowed Host 0) c.payload_at-p.ensures) ∙ not-false _ (ap not c.if-not-is_allowed.false) in
+    let test = sym (c.is_allowed.ensures ∙ ap (word_allowed Host 0) c.payload_at-p.ensures)
+    ∙ not-false _ (ap not c.if-not-is_allowed.false) in
     let reply = c.reply_made.ensures ∙ ap (λ (x : List ℕ). reply_made (reply_of x)) c.payload_at-p.ensures in
     let code = c.code_in.ensures ∙ ap code_in c.payload_at-p.ensures in
     c.second.ensures

@@ -19,7 +19,8 @@ from start profile told left k z t = found_from (read_on (situation_in start tol
 
 abbrev pub invariant-loop-names : goal.invariant-loop-names
 invariant-loop-names l =
-    (length l.told ≡ end) × (from l.start l.profile l.told (remaining l.afl l.c) l.k l.zeros l.tape ≡ from l.start l.profile (zeros end) (to_read l.afl) 5 l.zeros l.tape)
+    (length l.told ≡ end) × (from l.start l.profile l.told (remaining l.afl l.c) l.k l.zeros l.tape
+    ≡ from l.start l.profile (zeros end) (to_read l.afl) 5 l.zeros l.tape)
 
 abbrev pub decreases-loop-names : goal.decreases-loop-names
 decreases-loop-names l = length (remaining l.afl l.c)

@@ -17,7 +17,8 @@ use Rattle.quick_meet.proofs.meet.decided.Goals as goal
 
 -- the bytes that are due, written out one by one
 due_bytes : (outcome reason : ℕ) (tvr tsi : List ℕ) → length tvr ≡ 5 → length tsi ≡ 2
-    → outcome ∷ reason ∷ get_or tvr 0 0 ∷ get_or tvr 1 0 ∷ get_or tvr 2 0 ∷ get_or tvr 3 0 ∷ get_or tvr 4 0 ∷ get_or tsi 0 0 ∷ get_or tsi 1 0 ∷ []
+    → outcome ∷ reason ∷ get_or tvr 0 0 ∷ get_or tvr 1 0 ∷ get_or tvr 2 0 ∷ get_or tvr 3 0 ∷ get_or tvr 4 0 ∷ get_or tsi 0 0 ∷ get_or
+    tsi 1 0 ∷ []
     ≡ outcome ∷ reason ∷ (tvr ++ tsi)
 due_bytes outcome reason tvr tsi five two = ap (λ (l : List ℕ). outcome ∷ reason ∷ l) (nine_bytes tvr tsi five two)
 

@@ -102,7 +102,8 @@ pub loop-p-preserved : goal.loop-p-preserved
 loop-p-preserved c =
     let s = c.args.s.now in
     let l = c.loop-p in
-    sym (other s l.p c.in-Member.tag c.in-Member.start c.in-Member.end (sym c.next.ensures ∙ c.in-Member.is) c.if-tag-eq-ENTRY.false) ∙ l.invariant
+    sym (other s l.p c.in-Member.tag c.in-Member.start c.in-Member.end (sym c.next.ensures ∙ c.in-Member.is) c.if-tag-eq-ENTRY.false)
+    ∙ l.invariant
 
 pub returns : goal.returns
 returns c =

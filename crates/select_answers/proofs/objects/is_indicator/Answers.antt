@@ -13,7 +13,8 @@ use Rattle.select_answers.proofs.objects.is_indicator.Goals as goal
 pub returns-then-times_in_checked-eq0 : goal.returns-then-times_in_checked-eq0
 returns-then-times_in_checked-eq0 c =
     let s = c.args.s.now in
-    eq-eqb _ _ c.if-times_in_checked-eq0.true ∙ indicator_none (standing s 0x87) (sym c.times_in_checked.ensures ∙ c.if-times_in_checked-eq0.true)
+    eq-eqb _ _ c.if-times_in_checked-eq0.true ∙ indicator_none (standing s 0x87)
+    (sym c.times_in_checked.ensures ∙ c.if-times_in_checked-eq0.true)
 
 pub returns-else-times_in_checked-eq0 : goal.returns-else-times_in_checked-eq0
 returns-else-times_in_checked-eq0 c =

@@ -12,7 +12,8 @@ moved d from n = take n (drop from d)
 
 abbrev pub invariant-loop-i : goal.invariant-loop-i
 invariant-loop-i l =
-    (l.i ≤ l.n) × (l.at + l.by + l.n ≤ length l.initial.buf) × (length l.buf ≡ length l.initial.buf) × (l.buf ≡ paste l.initial.buf l.at (moved l.initial.buf (l.at + l.by) l.n) l.i)
+    (l.i ≤ l.n) × (l.at + l.by + l.n ≤ length l.initial.buf) × (length l.buf ≡ length l.initial.buf)
+    × (l.buf ≡ paste l.initial.buf l.at (moved l.initial.buf (l.at + l.by) l.n) l.i)
 
 abbrev pub decreases-loop-i : goal.decreases-loop-i
 decreases-loop-i l = l.n - l.i

@@ -12,7 +12,8 @@ moved d at n = take n (drop at d)
 
 abbrev pub invariant-loop-i : goal.invariant-loop-i
 invariant-loop-i l =
-    (l.i ≤ l.n) × (l.at + l.by + l.n ≤ length l.initial.buf) × (length l.buf ≡ length l.initial.buf) × (l.buf ≡ put (drop l.i (moved l.initial.buf l.at l.n)) (l.at + l.by + l.i) l.initial.buf)
+    (l.i ≤ l.n) × (l.at + l.by + l.n ≤ length l.initial.buf) × (length l.buf ≡ length l.initial.buf)
+    × (l.buf ≡ put (drop l.i (moved l.initial.buf l.at l.n)) (l.at + l.by + l.i) l.initial.buf)
 
 abbrev pub decreases-loop-i : goal.decreases-loop-i
 decreases-loop-i l = l.i

@@ -15,7 +15,8 @@ returns-then-not-has_status c = sym (refused c.has_status.ensures _ (ap not c.if
 pub returns-then-not-is_application : goal.returns-then-not-is_application
 unfolding selected
 returns-then-not-is_application c =
-    sym (passed c.has_status.ensures _ (ap not c.if-not-has_status.false) ∙ refused c.is_application.ensures _ (ap not c.if-not-is_application.true))
+    sym (passed c.has_status.ensures _ (ap not c.if-not-has_status.false)
+    ∙ refused c.is_application.ensures _ (ap not c.if-not-is_application.true))
 
 pub returns : goal.returns
 unfolding selected

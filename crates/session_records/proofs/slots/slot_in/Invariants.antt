@@ -13,7 +13,8 @@ abbrev pub from : ℕ → ℕ → List ℕ → Slot
 from tag at names = beside nowhere tag (placed at (rooms_of names))
 
 abbrev pub invariant-loop-i : goal.invariant-loop-i
-invariant-loop-i l = (l.at + total (rooms_of (drop l.i l.names)) ≤ end) × (from l.tag l.at (drop l.i l.names) ≡ from l.tag told_from l.names)
+invariant-loop-i l = (l.at + total (rooms_of (drop l.i l.names)) ≤ end)
+    × (from l.tag l.at (drop l.i l.names) ≡ from l.tag told_from l.names)
 
 abbrev pub decreases-loop-i : goal.decreases-loop-i
 decreases-loop-i l = length l.names - l.i

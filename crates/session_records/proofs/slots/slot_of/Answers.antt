@@ -33,7 +33,8 @@ returns-in_default c =
       e.0
           ∙ sym (pick_no _ _ _ (ne_eqb tag 0x95 c.in_default.in_default-own.rest.0.0.0.1)
           ∙ (pick_no _ _ _ (ne_eqb tag 0x9B c.in_default.in_default-own.rest.0.0.1)
-          ∙ (pick_no _ _ _ (ne_eqb tag 0x8A c.in_default.in_default-own.rest.0.1) ∙ pick_no _ _ _ (ne_eqb tag 0x82 c.in_default.in_default-own.rest.1)))),
+          ∙ (pick_no _ _ _ (ne_eqb tag 0x8A c.in_default.in_default-own.rest.0.1)
+          ∙ pick_no _ _ _ (ne_eqb tag 0x82 c.in_default.in_default-own.rest.1)))),
       e.1,
       e.2,
     )

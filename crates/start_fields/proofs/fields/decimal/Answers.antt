@@ -13,7 +13,8 @@ use Rattle.decimal_dates.specs.Decimal.{two_digits, decimal_from, decimal}
 use Rattle.start_fields.proofs.fields.decimal.Goals as goal
 
 -- one byte more
-turn : (s : List ℕ) (n i : ℕ) → i < length s → decimal_from n (drop i s) ≡ decimal_from (n * 100 + two_digits (get_or s i 0)) (drop (i + 1) s)
+turn : (s : List ℕ) (n i : ℕ) → i < length s → decimal_from n (drop i s)
+    ≡ decimal_from (n * 100 + two_digits (get_or s i 0)) (drop (i + 1) s)
 unfolding decimal_from
 turn s n i h = rw (add-one, drop-cons s i 0)
 

@@ -16,4 +16,5 @@ returns-then-n-eq-LENGTH c =
 
 pub returns-else-n-eq-LENGTH : goal.returns-else-n-eq-LENGTH
 unfolding is_length
-returns-else-n-eq-LENGTH c = let n = c.args.n in sym (ap (λ (t : Bool). t || eqb n full_length) (ne_eqb n start_length c.if-n-eq-LENGTH.false))
+returns-else-n-eq-LENGTH c = let n = c.args.n in sym
+    (ap (λ (t : Bool). t || eqb n full_length) (ne_eqb n start_length c.if-n-eq-LENGTH.false))

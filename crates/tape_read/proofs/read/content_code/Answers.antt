@@ -9,7 +9,8 @@ use borrow.Author.Tests.{eq-eqb, ne_eqb, lt-ltb, le-ltb}
 use Rattle.tape_crc.specs.Check.{covered}
 use Rattle.numbers.specs.Tables.{is_kind}
 use Rattle.tape_read.specs.Entries.{payload_most}
-use Rattle.tape_read.specs.Blocks.{window, spare_in, length_in, payload_at, all_zero, padding_in, kind_bad, spare_bad, length_bad, padding_bad}
+use Rattle.tape_read.specs.Blocks.{window, spare_in, length_in, payload_at, all_zero}
+use Rattle.tape_read.specs.Blocks.{padding_in, kind_bad, spare_bad, length_bad, padding_bad}
 use Rattle.tape_read.proofs.Windows.{byte_field}
 use Rattle.tape_read.proofs.Codes.{content_kind, content_spare, content_length, content_padding, content_good}
 use Rattle.tape_read.proofs.read.content_code.Goals as goal

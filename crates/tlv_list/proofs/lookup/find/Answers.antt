@@ -9,7 +9,8 @@ use Rattle.tlv_list.proofs.lookup.find.Goals as goal
 
 pub returns-then-list_refusal-eq-REFUSED_READING : goal.returns-then-list_refusal-eq-REFUSED_READING
 unfolding seek
-returns-then-list_refusal-eq-REFUSED_READING c = sym (pick_yes _ _ _ (eq-eqb _ _ (sym c.list_refusal.ensures ∙ c.if-list_refusal-eq-REFUSED_READING.true)))
+returns-then-list_refusal-eq-REFUSED_READING c = sym
+    (pick_yes _ _ _ (eq-eqb _ _ (sym c.list_refusal.ensures ∙ c.if-list_refusal-eq-REFUSED_READING.true)))
 
 pub returns : goal.returns
 unfolding seek

@@ -115,7 +115,8 @@ loop-p-preserved c =
     let a = c.args in
     let s = a.s.now in
     let i = l.invariant in
-    let m = on_member s l.p c.if-s-gt4096.false c.in-Member.tag c.in-Member.start c.in-Member.end (sym c.next_checked.ensures ∙ c.in-Member.is) in
+    let m = on_member s l.p c.if-s-gt4096.false c.in-Member.tag c.in-Member.start c.in-Member.end
+    (sym c.next_checked.ensures ∙ c.in-Member.is) in
     record {
       list = sym m.1 ∙ i.list;
       one = goes s l.p a.a c.in-Member.tag c.in-Member.start c.in-Member.end l.first _ m.0 c.noted-first.ensures i.one;
