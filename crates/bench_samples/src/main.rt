@@ -8,11 +8,16 @@
 //     SILENCE
 //     JUDGE          the verdict of the file is printed
 //     SAME name      whether the file holds the same bytes as the one of this name: `same`, `other`, or `unread`
+#![tactic(auto)]
+
 use judge_reading::{Judged, judge_file};
 use kernel::Session;
-use libc::STDOUT_FILENO;
-use playing::{NONE, answer};
+use playing::answer;
 use slices::{alike, part};
+use std::fs::OpenFile;
+use std::io::{ErrorKind, Read, Write};
+use std::rt::Files;
+use std::{fs, io};
 use tape_read::{BLOCK, TAPE};
 use tape_write::Writer;
 use text_input::{Filled, Line, fill, read_line};
@@ -23,56 +28,68 @@ use verdict_line::{LONGEST as LINE, line as line_of};
 // The session number of the samples' tapes.
 const NUMBER: u32 = 7;
 
-// A session, the writer of its tape, and the tape's file; whether there is a next line.
-#[derive(Clone, Copy)]
-struct Played {
+// The file of the session's tape.
+const STORED: &str = "stored.tape";
+
+// A session, the writer of its tape, and the tape's file, where there is one; whether there is a next line.
+#[derive(Drop)]
+struct Played<F> {
     session: Session,
     writer: Writer,
-    file: i32,
+    file: Option<F>,
     goes_on: bool,
 }
 
-fn main() {
+fn main(rt: HostRuntime) -> io::Result<()> {
     let mut line = [0u8; 8200];
     let mut tape = [0u8; TAPE];
-    play_all(&mut line, &mut tape);
+    play_all(&rt, &mut line, &mut tape)
 }
 
 // Lines are counted down from more than there can be, since nothing says that the input ends.
-fn play_all(line: &mut [u8], tape: &mut [u8]) {
-    let mut played = begin(NONE);
+fn play_all<R: Input + Print + Eprint + Files>(
+    rt: &R,
+    line: &mut [u8],
+    tape: &mut [u8],
+) -> io::Result<()> {
+    let none: Option<R::File> = None;
+    let mut played = begin(none);
     let mut left: usize = 1_000_000;
     while 0 < left {
-        let then = next(played, line, tape);
+        let then = next(rt, played, line, tape)?;
         if !then.goes_on {
-            return;
+            return Ok(());
         }
         played = then;
         left -= 1;
     }
+    Ok(())
 }
 
 // Reads a line and does what it says. A line that is too long ends the input.
-fn next(played: Played, line: &mut [u8], tape: &mut [u8]) -> Played {
-    match read_line(line) {
-        Line::Whole(n) => after(played, part(line, 0, n), tape),
-        Line::Long => ended(played),
-        Line::End => ended(played),
+fn next<R: Input + Print + Eprint + Files>(
+    rt: &R,
+    played: Played<R::File>,
+    line: &mut [u8],
+    tape: &mut [u8],
+) -> io::Result<Played<R::File>> {
+    match read_line(rt, line) {
+        Line::Whole(n) => after(rt, played, part(line, 0, n), tape),
+        Line::Long => Ok(ended(played)),
+        Line::End => Ok(ended(played)),
     }
 }
 
-fn ended(played: Played) -> Played {
-    let session = played.session;
-    let writer = played.writer;
+fn ended<F>(played: Played<F>) -> Played<F> {
     Played {
-        session,
-        writer,
+        session: played.session,
+        writer: played.writer,
         file: played.file,
         goes_on: false,
     }
 }
 
-fn begin(file: i32) -> Played {
+fn begin<F>(file: Option<F>) -> Played<F> {
     Played {
         session: Session::fresh(),
         writer: Writer::new(NUMBER),
@@ -82,96 +99,123 @@ fn begin(file: i32) -> Played {
 }
 
 // Any other line than SESSION, JUDGE and SAME is a call.
-fn after(played: Played, line: &[u8], tape: &mut [u8]) -> Played {
+fn after<R: Print + Eprint + Files>(
+    rt: &R,
+    played: Played<R::File>,
+    line: &[u8],
+    tape: &mut [u8],
+) -> io::Result<Played<R::File>> {
     let word = part(line, 0, word_end(line, 0));
     if alike(word, b"SESSION") {
-        return begin(opened(played.file));
+        return Ok(begin(opened(rt, played.file)));
     }
     if alike(word, b"JUDGE") {
-        return judged(played);
+        return judged(rt, played);
     }
     if alike(word, b"SAME") {
-        return hold_against(played, after_word(line));
+        return hold_against(rt, played, after_word(line));
     }
-    call(played, line, tape)
+    Ok(call(rt, played, line, tape))
 }
 
 // The tape's file, begun anew.
-fn opened(before: i32) -> i32 {
-    if 0 <= before {
-        libc::close(before);
-    }
-    os::open_overwrite(b"stored.tape")
+fn opened<R: Files>(rt: &R, before: Option<R::File>) -> Option<R::File> {
+    drop(before);
+    fs::create(rt, STORED).ok()
 }
 
-fn call(played: Played, line: &[u8], tape: &mut [u8]) -> Played {
-    let session = played.session;
-    let writer = played.writer;
-    let file = played.file;
-    let turn = answer(session, writer, file, line, tape);
-    let then = turn.session;
-    let further = turn.writer;
+fn call<F: Write + OpenFile>(
+    rt: &(impl Print + Eprint),
+    played: Played<F>,
+    line: &[u8],
+    tape: &mut [u8],
+) -> Played<F> {
+    let mut file = played.file;
+    let turn = answer(rt, played.session, played.writer, &mut file, line, tape);
     Played {
-        session: then,
-        writer: further,
+        session: turn.session,
+        writer: turn.writer,
         file,
         goes_on: turn.goes_on,
     }
 }
 
-fn judged(played: Played) -> Played {
-    let stored = os::open_read(b"stored.tape");
-    match judge_file(stored) {
-        Judged::Found(found) => tell(found),
-        Judged::Failed => say(b"unread\n"),
+fn judged<R: Print + Files>(rt: &R, played: Played<R::File>) -> io::Result<Played<R::File>> {
+    match judge_stored(rt) {
+        Ok(Judged::Found(found)) => tell(rt, found)?,
+        Ok(Judged::Failed(_)) => say(rt, b"unread\n")?,
+        Err(_) => say(rt, b"unread\n")?,
     }
-    libc::close(stored);
-    played
+    Ok(played)
 }
 
-fn tell(found: Finding) {
+// An error is one of opening the file.
+fn judge_stored(rt: &impl Files) -> io::Result<Judged> {
+    let mut stored = fs::open(rt, STORED)?;
+    Ok(judge_file(&mut stored))
+}
+
+fn tell(rt: &impl Print, found: Finding) -> io::Result<()> {
     let mut out = [0u8; LINE];
     let n = line_of(found, &mut out);
-    say(part(&out, 0, n));
+    say(rt, part(&out, 0, n))
 }
 
-fn say(text: &[u8]) {
-    io::write_all(STDOUT_FILENO, text);
+fn say(rt: &impl Print, text: &[u8]) -> io::Result<()> {
+    rt.write_all(text)
 }
 
-fn hold_against(played: Played, name: &[u8]) -> Played {
-    let stored = os::open_read(b"stored.tape");
-    let other = os::open_read(name);
-    hold(stored, other);
-    libc::close(stored);
-    libc::close(other);
-    played
+fn hold_against<R: Print + Files>(
+    rt: &R,
+    played: Played<R::File>,
+    name: &[u8],
+) -> io::Result<Played<R::File>> {
+    match open_both(rt, name) {
+        Ok((mut stored, mut other)) => hold(rt, &mut stored, &mut other)?,
+        Err(_) => say(rt, b"unread\n")?,
+    }
+    Ok(played)
+}
+
+fn open_both<R: Files>(rt: &R, name: &[u8]) -> io::Result<(R::File, R::File)> {
+    let stored = fs::open(rt, STORED)?;
+    let other = open(rt, name)?;
+    Ok((stored, other))
+}
+
+// A name that is no text names no file that can be opened.
+fn open<R: Files>(rt: &R, name: &[u8]) -> io::Result<R::File> {
+    match str::from_utf8(name) {
+        Ok(name) => fs::open(rt, name),
+        Err(_) => Err(io::Error::from(ErrorKind::InvalidFilename)),
+    }
 }
 
 // Blocks are counted down from more than a tape can have.
-fn hold(stored: i32, other: i32) {
+fn hold(rt: &impl Print, stored: &mut impl Read, other: &mut impl Read) -> io::Result<()> {
     let mut left: usize = 10_000;
     while 0 < left {
-        if !hold_next(stored, other) {
-            return;
+        if !hold_next(rt, stored, other)? {
+            return Ok(());
         }
         left -= 1;
     }
+    Ok(())
 }
 
 // Whether more may follow; where not, what was found is said.
-fn hold_next(stored: i32, other: i32) -> bool {
+fn hold_next(rt: &impl Print, stored: &mut impl Read, other: &mut impl Read) -> io::Result<bool> {
     match compare(stored, other) {
-        Held::Same => true,
-        Held::Ended => last(b"same\n"),
-        Held::Other => last(b"other\n"),
-        Held::Unread => last(b"unread\n"),
+        Held::Same => Ok(true),
+        Held::Ended => last(rt, b"same\n"),
+        Held::Other => last(rt, b"other\n"),
+        Held::Unread => last(rt, b"unread\n"),
     }
 }
 
-fn last(text: &[u8]) -> bool {
-    say(text);
-    false
+fn last(rt: &impl Print, text: &[u8]) -> io::Result<bool> {
+    say(rt, text)?;
+    Ok(false)
 }
 
 // The next block of each: the same, and more may follow; the same, and the last; not the same.
@@ -183,15 +227,15 @@ enum Held {
     Unread,
 }
 
-fn compare(stored: i32, other: i32) -> Held {
+fn compare(stored: &mut impl Read, other: &mut impl Read) -> Held {
     let mut one = [0u8; BLOCK];
     let mut two = [0u8; BLOCK];
     match fill(stored, &mut one) {
         Filled::Bytes(n) => match fill(other, &mut two) {
             Filled::Bytes(m) => weigh(part(&one, 0, n), part(&two, 0, m)),
-            Filled::Failed => Held::Unread,
+            Filled::Failed(_) => Held::Unread,
         },
-        Filled::Failed => Held::Unread,
+        Filled::Failed(_) => Held::Unread,
     }
 }
 

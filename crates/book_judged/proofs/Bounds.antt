@@ -19,7 +19,8 @@ use Rattle.tape_read.proofs.Steps.{tape_long, tape_ragged, tape_blocks}
 abbrev pub code_most : ℕ
 code_most = 9
 
-first_most : (t : Bool) (k : ℕ) (lines : List (Bool × ℕ)) → k ≤ code_most → first_of lines ≤ code_most → first_of ((t, k) ∷ lines) ≤ code_most
+first_most : (t : Bool) (k : ℕ) (lines : List (Bool × ℕ)) → k ≤ code_most → first_of lines ≤ code_most
+    → first_of ((t, k) ∷ lines) ≤ code_most
 unfolding first_of
 first_most t k lines a b = picked (λ n. n ≤ code_most) t k (first_of lines) (λ y. a) (λ n. b)
 

@@ -61,7 +61,8 @@ pub record Kernel : Type 0 where
       → (line : ℕ) × ((n ≡ get_or (numbers_of s c) line 0) × FirstLine (table_of s c) line)
   pub word : (s : Session) (c : Call) (word : Word) → (made s c).reply ≡ Refused (word_refusal word)
       → WrongWord word s.state.waiting c.event
-  pub line : (s : Session) (c : Call) (line : ℕ) → FirstLine (table_of s c) line → (made s c).reply ≡ Refused (get_or (numbers_of s c) line 0)
+  pub line : (s : Session) (c : Call) (line : ℕ) → FirstLine (table_of s c) line → (made s c).reply
+      ≡ Refused (get_or (numbers_of s c) line 0)
   pub free : (s : Session) (c : Call) → NoLine (table_of s c) → (n : ℕ) → (made s c).reply ≡ Refused n → ⊥
   pub taken : (s : Session) (c : Call) → ((n : ℕ) → (made s c).reply ≡ Refused n → ⊥) → NoLine (table_of s c)
 

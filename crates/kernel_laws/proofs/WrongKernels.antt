@@ -67,7 +67,8 @@ pub not_all_aac : ((es : List Entry) → (kernel es).kind ≡ command → get_or
 not_all_aac = not_always_aac kernel (right (zeros longest) room)
 
 -- its commands do not all stand in one buffer that nobody writes
-pub not_unwritten : (buffer : List ℕ) → ((es : List Entry) → (kernel es).kind ≡ command → (n : ℕ) × ((kernel es).payload ≡ take n buffer)) → ⊥
+pub not_unwritten : (buffer : List ℕ) → ((es : List Entry) → (kernel es).kind ≡ command → (n : ℕ)
+    × ((kernel es).payload ≡ take n buffer)) → ⊥
 not_unwritten = not_idle kernel (right (zeros longest) room)
 
 -- it does not settle all at START: wherever two sessions of the rulebook part, it parts too. There are such places at each command
@@ -123,7 +124,8 @@ also_room = let size = zeros_length 260 in omega arith
 
 -- it writes the command into the buffer: SELECT stands there after START
 pub not_left_alone : ((s : Session) (c : Call) → (made s c).buffer ≡ c.buffer) → ⊥
-unfolding made fresh_session fresh state_at accepted opened after due_kind Gives command_of select_command speaker_of kind_of taken_by allowed
+unfolding made fresh_session fresh state_at accepted opened after due_kind Gives command_of select_command speaker_of kind_of
+    taken_by allowed
 not_left_alone wrong =
     let e = entry (due_kind terminal) begin in
     let free = word_free fresh_session lent also_room Terminal refl begin valid in

@@ -173,7 +173,8 @@ module _ (used : ℕ) (e : Entry) (t : List ℕ) where
       call_taken used e [] t none (room_there 1 used t blocks bytes) ∙ sym (not_refused used e t kind fits (omega arith) (omega arith)))
       (λ short.
       let bytes : length t < (used + 1) * block_size = leb-false _ _ short in
-      call_full used e [] t none (room_last 1 used t blocks ∙ short) ∙ sym (refused_room_lem used e t kind fits (omega arith) (omega arith))))
+      call_full used e [] t none (room_last 1 used t blocks ∙ short)
+      ∙ sym (refused_room_lem used e t kind fits (omega arith) (omega arith))))
       (λ many.
       let blocks : blocks_most < used + 1 = leb-false _ _ many in
       call_full used e [] t none (room_none 1 used t blocks) ∙ sym (refused_blocks used e t kind fits (omega arith)))

@@ -31,7 +31,8 @@ all_bytes_lem (p ∷ ps) b = (b.0, all_bytes_lem ps b.1)
 pub both : {a b : Lent} → a ≡ b → (a.next ≡ b.next) × (a.buffer ≡ b.buffer)
 both h = (ap (λ (x : Lent). x.next) h, ap (λ (x : Lent). x.buffer) h)
 
-module _ (t : List ℕ) (u : UnderWay) (same : u ≡ fed_all begun (pieces_of t)) (d : Damage) (why : d ≡ damage_of u.reader) (out : List ℕ) where
+module _ (t : List ℕ) (u : UnderWay) (same : u ≡ fed_all begun (pieces_of t)) (d : Damage) (why : d ≡ damage_of u.reader)
+    (out : List ℕ) where
   abbrev got : List Entry
   got = entries_read unread (pieces_of t)
 

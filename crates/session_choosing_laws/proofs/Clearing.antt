@@ -30,7 +30,8 @@ use Rattle.session_choosing.specs.Events.{choosing_in, begins, start_later, word
 module _ (s : State) (l : List Candidate) (p buf : List ℕ) (even : Even s) where
   -- TVR and TSI as they are
   found_keeps : (f : Found) (left : List Candidate) → Keeps s (moved_later (following (choosing_in s l) f) s left buf).state
-  unfolding following choosing_in moved_later beside asking offering waits_at with_stand changed moved standing tvr_of tsi_of situation_of early
+  unfolding following choosing_in moved_later beside asking offering waits_at with_stand changed moved standing tvr_of tsi_of
+      situation_of early
       situation_with
   found_keeps (search.asks z) left = record { tvr = joined_self s.tvr; tsi = joined_self s.tsi }
   found_keeps (search.shows z) left = record { tvr = joined_self s.tvr; tsi = joined_self s.tsi }

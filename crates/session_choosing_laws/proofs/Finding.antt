@@ -96,7 +96,8 @@ module _ (s : State) (l left : List Candidate) (buf : List ℕ) (σ : Machine) (
       → next rules σ e ≡ some (at (hears (HeardLater.new (further z (choosing_in s l)))))
       → Follows σ e (hears (HeardLater.new (further z (choosing_in s l)))) buf
       (moved_later (hears (HeardLater.new (further z' (choosing_in s l)))) s left buf)
-  unfolding moved_later beside offering waits_at further choosing_in kept_later speaker_later tvr_later tsi_later Knows reply_later buffer_later
+  unfolding moved_later beside offering waits_at further choosing_in kept_later speaker_later tvr_later tsi_later Knows reply_later
+      buffer_later
       unsupplied_later unsupplied_asking_later kind_later with_stand changed early situation_with
   shows_follows z z' same few n =
       let lists = lists_next z z' same in
@@ -128,7 +129,8 @@ module _ (s : State) (l left : List Candidate) (buf : List ℕ) (σ : Machine) (
   was_fits p h n = was_follows σ e p buf (moved p s buf) left n (fits_stands p s h) refl refl refl
 
   options_fit : (list : List ℕ) → Fits (asks (optioning (early s) list)) s
-  unfolding Fits Today.Knows Today.forgets standing changed kept_as question_of tvr_of tsi_of situation_of cursor_after cursor_asking asked_by
+  unfolding Fits Today.Knows Today.forgets standing changed kept_as question_of tvr_of tsi_of situation_of cursor_after
+      cursor_asking asked_by
       early situation_with
   options_fit list = refl
 

@@ -62,8 +62,10 @@ module _ (p : List ℕ) (y : is_listing p ≡ true) where
 
   pub listing_follows : (buf : List ℕ) (σ : Machine) (e : Entry) → next rules σ e ≡ some (at (asks (AskedLater.new (listed p))))
       → Follows σ e (asks (AskedLater.new (listed p))) buf (begins p buf)
-  unfolding begins moved_later beside asking waits_at listed search.begun search.asked search.command_at kept_later tvr_later tsi_later Knows
-      reply_later buffer_later unsupplied_later unsupplied_asking_later command_later with_stand changed begun_listing state_at early situation_with begun
+  unfolding begins moved_later beside asking waits_at listed search.begun search.asked search.command_at kept_later tvr_later
+      tsi_later Knows
+      reply_later buffer_later unsupplied_later unsupplied_asking_later command_later with_stand changed begun_listing state_at early
+      situation_with begun
   listing_follows buf σ e n =
       record {
         taken = n;

@@ -151,7 +151,8 @@ module _ (s : State) (l : List Candidate) (a buf : List ℕ) (ok : is_payload a 
 
 -- ---- somebody else's word
 -- a choice that is allowed and not 'FF' is one of those shown
-place_shown : (l : List Candidate) (p : List ℕ) → is_choice (shown_of l) p ≡ true → eqb (get_or p 0 0) 0xFF ≡ false → get_or p 0 0 < most_shown
+place_shown : (l : List Candidate) (p : List ℕ) → is_choice (shown_of l) p ≡ true → eqb (get_or p 0 0) 0xFF ≡ false
+    → get_or p 0 0 < most_shown
 unfolding shown_of
 place_shown l p fits n =
     let one = choice_length (shown_of l) p fits in
@@ -233,7 +234,8 @@ module _ (s : State) (l : List Candidate) (p buf : List ℕ) (ok : is_payload p 
   word_step_lem (HeardLater.was (says word z)) stands fits =
       subst (Follows (at (hears (HeardLater.was (says word z)))) (entry (due_kind (says word z)) p) (as_was (after (says word z) p)) buf)
       (sym (ap (λ (x : Waiting). later_at x s l p buf) stands.waits))
-      (carried (at (hears (HeardLater.was (says word z)))) (entry (due_kind (says word z)) p) (after (says word z) p) buf (step s p buf) l _ _
+      (carried (at (hears (HeardLater.was (says word z)))) (entry (due_kind (says word z)) p) (after (says word z) p) buf
+      (step s p buf) l _ _
       (takes_heard rules (HeardLater.was (says word z)) p fits ok)
       (today.word_step_lem s (says word z) p buf (hears_before s l (says word z) stands) fits ok))
   word_step_lem (HeardLater.new x) stands fits =

@@ -1,5 +1,5 @@
--- `read_full` meets its contract: no read brings more than there is room for. It ends, since each read that goes on brings at least one byte.
--- Assumes nothing.
+-- `read_full` meets its contract: no read brings more than there is room for. It ends, since each read that goes on brings at least one
+-- byte. Assumes nothing.
 use Rattle.std.proofs.Common.{length, ◌-◌, ◌≤◌, ◌≡◌}
 use Rattle.text_input.proofs.read_full.Given as goal
 
