@@ -8,7 +8,7 @@ use Rattle.rulebook.specs.Situation.{Situation}
 use Rattle.rulebook.specs.Phase.{terminal, says, asks, hears, decides}
 use Rattle.rulebook.specs.Machine.{Machine, at, owes, done}
 use Rattle.rulebook.specs.Later.{AskedLater, HeardLater, Added, as_was, Earlier}
-use Rattle.verdict_under.specs.Progress as Any
+use Rattle.verdict_under.specs.Progress as ProgressUnder
 use Rattle.verdict_judged.specs.Progress.{Progress, reached, closed, broken}
 
 module _ (A H : Type 0) where
@@ -17,7 +17,7 @@ module _ (A H : Type 0) where
   MachineLater = Under.Machine (AskedLater A) (HeardLater H) Situation
 
   abbrev pub ProgressLater : Type 0
-  ProgressLater = Any.Progress (AskedLater A) (HeardLater H) Situation
+  ProgressLater = ProgressUnder.Progress (AskedLater A) (HeardLater H) Situation
 
 module _ {A H : Type 0} where
   unfoldable pub was_state : Machine → MachineLater A H
