@@ -1,7 +1,7 @@
 // The verdict of the tape on standard input, in one line: verdict, place, code, and the number of list entries filled with zeros. It is
 // read by `judge_reading`: a block at a time, to its end.
 // Where it cannot be read there is no verdict: nothing goes to standard output, and standard error says why. Where the line cannot be
-// written, standard error says so: a program has no exit status here, and a verdict that is lost must not look like one that nobody
+// written, standard error says so: the exit status is 0 whatever happens, and a verdict that is lost must not look like one that nobody
 // asked for.
 #![tactic(auto)]
 
