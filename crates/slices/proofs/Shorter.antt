@@ -1,7 +1,7 @@
 -- The recursion on shorter lists: the function that a step describes is the step applied to the function itself. However
 -- many steps are granted beyond the list's length, the answer is the same, since each asks only of shorter lists.
 -- Assumes nothing.
-use mathlib.Core.Path.{◌≡◌, refl}
+use mathlib.Core.Path.{◌≡◌}
 use mathlib.Core.List.{List}
 use Prim.Native.Nat.{ℕ, zero, suc, ◌<◌}
 use native.Mathlib.Nat.{le_refl, not-suc-le-zero}

@@ -9,20 +9,15 @@ ghost use Rattle.slices.specs.Writing.{laid};
 pub fn byte(s: &[u8], i: usize) -> usize
     ensures { (result ≡ get_or s.now i 0) × (result < 256) }
 {
-    if i < s.len() { s[i] as usize } else { 0 }
+    s.get(i).copied().unwrap_or(0) as usize
 }
 
 // At most n bytes from a place on, as a part of the slice itself: those that are there.
 pub fn part(s: &[u8], from: usize, n: usize) -> &[u8]
     ensures { result.now ≡ take n (drop from s.now) }
 {
-    if s.len() < from {
-        return &s[..0];
-    }
-    if s.len() - from < n {
-        return &s[from..];
-    }
-    &s[from..from + n]
+    let rest = &s[from.min(s.len())..];
+    &rest[..n.min(rest.len())]
 }
 
 // Bytes laid into a buffer from a place on; where they do not fit, nothing changes.
@@ -35,37 +30,19 @@ pub fn lay(buf: &mut [u8], at: usize, s: &[u8])
     if buf.len() - at < s.len() {
         return;
     }
-    let mut i = 0;
-    while i < s.len() {
-        buf[at + i] = s[i];
-        i += 1;
-    }
+    buf[at..at + s.len()].copy_from_slice(s);
 }
 
 // Every byte of a buffer the same.
 pub fn blank(buf: &mut [u8], b: u8)
     ensures { buf.new ≡ replicate (length buf.old) b }
 {
-    let mut i = 0;
-    while i < buf.len() {
-        buf[i] = b;
-        i += 1;
-    }
+    buf.fill(b);
 }
 
 // Whether two slices are the same.
 pub fn alike(a: &[u8], b: &[u8]) -> bool
     ensures { result ≡ alike_of a.now b.now }
 {
-    if a.len() != b.len() {
-        return false;
-    }
-    let mut i = 0;
-    while i < a.len() {
-        if a[i] != b[i] {
-            return false;
-        }
-        i += 1;
-    }
-    true
+    a == b
 }
