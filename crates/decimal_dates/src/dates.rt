@@ -38,13 +38,13 @@ fn month_and_day(d: &[u8]) -> bool
 fn leap_year(y: u64) -> bool
     ensures { result ≡ leap_year y }
 {
-    (y % 4 == 0) & ((y % 100 != 0) | (y % 400 == 0))
+    y % 4 == 0 && (y % 100 != 0 || y % 400 == 0)
 }
 
 fn thirty_days(m: u64) -> bool
     ensures { result ≡ thirty_days m }
 {
-    ((m == 4) | (m == 6)) | ((m == 9) | (m == 11))
+    matches!(m, 4 | 6 | 9 | 11)
 }
 
 fn days_in(y: u64, m: u64) -> u64

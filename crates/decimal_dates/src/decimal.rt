@@ -17,27 +17,11 @@ fn decimal_byte(b: u8) -> bool
 pub fn digits_only(s: &[u8]) -> bool
     ensures { result ≡ digits_only s.now }
 {
-    let mut i = 0;
-    while i < s.len() {
-        if decimal_byte(s[i]) {
-            i += 1;
-        } else {
-            return false;
-        }
-    }
-    true
+    s.iter().all(|b| decimal_byte(*b))
 }
 
 pub fn zeros_only(s: &[u8]) -> bool
     ensures { result ≡ zeros_only s.now }
 {
-    let mut i = 0;
-    while i < s.len() {
-        if s[i] == 0 {
-            i += 1;
-        } else {
-            return false;
-        }
-    }
-    true
+    s.iter().all(|b| *b == 0)
 }

@@ -10,8 +10,11 @@ use native.Mathlib.Numerals.{add-one}
 use borrow.Author.Tests.{not-true, not-false}
 use lib.ListN.{length, drop, get_or, drop_of_length-le}
 use lib.Seq.{drop-cons}
+use native.Mathlib.Omega.{arith}
+use Rattle.std.specs.Bool.{MatchBool}
+use Rattle.std.specs.List.{AllWithin, HoldsAt}
 use Rattle.slices.specs.Choice.{pick}
-use Rattle.slices.proofs.Choice.{pick_yes, pick_no}
+use Rattle.slices.proofs.Choice.{pick_yes, pick_no, either}
 use Rattle.slices.specs.Tests.{every}
 
 module _ {r t : Bool} (e : r ≡ t) where
@@ -65,3 +68,21 @@ module _ (p : ℕ → Bool) (s : List ℕ) (i : ℕ) where
   pub all_through : length s ≤ i → every (map p (drop i s)) ≡ true
   unfolding every
   all_through h = ap (λ (l : List ℕ). every (map p l)) (drop_of_length-le s h)
+
+-- what a chain's `all` has told of a list is the test of each of its elements
+module _ (p : ℕ → Bool) where
+  all_yes : (s : List ℕ) → AllWithin (λ x. p x ≡ true) s 0 (length s) → every (map p s) ≡ true
+  unfolding every
+  all_yes [] h = refl
+  all_yes (x ∷ s) h = held refl _ (h 0 0 (omega arith) (omega arith)) ∙ all_yes s (λ k d low k<. h (suc k) d (omega arith) (omega arith))
+
+  one_no : (s : List ℕ) (k : ℕ) → k < length s → HoldsAt (λ x. p x ≡ false) s k → every (map p s) ≡ false
+  one_no [] k k< h = absurd (omega arith)
+  one_no (x ∷ s) zero k< h = failed refl _ (h 0) ∙ h 0
+  one_no (x ∷ s) (suc k) k< h = either (p x) (λ y. held refl _ y ∙ one_no s k (omega arith) h) (λ n. failed refl _ n ∙ n)
+
+  pub every_from_all : (s : List ℕ) (r : Bool)
+      → MatchBool r (AllWithin (λ x. p x ≡ true) s 0 (length s)) ((k : ℕ) × (k < length s) × HoldsAt (λ x. p x ≡ false) s k)
+      → r ≡ every (map p s)
+  every_from_all s true h = sym (all_yes s h)
+  every_from_all s false h = sym (one_no s h.0 h.1 h.2)

@@ -1,34 +1,21 @@
--- `decimal_dates::decimal::digits_only` meets its contract. The loop's invariant: what is left of the slice decides as the whole
--- does. Assumes nothing.
-use mathlib.Core.Path.{refl, sym, ◌∙◌}
-use native.Mathlib.Omega.{arith}
+-- `decimal_dates::decimal::digits_only` meets its contract: the closure is the definition's test of a byte.
+-- Assumes nothing.
+use mathlib.Core.Path.{◌≡◌}
+use mathlib.Core.Bool.{true, false}
+use borrow.Author.Rules.{rules}
+use Rattle.std.proofs.lemmas.Iterator.{cases_from_all, YieldsList-from_slice}
+use Rattle.slices.proofs.Tests.{every_from_all}
 use Rattle.decimal_dates.specs.Decimal.{decimal_byte, digits_only}
-use Rattle.slices.proofs.Tests.{all_one_on, all_but_one, all_through}
 use Rattle.decimal_dates.proofs.decimal.digits_only.Goals as goal
-
-pub loop-i-init : goal.loop-i-init
-loop-i-init c =
-    (omega arith, refl)
-
-pub loop-i-preserved : goal.loop-i-preserved
-unfolding digits_only
-loop-i-preserved c =
-    let s = c.args.s.now in
-    let l = c.loop-i in
-    let right = sym c.decimal_byte.ensures ∙ c.if-decimal_byte.true in
-    (omega arith, sym (all_one_on decimal_byte s l.i (omega arith) right) ∙ l.invariant.1)
-
-pub returns-else-decimal_byte : goal.returns-else-decimal_byte
-unfolding digits_only
-returns-else-decimal_byte c =
-    let s = c.args.s.now in
-    let l = c.loop-i in
-    let wrong = sym c.decimal_byte.ensures ∙ c.if-decimal_byte.false in
-    sym (all_but_one decimal_byte s l.i (omega arith) wrong) ∙ l.invariant.1
 
 pub returns : goal.returns
 unfolding digits_only
 returns c =
-    let s = c.args.s.now in
-    let l = c.loop-i in
-    sym (all_through decimal_byte s l.i (omega arith)) ∙ l.invariant.1
+    every_from_all decimal_byte c.args.s.now _
+    (cases_from_all _ _ _
+    (λ b. decimal_byte b ≡ true)
+    (λ b. decimal_byte b ≡ false)
+    c.all.ensures.ran
+    (YieldsList-from_slice c.args.s.now cc)
+    (λ x q k. search rules)
+    (λ x q k. search rules))
