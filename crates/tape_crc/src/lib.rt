@@ -76,8 +76,8 @@ fn by_pairs(
         ≡ running_of register s.now }
 {
     let mut r = register;
-    let mut i = 0;
-    while PAIR <= s.len() - i {
+    for k in 0..s.len() / PAIR {
+        let i = k * PAIR;
         r = pair(
             r,
             &s[i..i + PART],
@@ -87,7 +87,6 @@ fn by_pairs(
             two,
             three,
         );
-        i += PAIR;
     }
     r
 }
@@ -108,11 +107,9 @@ fn pair(
 {
     let mut r = register;
     let mut q = 0;
-    let mut i = 0;
-    while i < PART {
-        r = turn(r ^ word(first, i), none, one, two, three);
-        q = turn(q ^ word(second, i), none, one, two, three);
-        i += 4;
+    for k in 0..PART / 4 {
+        r = turn(r ^ word(first, 4 * k), none, one, two, three);
+        q = turn(q ^ word(second, 4 * k), none, one, two, three);
     }
     past_part(r) ^ q
 }
@@ -123,9 +120,7 @@ fn past_part(register: u32) -> u32
 {
     let mut left = ABOVE_LEAVES;
     let mut r = 0;
-    let mut k: u32 = 32;
-    while 0 < k {
-        k -= 1;
+    for k in (0..32u32).rev() {
         left = shift(left);
         r = r ^ (register >> k) % 2 * left;
     }
@@ -152,10 +147,8 @@ fn by_fours(
     ensures { running_of result (drop (length s.now / 4 * 4) s.now) ≡ running_of register s.now }
 {
     let mut r = register;
-    let mut i = 0;
-    while 4 <= s.len() - i {
-        r = turn(r ^ word(s, i), none, one, two, three);
-        i += 4;
+    for k in 0..s.len() / 4 {
+        r = turn(r ^ word(s, 4 * k), none, one, two, three);
     }
     r
 }
@@ -174,16 +167,12 @@ fn turn(x: u32, none: &[u32; 256], one: &[u32; 256], two: &[u32; 256], three: &[
 }
 
 // Four bytes as a number, the first one lowest.
-fn word(s: &[u8], i: usize) -> u32
+pub fn word(s: &[u8], i: usize) -> u32
     requires { i + 4 ≤ length s.now }
     ensures { let at : ℕ → ℕ = λ k. get_or s.now k 0 in
         result ≡ at i + at (i + 1) * 0x100 + at (i + 2) * 0x1_0000 + at (i + 3) * 0x100_0000 }
 {
-    let a = s[i] as u32;
-    let b = s[i + 1] as u32;
-    let c = s[i + 2] as u32;
-    let d = s[i + 3] as u32;
-    a + b * 0x100 + c * 0x1_0000 + d * 0x100_0000
+    u32::from_le_bytes([s[i], s[i + 1], s[i + 2], s[i + 3]])
 }
 
 // The register after each byte of a slice, one by one.
@@ -192,11 +181,9 @@ fn by_bytes(register: u32, s: &[u8], remainders: &[u32; 256]) -> u32
     ensures { result ≡ running_of register s.now }
 {
     let mut r = register;
-    let mut i = 0;
-    while i < s.len() {
-        let k = (r ^ s[i] as u32) % 256;
+    for b in s {
+        let k = (r ^ *b as u32) % 256;
         r = r / 256 ^ remainders[k as usize];
-        i += 1;
     }
     r
 }
@@ -212,8 +199,5 @@ pub fn whole(s: &[u8]) -> u32
 pub fn of_block(block: &[u8]) -> u32
     ensures { result ≡ block_check_of block.now }
 {
-    if block.len() < COVERED {
-        return whole(block);
-    }
-    whole(&block[..COVERED])
+    whole(slices::part(block, 0, COVERED))
 }

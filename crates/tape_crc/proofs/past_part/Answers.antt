@@ -19,11 +19,6 @@ loop-k-init c =
     let none : c.args.register / 2 ^ 32 * 2 ^ 32 ≡ 0 = omega arith in
     (omega arith, above, sym (ap (divided (8 * part)) none ∙ nothing_left (8 * part)))
 
-pub overflow_mul-r : goal.overflow_mul-r
-overflow_mul-r c =
-    let bit = c.args.register / 2 ^ (c.loop-k.k - 1) % 2 in
-    omega (arith, bit_below_32 bit c.shift-left.result (omega arith) (omega arith))
-
 pub loop-k-preserved : goal.loop-k-preserved
 loop-k-preserved c =
     let x = c.args.register in
@@ -39,11 +34,3 @@ loop-k-preserved c =
           (ap (λ (y : ℕ). x / 2 ^ (l.k - 1) % 2 * y) left)
           ∙ sym (bit_more (8 * part) x (l.k - 1)),
     )
-
-pub returns : goal.returns
-returns c =
-    let x = c.args.register in
-    let l = c.loop-k in
-    let done : l.k ≡ 0 = omega arith in
-    let all : x / 1 * 1 ≡ x = omega arith in
-    l.invariant.2 ∙ (ap (λ (k : ℕ). divided (8 * part) (x / 2 ^ k * 2 ^ k)) done ∙ ap (divided (8 * part)) all)

@@ -9,6 +9,3 @@ use Rattle.tape_crc.proofs.past_part.Given as goal
 abbrev pub invariant-loop-k : goal.invariant-loop-k
 invariant-loop-k l =
     (l.k ≤ 32) × (l.left ≡ divided (8 * part) (2 ^ l.k)) × (l.r ≡ divided (8 * part) (l.register / 2 ^ l.k * 2 ^ l.k))
-
-abbrev pub decreases-loop-k : goal.decreases-loop-k
-decreases-loop-k l = l.k
