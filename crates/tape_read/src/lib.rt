@@ -8,7 +8,7 @@ ghost use Rattle.numbers.specs.Tables.{is_kind};
 ghost use Rattle.tape_read.specs.Numbers.{bytes_of};
 
 use numbers::{LAST_KIND, START};
-pub use read::{block_at, code, kind, number, payload, session};
+pub use read::{block_at, code, is_zero, kind, number, payload, session};
 
 // The limits: the bytes of a block, the blocks of a tape and its bytes, the bytes of a payload.
 pub const BLOCK: usize = 512;
@@ -28,20 +28,12 @@ pub const CHECK_AT: usize = 508;
 pub fn no_kind(k: u8) -> bool
     ensures { result ≡ not (is_kind k) }
 {
-    if k < START {
-        return true;
-    }
-    LAST_KIND < k
+    k < START || LAST_KIND < k
 }
 
 // A number as it stands in a block, its highest byte first.
 pub fn four_bytes(n: u32) -> [u8; 4]
     ensures { result ≡ bytes_of 4 n }
 {
-    [
-        (n / 0x100_0000 % 256) as u8,
-        (n / 0x1_0000 % 256) as u8,
-        (n / 0x100 % 256) as u8,
-        (n % 256) as u8,
-    ]
+    n.to_be_bytes()
 }

@@ -105,14 +105,12 @@ fn zeros_from(block: &[u8], from: usize) -> bool
 }
 
 // Whether there are only zeros. Every byte is taken and one test made at the end, which compiles to many bytes at a time.
-fn is_zero(s: &[u8]) -> bool
+pub fn is_zero(s: &[u8]) -> bool
     ensures { result ≡ all_zero s.now }
 {
     let mut bits = 0u8;
-    let mut i = 0;
-    while i < s.len() {
-        bits |= s[i];
-        i += 1;
+    for b in s {
+        bits |= *b;
     }
     bits == 0
 }

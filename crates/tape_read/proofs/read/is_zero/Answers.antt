@@ -1,6 +1,4 @@
--- `tape_read::read::is_zero` meets its contract. The loop's invariant: the bytes so far, joined bit by bit, are zero and so is what is
--- left,
--- exactly where all of it is.
+-- `tape_read::read::is_zero` meets its contract: a byte more joined is a byte less left.
 -- Assumes nothing.
 use mathlib.Core.Path.{◌≡◌, refl, sym, ap, ◌∙◌}
 use mathlib.Core.Bool.{Bool, true, false, ◌&&◌, and_assoc}
@@ -47,15 +45,10 @@ join_end s i bits h = ap (λ (l : List ℕ). eqb bits 0 && all_zero l) (drop_of_
     last true = refl
     last false = refl
 
-pub loop-i-init : goal.loop-i-init
-loop-i-init c = (omega arith, refl)
-
-pub loop-i-preserved : goal.loop-i-preserved
-loop-i-preserved c =
-    let l = c.loop-i in
-    (omega arith, join_next c.args.s.now l.i c.loop-i-test.true l.bits ∙ l.invariant.1)
+pub loop-b-preserved : goal.loop-b-preserved
+loop-b-preserved c = let l = c.loop-b in join_next c.args.s.now l.b-index c.loop-b-test.true l.bits ∙ l.invariant
 
 pub returns : goal.returns
 returns c =
-    let l = c.loop-i in
-    sym (join_end c.args.s.now l.i l.bits (omega arith)) ∙ l.invariant.1
+    let l = c.loop-b in
+    sym (join_end c.args.s.now l.b-index l.bits (omega arith)) ∙ l.invariant
