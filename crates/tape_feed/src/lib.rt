@@ -75,7 +75,7 @@ fn look(reader: Reader, block: &[u8]) -> Reader
         session: due,
         place: reader.blocks,
         code: code(block, reader.blocks, due),
-        torn: reader.torn,
+        ..reader
     }
 }
 
@@ -86,10 +86,7 @@ fn passed(reader: Reader) -> Reader
 {
     Reader {
         blocks: reader.blocks + 1,
-        session: reader.session,
-        place: reader.place,
-        code: reader.code,
-        torn: reader.torn,
+        ..reader
     }
 }
 
@@ -97,11 +94,8 @@ fn ended(reader: Reader, piece: &[u8]) -> Reader
     ensures { result ≡ ended_by reader piece.now }
 {
     Reader {
-        blocks: reader.blocks,
-        session: reader.session,
-        place: reader.place,
-        code: reader.code,
         torn: 0 < piece.len(),
+        ..reader
     }
 }
 
@@ -131,13 +125,7 @@ pub fn next(reader: Reader, piece: &[u8]) -> Taken
 fn is_too_long(end: Reader) -> bool
     ensures { result ≡ too_long end }
 {
-    if BLOCKS < end.blocks {
-        return true;
-    }
-    if end.blocks < BLOCKS {
-        return false;
-    }
-    end.torn
+    BLOCKS < end.blocks || end.blocks == BLOCKS && end.torn
 }
 
 fn at(place: usize, code: usize) -> Damage
