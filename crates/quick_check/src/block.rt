@@ -7,7 +7,7 @@ ghost use Rattle.quick_check.specs.Tables.{Rows, Behind};
 
 use crate::register::{after, past};
 use numbers::{CODE_CHECK, CODE_KIND, CODE_NUMBER, CODE_SESSION, CODE_SPARE};
-use tape_read::{CHECK_AT, PAYLOAD, PAYLOAD_AT, kind, no_kind, number, session};
+use tape_read::{CHECK_AT, PAYLOAD, PAYLOAD_AT, is_zero, kind, no_kind, number, session};
 
 // The last value is complemented.
 const ONES: u32 = 0xFFFF_FFFF;
@@ -54,19 +54,6 @@ fn check_of(block: &[u8], from: usize, rows: &[u32; 2048], behind: &[u32; 512]) 
         times,
         behind,
     ) ^ ONES
-}
-
-// Whether there are only zeros. Every byte is taken and one test made at the end, which compiles to many bytes at a time.
-fn is_zero(s: &[u8]) -> bool
-    ensures { result ≡ all_zero s.now }
-{
-    let mut bits = 0u8;
-    let mut i = 0;
-    while i < s.len() {
-        bits |= s[i];
-        i += 1;
-    }
-    bits == 0
 }
 
 // The code of a block whose check, length and padding are right.

@@ -59,14 +59,12 @@ fn each(
         × (codes.new ≡ codes_told bytes.now ends.now codes.old) }
 {
     let mut from = 0;
-    let mut i = 0;
-    while i < ends.len() {
-        let to = end_of(bytes.len(), from, ends[i]);
+    for (i, end) in ends.iter().enumerate() {
+        let to = end_of(bytes.len(), from, *end);
         let d = of_tape(&bytes[from..to], rows, behind);
         store(places, i, d.place);
         store(codes, i, d.code);
         from = to;
-        i += 1;
     }
 }
 
@@ -127,14 +125,11 @@ fn first_bad(tape: &[u8], due: u32, rows: &[u32; 2048], behind: &[u32; 512]) -> 
     requires { Rows rows.now × Behind behind.now }
     ensures { result ≡ damage_said (read_from 0 due tape.now) }
 {
-    let blocks = tape.len() / BLOCK;
-    let mut k = 0;
-    while k < blocks {
+    for k in 0..tape.len() / BLOCK {
         let why = code(&tape[k * BLOCK..(k + 1) * BLOCK], k, due, rows, behind);
         if why != 0 {
             return at(k, why as usize);
         }
-        k += 1;
     }
     at(0, 0)
 }

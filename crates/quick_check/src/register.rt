@@ -1,7 +1,9 @@
 // The register of a block's check: eight bytes in a turn, and many zeros at once.
-ghost use Rattle.std.specs.Prelude.{◌≡◌, ℕ, ◌+◌, ◌*◌, ◌%◌, ◌≤◌, ◌<◌, length, get_or};
+ghost use Rattle.std.specs.Prelude.{◌≡◌, ◌+◌, ◌*◌, ◌%◌, ◌≤◌, ◌<◌, length};
 ghost use Rattle.tape_crc.specs.Check.{divided, running_of, ones};
 ghost use Rattle.quick_check.specs.Tables.{Rows, Behind, step};
+
+use tape_crc::word;
 
 // Where the register starts.
 const ONES: u32 = 0xFFFF_FFFF;
@@ -12,11 +14,10 @@ pub fn after(s: &[u8], rows: &[u32; 2048]) -> u32
     ensures { result ≡ running_of ones s.now }
 {
     let mut r = turn(ONES ^ word(s, 0), rows, 0);
-    let mut i = 4;
-    while i < s.len() {
+    for k in 0..s.len() / 8 {
+        let i = 4 + 8 * k;
         // What does not wait for the register comes first: the compiler joins in this order.
         r = turn(word(s, i + 4), rows, 0) ^ turn(r ^ word(s, i), rows, 4);
-        i += 8;
     }
     r
 }
@@ -34,28 +35,13 @@ fn turn(x: u32, rows: &[u32; 2048], behind: usize) -> u32
     first ^ fourth ^ third ^ second
 }
 
-// Four bytes as a number, the first one lowest.
-fn word(s: &[u8], i: usize) -> u32
-    requires { i + 4 ≤ length s.now }
-    ensures { let at : ℕ → ℕ = λ k. get_or s.now k 0 in
-        result ≡ at i + at (i + 1) * 0x100 + at (i + 2) * 0x1_0000 + at (i + 3) * 0x100_0000 }
-{
-    let a = s[i] as u32;
-    let b = s[i + 1] as u32;
-    let c = s[i + 2] as u32;
-    let d = s[i + 3] as u32;
-    a + b * 0x100 + c * 0x1_0000 + d * 0x100_0000
-}
-
 // The register behind so many times 32 zeros: what its bits leave there, joined from the highest down.
 pub fn past(register: u32, times: usize, behind: &[u32; 512]) -> u32
     requires { Behind behind.now × (times < 16) }
     ensures { result ≡ divided (8 * (step * times)) register }
 {
     let mut r = 0;
-    let mut k: u32 = 32;
-    while 0 < k {
-        k -= 1;
+    for k in (0..32u32).rev() {
         r = r ^ (register >> k) % 2 * behind[32 * times + k as usize];
     }
     r

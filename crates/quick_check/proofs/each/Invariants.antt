@@ -2,7 +2,7 @@
 -- of them. Assumes nothing.
 use mathlib.Core.Path.{◌≡◌}
 use mathlib.Core.List.{List}
-use Prim.Native.Nat.{ℕ, ◌-◌, ◌≤◌}
+use Prim.Native.Nat.{ℕ, ◌≤◌}
 use lib.ListN.{length}
 use Rattle.quick_check.specs.Damages.{damage_in}
 use Rattle.quick_check.proofs.Many.{told}
@@ -17,11 +17,7 @@ code t = (damage_in t).code
 abbrev pub invariant-loop-i : goal.invariant-loop-i
 invariant-loop-i l =
     (l.from ≤ length l.bytes)
-    × (l.i ≤ length l.ends)
     × (length l.places ≡ length l.initial.places)
     × (length l.codes ≡ length l.initial.codes)
     × (told place l.bytes l.ends l.from l.i l.places ≡ told place l.bytes l.ends 0 0 l.initial.places)
     × (told code l.bytes l.ends l.from l.i l.codes ≡ told code l.bytes l.ends 0 0 l.initial.codes)
-
-abbrev pub decreases-loop-i : goal.decreases-loop-i
-decreases-loop-i l = length l.ends - l.i

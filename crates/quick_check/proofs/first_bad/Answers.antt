@@ -1,6 +1,6 @@
 -- `quick_check::first_bad` meets its contract. The loop's invariant: what is said of the blocks from k on is what is said of all.
 -- Assumes nothing.
-use mathlib.Core.Path.{◌≡◌, refl, sym, ap, ◌∙◌}
+use mathlib.Core.Path.{◌≡◌, sym, ap, ◌∙◌}
 use mathlib.Core.List.{List}
 use Prim.Native.Nat.{ℕ, ◌+◌, ◌*◌, ◌-◌}
 use native.Mathlib.Omega.{arith}
@@ -23,9 +23,6 @@ next_block tape k = ap (λ (n : ℕ). take n (drop (k * block_size) tape)) (one 
     one : (k : ℕ) → (k + 1) * block_size - k * block_size ≡ block_size
     one k = omega arith
 
-pub loop-k-init : goal.loop-k-init
-loop-k-init c = (omega arith, refl)
-
 pub code-why-requires : goal.code-why-requires
 code-why-requires c =
     let l = c.loop-k in
@@ -47,7 +44,7 @@ returns-then-why-ne0 c =
     ∙ (ap (damaged l.k) told
     ∙ (sym
     (said_bad l.k c.args.due rest (omega (arith, length-drop (l.k * block_size) tape)) (λ e. c.if-why-ne0.true (told ∙ e)))
-    ∙ l.invariant.1))
+    ∙ l.invariant))
 
 pub loop-k-preserved : goal.loop-k-preserved
 loop-k-preserved c =
@@ -56,11 +53,9 @@ loop-k-preserved c =
     let tape = c.args.tape.now in
     let rest = drop (l.k * block_size) tape in
     let good : code_of l.k due (take block_size rest) ≡ 0 =
-    sym (c.code-why.ensures ∙ ap (code_of l.k due) (next_block tape l.k)) ∙ c.if-why-ne0.false in (
-      omega arith,
-      ap (λ (s : List ℕ). damage_said (read_from (l.k + 1) due s)) (sym (rest_next l.k tape))
-          ∙ (sym (said_good l.k due rest (omega (arith, length-drop (l.k * block_size) tape)) good) ∙ l.invariant.1),
-    )
+    sym (c.code-why.ensures ∙ ap (code_of l.k due) (next_block tape l.k)) ∙ c.if-why-ne0.false in
+    ap (λ (s : List ℕ). damage_said (read_from (l.k + 1) due s)) (sym (rest_next l.k tape))
+    ∙ (sym (said_good l.k due rest (omega (arith, length-drop (l.k * block_size) tape)) good) ∙ l.invariant)
 
 pub returns : goal.returns
 returns c =
@@ -68,4 +63,4 @@ returns c =
     let tape = c.args.tape.now in
     let rest = drop (l.k * block_size) tape in
     c.at-2.ensures
-    ∙ (sym (said_end l.k c.args.due rest (omega (arith, length-drop (l.k * block_size) tape))) ∙ l.invariant.1)
+    ∙ (sym (said_end l.k c.args.due rest (omega (arith, length-drop (l.k * block_size) tape))) ∙ l.invariant)

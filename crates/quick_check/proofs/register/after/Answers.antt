@@ -1,7 +1,7 @@
 -- `quick_check::register::after` meets its contract. The loop's invariant: the register so far, taken over the bytes that are left, gives
 -- what the whole gives, and four bytes and a number of eights are behind. Assumes nothing.
-use mathlib.Core.Path.{refl, ap, ap₂, ◌∙◌}
-use Prim.Native.Nat.{ℕ, ◌+◌, ◌<◌}
+use mathlib.Core.Path.{◌≡◌, ap, ap₂, ◌∙◌}
+use Prim.Native.Nat.{ℕ, ◌+◌, ◌*◌, ◌<◌}
 use native.Mathlib.Omega.{arith}
 use lib.Bits.{bit_xor, xor_comm}
 use lib.ListN.{get_or, drop}
@@ -17,44 +17,39 @@ word-requires c = omega (arith, c.requires.1)
 pub turn-r-requires : goal.turn-r-requires
 turn-r-requires c = (c.requires.0, omega arith)
 
-pub loop-i-init : goal.loop-i-init
-loop-i-init c =
+pub loop-k-init : goal.loop-k-init
+loop-k-init c =
     let s = c.args.s.now in
-    let byte : (j : ℕ) → get_or s j 0 < 256 = λ j. (c.type_inv.s j).fits in (
-      omega (arith, c.requires.1),
-      refl,
-      ap (λ (r : ℕ). running_of r (drop 4 s)) c.turn-r.ensures
-          ∙ turn_of_four ones 0 s c.word.result c.word.ensures (omega (arith, c.requires.1)) byte,
-    )
+    let byte : (j : ℕ) → get_or s j 0 < 256 = λ j. (c.type_inv.s j).fits in
+    ap (λ (r : ℕ). running_of r (drop 4 s)) c.turn-r.ensures
+    ∙ turn_of_four ones 0 s c.word.result c.word.ensures (omega (arith, c.requires.1)) byte
 
-pub word-requires-in-loop-i : goal.word-requires-in-loop-i
-word-requires-in-loop-i c = omega (arith, c.requires.1)
+pub word-requires-in-loop-k : goal.word-requires-in-loop-k
+word-requires-in-loop-k c = omega (arith, c.requires.1)
 
 pub turn-requires : goal.turn-requires
 turn-requires c = (c.requires.0, omega arith)
 
-pub word-requires-in-loop-i-2 : goal.word-requires-in-loop-i-2
-word-requires-in-loop-i-2 c = omega (arith, c.requires.1)
+pub word-requires-in-loop-k-2 : goal.word-requires-in-loop-k-2
+word-requires-in-loop-k-2 c = omega (arith, c.requires.1)
 
-pub turn-requires-in-loop-i : goal.turn-requires-in-loop-i
-turn-requires-in-loop-i c = (c.requires.0, omega arith)
+pub turn-requires-in-loop-k : goal.turn-requires-in-loop-k
+turn-requires-in-loop-k c = (c.requires.0, omega arith)
 
-pub loop-i-preserved : goal.loop-i-preserved
-loop-i-preserved c =
-    let l = c.loop-i in
+pub loop-k-preserved : goal.loop-k-preserved
+loop-k-preserved c =
+    let l = c.loop-k in
+    let i = 4 + 8 * l.k in
     let s = c.args.s.now in
-    let byte : (j : ℕ) → get_or s j 0 < 256 = λ j. (c.type_inv.s j).fits in (
-      omega (arith, c.requires.1),
-      omega arith,
-      ap (λ (x : ℕ). running_of x (drop (l.i + 8) s)) (xor_comm c.turn.result c.turn-in-loop-i.result)
-          ∙ (ap₂ (λ (a b : ℕ). running_of (bit_xor a b) (drop (l.i + 8) s)) c.turn-in-loop-i.ensures c.turn.ensures
-          ∙ (turn_of_eight l.r l.i s c.word-in-loop-i-2.result c.word-in-loop-i.result c.word-in-loop-i-2.ensures c.word-in-loop-i.ensures
-          (omega (arith, c.requires.1)) byte
-          ∙ l.invariant.2)),
-    )
+    let byte : (j : ℕ) → get_or s j 0 < 256 = λ j. (c.type_inv.s j).fits in
+    let next : 4 + 8 * (l.k + 1) ≡ 4 + 8 * l.k + 8 = omega arith in
+    ap₂ (λ (j x : ℕ). running_of x (drop j s)) next (xor_comm c.turn.result c.turn-in-loop-k.result)
+    ∙ (ap₂ (λ (a b : ℕ). running_of (bit_xor a b) (drop (i + 8) s)) c.turn-in-loop-k.ensures c.turn.ensures
+    ∙ (turn_of_eight l.r i s c.word-in-loop-k-2.result c.word-in-loop-k.result c.word-in-loop-k-2.ensures c.word-in-loop-k.ensures
+    (omega (arith, c.requires.1)) byte
+    ∙ l.invariant))
 
 pub returns : goal.returns
 returns c =
-    let l = c.loop-i in
-    let s = c.args.s.now in
-    taken_all_lem l.r l.i s (omega arith) l.invariant.2
+    let l = c.loop-k in
+    taken_all_lem l.r (4 + 8 * l.k) c.args.s.now (omega (arith, c.requires.1)) l.invariant

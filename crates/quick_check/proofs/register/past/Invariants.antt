@@ -8,6 +8,3 @@ use Rattle.quick_check.proofs.register.past.Given as goal
 
 abbrev pub invariant-loop-k : goal.invariant-loop-k
 invariant-loop-k l = (l.k ≤ 32) × (l.r ≡ divided (8 * (step * l.times)) (l.register / 2 ^ l.k * 2 ^ l.k))
-
-abbrev pub decreases-loop-k : goal.decreases-loop-k
-decreases-loop-k l = l.k
