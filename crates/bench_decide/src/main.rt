@@ -8,6 +8,9 @@ use start_fields::fields;
 use std::io;
 use text_input::read_full;
 
+// The most lines that are answered.
+const MOST: u64 = 100000;
+
 // A digit from 0 to 9 or from a to f; any other byte is 0.
 fn digit(c: u8) -> u8
     ensures { result < 16 }
@@ -21,10 +24,8 @@ fn digit(c: u8) -> u8
 
 fn decoded(line: [u8; 81]) -> [u8; 40] {
     let mut start = [0u8; 40];
-    let mut i = 0;
-    while i < 40 {
-        start[i] = digit(line[2 * i]) * 16 + digit(line[2 * i + 1]);
-        i += 1;
+    for (i, byte) in start.iter_mut().enumerate() {
+        *byte = digit(line[2 * i]) * 16 + digit(line[2 * i + 1]);
     }
     start
 }
@@ -59,9 +60,10 @@ fn answer_one(rt: &(impl Input + Print)) -> io::Result<bool> {
 }
 
 fn main(rt: HostRuntime) -> io::Result<()> {
-    let mut turns: u64 = 100000;
-    while turns > 0 && answer_one(&rt)? {
-        turns -= 1;
+    for _ in 0..MOST {
+        if !answer_one(&rt)? {
+            break;
+        }
     }
     Ok(())
 }

@@ -32,17 +32,7 @@ pub fn rules_in(list: &[u8]) -> usize
 pub fn are_results(count: usize, payload: &[u8]) -> bool
     ensures { result ≡ are_results count payload.now }
 {
-    if payload.len() != count {
-        return false;
-    }
-    let mut i = 0;
-    while i < payload.len() {
-        if LAST_RESULT < payload[i] {
-            return false;
-        }
-        i += 1;
-    }
-    true
+    payload.len() == count && payload.iter().all(|b| *b <= LAST_RESULT)
 }
 
 // Given whether there is a 9F42, its bytes, and the transaction's currency.

@@ -19,18 +19,15 @@ pub fn verify(list: &[u8], results: &[u8], c: Circumstances) -> u8
 {
     let x = limit(list);
     let y = limit(slices::part(list, 4, 4));
-    let count = rules_in(list);
-    let mut bits: u8 = 0;
-    let mut i = 0;
-    while i < count {
+    let mut bits = 0;
+    for i in 0..rules_in(list) {
         let first = octet(list, 8 + 2 * i);
         let code = octet(list, 9 + 2 * i);
         let turn = turn_of(c, x, y, first, code, octet(results, i));
-        bits = bits | turn.bits;
+        bits |= turn.bits;
         if turn.ends {
             return bits;
         }
-        i += 1;
     }
     bits | NOT_SUCCESSFUL
 }

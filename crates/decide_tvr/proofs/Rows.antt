@@ -3,8 +3,7 @@
 use mathlib.Core.Path.{◌≡◌, refl, sym, ap, ap₂, ◌∙◌}
 use mathlib.Core.Bool.{Bool, true, false, ◌&&◌, ◌||◌, or-true, or-false}
 use mathlib.Core.List.{List, [], ◌∷◌}
-use Prim.Native.Nat.{ℕ, zero, suc, ◌+◌, ◌/◌, ◌%◌, ◌^◌, ◌<◌, ◌≤◌}
-use native.Mathlib.Numerals.{add-one}
+use Prim.Native.Nat.{ℕ, zero, suc, ◌+◌, ◌/◌, ◌%◌, ◌^◌}
 use native.Mathlib.Omega.{arith}
 use lib.Bits.{bit_and, bit_or, or_self, or_zero_l, or_zero_r, or_shr, or_mod}
 use lib.Dec.{eqb}
@@ -12,7 +11,6 @@ use lib.ListN.{length, drop, get_or, drop_of_length-le}
 use lib.Seq.{drop-cons}
 use borrow.Author.Tests.{eq-eqb, ne_eqb, eqb-true, eqb-false}
 use Rattle.slices.specs.Choice.{pick}
-use Rattle.slices.proofs.Choice.{pick_yes, pick_no}
 use Rattle.decide_tvr.specs.Bits.{joined, meet}
 use Rattle.decide_tvr.proofs.Words.{or_assoc, and_over_or, or_zero}
 
@@ -78,12 +76,6 @@ joined_listed (suc n) i a b p q =
     ap₂ joined (drop-cons a i 0 (omega arith)) (drop-cons b i 0 (omega arith))
     ∙ ap (λ (l : List ℕ). bit_or (get_or a i 0) (get_or b i 0) ∷ l) (joined_listed n (suc i) a b (omega arith) (omega arith))
 
--- no row shares a bit with an empty one
-pub meet_nil : (a : List ℕ) → meet a [] ≡ false
-unfolding meet
-meet_nil [] = refl
-meet_nil (x ∷ a) = refl
-
 -- two numbers share no bit with a third where their `or` shares none
 apart : (x y z : ℕ) → eqb (bit_and (bit_or x y) z) 0 ≡ (eqb (bit_and x z) 0 && eqb (bit_and y z) 0)
 apart x y z =
@@ -114,22 +106,3 @@ meet_first a b t e = meet_joined a b t ∙ ap (λ (m : Bool). m || meet b t) e
 
 pub meet_second : (a b t : List ℕ) → meet a t ≡ false → meet (joined a b) t ≡ meet b t
 meet_second a b t e = meet_joined a b t ∙ ap (λ (m : Bool). m || meet b t) e
-
-module _ (a b : List ℕ) (i : ℕ) (p : i < length a) (q : i < length b) where
-  pub meet_on : bit_and (get_or a i 0) (get_or b i 0) ≡ 0 → meet (drop i a) (drop i b) ≡ meet (drop (i + 1) a) (drop (i + 1) b)
-  unfolding meet
-  meet_on e =
-      ap₂ meet (drop-cons a i 0 p) (drop-cons b i 0 q)
-      ∙ (pick_yes _ _ _ (eq-eqb _ 0 e) ∙ ap (λ (n : ℕ). meet (drop n a) (drop n b)) (sym (add-one i)))
-
-  pub meet_here : (bit_and (get_or a i 0) (get_or b i 0) ≡ 0 → ⊥) → meet (drop i a) (drop i b) ≡ true
-  unfolding meet
-  meet_here e = ap₂ meet (drop-cons a i 0 p) (drop-cons b i 0 q) ∙ pick_no _ _ _ (ne_eqb _ 0 e)
-
--- past the end of either row
-pub meet_past : (a b : List ℕ) (i : ℕ) → length a ≤ i → meet (drop i a) (drop i b) ≡ false
-unfolding meet
-meet_past a b i h = ap (λ (l : List ℕ). meet l (drop i b)) (drop_of_length-le a h)
-
-pub meet_short : (a b : List ℕ) (i : ℕ) → length b ≤ i → meet (drop i a) (drop i b) ≡ false
-meet_short a b i h = ap (meet (drop i a)) (drop_of_length-le b h) ∙ meet_nil (drop i a)

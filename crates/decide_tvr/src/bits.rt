@@ -12,17 +12,7 @@ pub fn flag(test: bool, bit: u8) -> u8
 pub fn in_both(a: &[u8], b: &[u8]) -> bool
     ensures { result ≡ meet a.now b.now }
 {
-    let mut i = 0;
-    while i < a.len() {
-        if i >= b.len() {
-            return false;
-        }
-        if a[i] & b[i] != 0 {
-            return true;
-        }
-        i += 1;
-    }
-    false
+    a.iter().zip(b).any(|(x, y)| *x & *y != 0)
 }
 
 // Two rows of five bytes, bit by bit.

@@ -9,7 +9,6 @@ ghost use Rattle.tlv_head.specs.Head.{tag_of};
 ghost use Rattle.dol_fill.specs.Filled.{missing as missing_of, missing_by, unsupplied as unsupplied_in, summed};
 
 use answer_common::content::Format;
-use dol_values::Own;
 use dol_values::supply::{format_of, own_field};
 use dol_wanted::is_fillable;
 use session_records::slots::has;
@@ -22,8 +21,8 @@ fn is_there(start: &[u8], known: &[u8], tag: usize) -> bool
     ensures { result ≡ is_some (value_for (reading_of start.now) (told_in known.now) tag) }
 {
     match own_field(tag) {
-        Own::Of(field) => bytes(start, field).len() != 0,
-        Own::Nothing => has(known, tag),
+        Some(field) => bytes(start, field).len() != 0,
+        None => has(known, tag),
     }
 }
 
@@ -58,7 +57,7 @@ fn missing_in(list: &[u8], start: &[u8], known: &[u8]) -> usize
 {
     let mut count = 0;
     let mut rest = list;
-    while 0 < rest.len() {
+    while !rest.is_empty() {
         count += missing(rest, start, known);
         let n = tag_size(rest) + 1;
         rest = &rest[n..];

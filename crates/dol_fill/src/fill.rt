@@ -9,7 +9,6 @@ ghost use Rattle.dol_values.specs.Known.{with_format, supplied};
 ghost use Rattle.dol_fill.specs.Filled.{entry_bytes, first_bytes, filled_list, filling};
 
 use answer_common::content::Format;
-use dol_values::Own;
 use dol_values::shape::shape;
 use dol_values::supply::{format_of, own_field};
 use dol_wanted::{MOST, size_at, total};
@@ -37,8 +36,8 @@ fn fill_entry(part: &mut [u8], start: &[u8], known: &[u8], tag: usize)
 {
     let format = format_of(tag);
     match own_field(tag) {
-        Own::Of(field) => fill_own(part, format, bytes(start, field)),
-        Own::Nothing => {
+        Some(field) => fill_own(part, format, bytes(start, field)),
+        None => {
             if has(known, tag) {
                 shape(part, format, value(known, tag));
             } else {
@@ -67,7 +66,7 @@ fn fill_all(list: &[u8], start: &[u8], known: &[u8], buf: &mut [u8], at: usize)
 {
     let mut rest = list;
     let mut p = at;
-    while 0 < rest.len() {
+    while !rest.is_empty() {
         fill_first(rest, start, known, buf, p);
         p += size_at(rest);
         let n = tag_size(rest) + 1;

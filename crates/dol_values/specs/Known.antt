@@ -10,18 +10,18 @@ use Rattle.answer_common.specs.declared.content.Format.{Format}
 use Rattle.answer_common.specs.declared.content.Format.TheVariants.{Numeric, CardNumber, Other, Unknown}
 use Rattle.facts.specs.Facts.{Facts}
 use Rattle.dol_values.specs.Shape.{own_table, format_of}
-use Rattle.dol_values.specs.declared.Own.{Own}
-use Rattle.dol_values.specs.declared.Own.TheVariants.{Of, Nothing}
+use Rattle.dol_values.specs.Own.{Own}
+use Rattle.std.specs.Prelude.{Some, None}
 
 -- the field of START that a tag stands for
 unfoldable pub own_field : ℕ → Own
-own_field tag = beside Nothing tag (map (λ row. (row.0, Of row.1.0)) own_table)
+own_field tag = beside None tag (map (λ row. (row.0, Some row.1.0)) own_table)
 
 -- START's own, where START has it, and else what is known beside it: TVR and TSI at any time, the response code from the second
 -- request on, and the rest once it was read
 unfoldable pub value_by : Terminal → Option (List ℕ) → Own → Option (List ℕ)
-value_by t other (Of field) = unless_empty (bytes_of field t)
-value_by t other Nothing = other
+value_by t other (Some field) = unless_empty (bytes_of field t)
+value_by t other None = other
 
 unfoldable pub value_for : Terminal → Facts → ℕ → Option (List ℕ)
 value_for t known tag = value_by t (known tag) (own_field tag)

@@ -4,12 +4,3 @@
 
 pub mod shape;
 pub mod supply;
-
-use start_fields::fields::Field;
-
-// The field of START that a tag stands for, where it is one of START's.
-#[derive(Clone, Copy)]
-pub enum Own {
-    Of(Field),
-    Nothing,
-}

@@ -3,7 +3,6 @@ ghost use Rattle.std.specs.Prelude.{◌≡◌};
 ghost use Rattle.dol_values.specs.Shape.{format_of};
 ghost use Rattle.dol_values.specs.Known.{own_field};
 
-use crate::Own;
 use answer_common::content::{Format, format_told};
 use start_fields::fields::Field;
 
@@ -28,19 +27,20 @@ pub fn format_of(tag: usize) -> Format
     }
 }
 
-pub fn own_field(tag: usize) -> Own
+// The field of START that a tag stands for, where it is one of START's.
+pub fn own_field(tag: usize) -> Option<Field>
     ensures { result ≡ own_field tag }
 {
     match tag {
-        0x9F02 => Own::Of(Field::Amount),
-        0x9F03 => Own::Of(Field::OtherAmount),
-        0x9F1A => Own::Of(Field::Country),
-        0x5F2A => Own::Of(Field::Currency),
-        0x9A => Own::Of(Field::Date),
-        0x9C => Own::Of(Field::TransactionType),
-        0x9F37 => Own::Of(Field::Unpredictable),
-        0x9F09 => Own::Of(Field::Version),
-        0x9F33 => Own::Of(Field::Capabilities),
-        _ => Own::Nothing,
+        0x9F02 => Some(Field::Amount),
+        0x9F03 => Some(Field::OtherAmount),
+        0x9F1A => Some(Field::Country),
+        0x5F2A => Some(Field::Currency),
+        0x9A => Some(Field::Date),
+        0x9C => Some(Field::TransactionType),
+        0x9F37 => Some(Field::Unpredictable),
+        0x9F09 => Some(Field::Version),
+        0x9F33 => Some(Field::Capabilities),
+        _ => None,
     }
 }

@@ -1,7 +1,7 @@
 -- An object list, an entry at a time: what it asks for and how much go by the entry at the front and the rest.
 -- Assumes nothing.
 use mathlib.Core.Path.{◌≡◌, refl, sym, ap, ◌∙◌}
-use mathlib.Core.Bool.{true, false, false≢true}
+use mathlib.Core.Bool.{Bool, true, false, false≢true}
 use mathlib.Core.List.{List, []}
 use mathlib.Core.Option.{Option, none, some}
 use Prim.Native.Nat.{ℕ, ◌+◌, ◌≤◌, ◌<◌}
@@ -9,7 +9,7 @@ use native.Mathlib.Nat.{add_assoc, zero-add, add-zero}
 use native.Mathlib.Omega.{arith}
 use lib.Dec.{eqb, leb}
 use lib.ListN.{length, drop, length-drop}
-use borrow.Author.Tests.{ne_eqb, leb-true, le-leb, lt-leb}
+use borrow.Author.Tests.{eqb-true, eqb-false, ne_eqb, leb-true, le-leb, lt-leb}
 use Rattle.slices.specs.Choice.{pick}
 use Rattle.slices.specs.Shorter.{Asks}
 use Rattle.slices.proofs.Choice.{pick_yes, pick_no, pick_cong, either, and_right}
@@ -18,6 +18,13 @@ use Rattle.tlv_head.specs.Head.{tag_right, tag_size}
 use Rattle.slices.specs.Tests.{is_some}
 use Rattle.dol_wanted.specs.Wanted.{Wanted, and_then, size_at, first_wanted, asks, wanted_step}
 use Rattle.dol_wanted.specs.Wanted.{entries_of, total, total_by, total_of, most, fits, fillable, tally}
+
+-- where something is left, and where nothing is
+pub goes_on : (s : List ℕ) (e : Bool) → e ≡ eqb (length s) 0 → e ≡ false → 0 < length s
+goes_on s e same f = let h = eqb-false (length s) 0 (sym same ∙ f) in omega (arith, h)
+
+pub at_end : (s : List ℕ) (e : Bool) → e ≡ eqb (length s) 0 → e ≡ true → length s ≡ 0
+at_end s e same t = eqb-true (length s) 0 (sym same ∙ t)
 
 pub entry_fits : (s : List ℕ) → asks s ≡ true → tag_size s + 1 ≤ length s
 unfolding asks

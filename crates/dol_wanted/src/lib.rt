@@ -17,11 +17,7 @@ const OVER: usize = MOST + 1;
 fn is_entry(s: &[u8]) -> bool
     ensures { result ≡ asks s.now }
 {
-    if is_tag_right(s) {
-        tag_size(s) + 1 <= s.len()
-    } else {
-        false
-    }
+    is_tag_right(s) && tag_size(s) + 1 <= s.len()
 }
 
 // How many bytes the entry at the front asks for.
@@ -37,7 +33,7 @@ pub fn total(list: &[u8]) -> usize
 {
     let mut sum = 0;
     let mut rest = list;
-    while 0 < rest.len() {
+    while !rest.is_empty() {
         if is_entry(rest) {
             sum += size_at(rest);
             if MOST < sum {

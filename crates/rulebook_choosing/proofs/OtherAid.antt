@@ -21,8 +21,8 @@ use Rattle.decide_verification.specs.Verification.{results_due, tvr_after_result
 use Rattle.answer_common.specs.Content.{names_for}
 use Rattle.answer_common.specs.declared.content.Format.{Format}
 use Rattle.dol_wanted.specs.Wanted.{Wanted, entries_of, fillable}
-use Rattle.dol_values.specs.declared.Own.{Own}
-use Rattle.dol_values.specs.declared.Own.TheVariants.{Of, Nothing}
+use Rattle.dol_values.specs.Own.{Own}
+use Rattle.std.specs.Prelude.{Some, None}
 use Rattle.dol_values.specs.Shape.{format_of}
 use Rattle.dol_values.specs.Known.{value_by, value_for, supplied, own_field, with_format}
 use Rattle.dol_fill.specs.Filled.{entry_bytes, filled, filled_by, filled_list, filling, missing, missing_in, missing_by, unsupplied}
@@ -36,8 +36,8 @@ module _ (aid : List ℕ) (t : Terminal) (k : Facts) where
 
   value_same : (other : Option (List ℕ)) (own : Own) → value_by t' other own ≡ value_by t other own
   unfolding value_by
-  value_same other (Of f) = ap unless_empty (other_aid_read aid t f)
-  value_same other Nothing = refl
+  value_same other (Some f) = ap unless_empty (other_aid_read aid t f)
+  value_same other None = refl
 
   supplied_same : (tag : ℕ) → supplied t' k tag ≡ supplied t k tag
   unfolding supplied value_for

@@ -162,11 +162,9 @@ fn decimal(s: &[u8]) -> u64
     requires { length s.now ≤ 6 }
     ensures { (result ≡ decimal_of s.now) × (result < six_bytes_limit) }
 {
-    let mut n: u64 = 0;
-    let mut i = 0;
-    while i < s.len() {
-        n = n * 100 + two_digits(s[i] as u64);
-        i += 1;
+    let mut n = 0;
+    for b in s {
+        n = n * 100 + two_digits(u64::from(*b));
     }
     n
 }

@@ -26,12 +26,8 @@ fn valid_field(f: &[u8]) -> bool
 fn valid_fields(s: &[u8]) -> bool
     ensures { result ≡ every (map valid_field (rows_in (count_in s.now) (fields_in s.now))) }
 {
-    let n = listing::count(s);
-    let mut k = 0;
-    while k < n {
-        if valid_field(row(listing::fields(s), k)) {
-            k += 1;
-        } else {
+    for k in 0..listing::count(s) {
+        if !valid_field(row(listing::fields(s), k)) {
             return false;
         }
     }

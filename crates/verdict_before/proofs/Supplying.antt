@@ -28,8 +28,8 @@ use Rattle.facts.specs.Facts.{Facts}
 use Rattle.dol_values.specs.Shape.{own_table, made_formats, format_of}
 use Rattle.dol_values.specs.Known.{own_field, value_by, value_for, with_format, supplied}
 use Rattle.dol_values.proofs.Tables.{beside_append}
-use Rattle.dol_values.specs.declared.Own.{Own}
-use Rattle.dol_values.specs.declared.Own.TheVariants.{Of, Nothing}
+use Rattle.dol_values.specs.Own.{Own}
+use Rattle.std.specs.Prelude.{Some, None}
 use Rattle.verdict_before.specs.Before.{records_before}
 use Rattle.verdict_before.specs.Filled.{own_table_before, formats_before, format_of_before}
 use Rattle.verdict_before.specs.Filled.{own_field_before, value_by_before, supplied_before}
@@ -66,7 +66,7 @@ abbrev formats_in : Rows → List (ℕ × Format)
 formats_in rows = map (λ row. (row.0, row.1.1)) rows
 
 abbrev fields_in : Rows → List (ℕ × Own)
-fields_in rows = map (λ row. (row.0, Of row.1.0)) rows
+fields_in rows = map (λ row. (row.0, Some row.1.0)) rows
 
 abbrev own_formats : List (ℕ × Format)
 own_formats = formats_in own_table_before
@@ -132,7 +132,7 @@ module _ (t : Terminal) (early : Early t) (known : Facts) where
       omega arith
 
   value_own : (o : Option (List ℕ)) (f : Field) → begin_of f + size_of f ≤ start_length → 0 < size_of f
-      → value_by t o (Of f) ≡ value_by_before t o (Of f)
+      → value_by t o (Some f) ≡ value_by_before t o (Some f)
   unfolding value_by value_by_before
   value_own o f h any = there (bytes_of f t) (field_there f h any)
 
@@ -140,7 +140,7 @@ module _ (t : Terminal) (early : Early t) (known : Facts) where
   unfolding own_field_before value_by value_by_before
   value_same tag =
       let o = known tag in
-      beside_holds (λ own. value_by t o own ≡ value_by_before t o own) Nothing tag own_fields refl (
+      beside_holds (λ own. value_by t o own ≡ value_by_before t o own) None tag own_fields refl (
         value_own o Amount (omega arith) (omega arith),
         (
           value_own o OtherAmount (omega arith) (omega arith),
@@ -171,18 +171,18 @@ module _ (t : Terminal) (early : Early t) (known : Facts) where
   abbrev with_new : Rows → ℕ → Option (Format × List ℕ)
   with_new rows tag =
       with_format (beside (beside (beside Unknown tag (made_formats ++ record_formats)) tag (formats_in rows)) tag own_formats)
-      (value_by t (known tag) (beside (beside Nothing tag (fields_in rows)) tag own_fields))
+      (value_by t (known tag) (beside (beside None tag (fields_in rows)) tag own_fields))
 
   module _ (row : ℕ × (Field × Format)) (new : is_new row ≡ true) (tag : ℕ) (e : tag ≡ row.0) (f : Format) where
     -- a new tag is not supplied, whatever its format, and was not known
-    new_none : with_format f (value_by t (known tag) (beside (Of row.1.0) tag own_fields)) ≡ supplied_before t known tag
+    new_none : with_format f (value_by t (known tag) (beside (Some row.1.0) tag own_fields)) ≡ supplied_before t known tag
     unfolding value_by supplied_before format_of_before
     new_none =
         let tests = each_held _ new in
         let before = value_by_before t (known tag) (own_field_before tag) in
         let own = ap (λ (n : ℕ). any_of (map (λ (r : ℕ × Own). eqb n r.0) own_fields)) e ∙ not-true _ (tests 1) in
         let known' = ap (λ (n : ℕ). any_of (map (λ (r : ℕ × Format). eqb n r.0) formats_before)) e ∙ not-true _ (tests 2) in
-        ap (λ (o : Own). with_format f (value_by t (known tag) o)) (unlisted (Of row.1.0) tag own_fields own)
+        ap (λ (o : Own). with_format f (value_by t (known tag) o)) (unlisted (Some row.1.0) tag own_fields own)
         ∙ (ap (with_format f) (field_none row.1.0 (leb-true _ _ (tests 0)))
         ∙ (absent_none f
         ∙ sym (ap (λ (g : Format). with_format g before) (unlisted Unknown tag formats_before known') ∙ unknown_none before)))
@@ -190,9 +190,9 @@ module _ (t : Terminal) (early : Early t) (known : Facts) where
   new_same : (rows : Rows) → every (map is_new rows) ≡ true → (tag : ℕ) → with_new rows tag ≡ supplied_before t known tag
   unfolding beside supplied_before format_of_before own_field_before
   new_same [] new tag =
-      ap (λ (f : Format). with_format (beside f tag own_formats) (value_by t (known tag) (beside Nothing tag own_fields)))
+      ap (λ (f : Format). with_format (beside f tag own_formats) (value_by t (known tag) (beside None tag own_fields)))
       (told_formats tag)
-      ∙ (ap (λ (f : Format). with_format f (value_by t (known tag) (beside Nothing tag own_fields)))
+      ∙ (ap (λ (f : Format). with_format f (value_by t (known tag) (beside None tag own_fields)))
       (sym (beside_append Unknown tag own_formats (made_formats ++ records_before)))
       ∙ ap (with_format (format_of_before tag)) (value_same tag))
   new_same (row ∷ rows) new tag =
@@ -214,5 +214,5 @@ module _ (t : Terminal) (early : Early t) (known : Facts) where
       ap₂ (λ (f : Format) (o : Own). with_format f (value_by t (known tag) o))
       (beside_append Unknown tag own_formats (formats_in new_rows ++ (made_formats ++ record_formats))
       ∙ ap (λ (f : Format). beside f tag own_formats) (beside_append Unknown tag (formats_in new_rows) (made_formats ++ record_formats)))
-      (beside_append Nothing tag own_fields (fields_in new_rows))
+      (beside_append None tag own_fields (fields_in new_rows))
       ∙ new_same new_rows all_new tag

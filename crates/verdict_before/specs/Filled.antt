@@ -16,8 +16,8 @@ use Rattle.facts.specs.Facts.{Facts}
 use Rattle.dol_wanted.specs.Wanted.{Wanted, entries_of, fillable}
 use Rattle.dol_values.specs.Shape.{made_formats}
 use Rattle.dol_values.specs.Known.{with_format}
-use Rattle.dol_values.specs.declared.Own.{Own}
-use Rattle.dol_values.specs.declared.Own.TheVariants.{Of, Nothing}
+use Rattle.dol_values.specs.Own.{Own}
+use Rattle.std.specs.Prelude.{Some, None}
 use Rattle.dol_fill.specs.Filled.{entry_bytes}
 use Rattle.commands.specs.Commands.{select_command, options_command, record_command, cryptogram_command}
 use Rattle.decide_cryptogram.specs.Cryptograms.{p1_of}
@@ -49,12 +49,12 @@ format_of_before tag = beside Unknown tag formats_before
 
 -- the field of START that a tag stood for
 unfoldable pub own_field_before : ℕ → Own
-own_field_before tag = beside Nothing tag (map (λ row. (row.0, Of row.1.0)) own_table_before)
+own_field_before tag = beside None tag (map (λ row. (row.0, Some row.1.0)) own_table_before)
 
 -- START's own, and else what is known beside it
 unfoldable pub value_by_before : Terminal → Option (List ℕ) → Own → Option (List ℕ)
-value_by_before t other (Of field) = some (bytes_of field t)
-value_by_before t other Nothing = other
+value_by_before t other (Some field) = some (bytes_of field t)
+value_by_before t other None = other
 
 -- a tag's format and value; nothing where lists did not know the tag, or where it is not yet there
 unfoldable pub supplied_before : Terminal → Facts → ℕ → Option (Format × List ℕ)

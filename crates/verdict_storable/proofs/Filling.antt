@@ -25,8 +25,8 @@ use Rattle.dol_values.specs.Known.{own_field, value_by, value_for, with_format, 
 use Rattle.dol_fill.specs.Filled.{entry_bytes, filled, filled_by, filled_list, filling}
 use Rattle.answer_common.specs.declared.content.Format.{Format}
 use Rattle.answer_common.specs.declared.content.Format.TheVariants.{Numeric, CardNumber, Other, Unknown}
-use Rattle.dol_values.specs.declared.Own.{Own}
-use Rattle.dol_values.specs.declared.Own.TheVariants.{Of, Nothing}
+use Rattle.dol_values.specs.Own.{Own}
+use Rattle.std.specs.Prelude.{Some, None}
 
 -- bytes, where there is a value
 abbrev pub Told : Option (List ℕ) → Type 0
@@ -82,8 +82,8 @@ entry_bytes_lem n Unknown (some v) h = zeros_bytes n
 module _ (t : Terminal) (k : Facts) (own : (f : Field) → are_bytes (bytes_of f t) ≡ true) (seen : (tag : ℕ) → Told (k tag)) where
   own_bytes : (tag : ℕ) (o : Own) → Told (value_by t (k tag) o)
   unfolding value_by
-  own_bytes tag (Of f) = unless_bytes (bytes_of f t) (own f)
-  own_bytes tag Nothing = seen tag
+  own_bytes tag (Some f) = unless_bytes (bytes_of f t) (own f)
+  own_bytes tag None = seen tag
 
   value_bytes : (tag : ℕ) → Told (value_for t k tag)
   unfolding value_for

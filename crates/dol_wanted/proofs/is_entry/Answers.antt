@@ -1,7 +1,7 @@
 -- `dol_wanted::is_entry` meets its contract: each test of the definition in turn.
 -- Assumes nothing.
 use mathlib.Core.Path.{◌≡◌, sym, ap, ◌∙◌}
-use mathlib.Core.Bool.{true, false}
+use mathlib.Core.Bool.{Bool, true, false}
 use mathlib.Core.List.{List}
 use Prim.Native.Nat.{ℕ, ◌+◌}
 use lib.ListN.{length}
@@ -15,9 +15,9 @@ module _ (s : List ℕ) where
   unfolding asks
   tag r = rw r
 
-  bad_tag : tag_right s ≡ false → false ≡ asks s
+  bad_tag : (r : Bool) → r ≡ tag_right s → r ≡ false → r ≡ asks s
   unfolding asks
-  bad_tag r = rw r
+  bad_tag r e f = rw (sym e ∙ f) f
 
 pub returns-then-is_tag_right : goal.returns-then-is_tag_right
 returns-then-is_tag_right c =
@@ -26,4 +26,4 @@ returns-then-is_tag_right c =
     ∙ tag s (sym c.is_tag_right.ensures ∙ c.if-is_tag_right.true)
 
 pub returns-else-is_tag_right : goal.returns-else-is_tag_right
-returns-else-is_tag_right c = bad_tag c.args.s.now (sym c.is_tag_right.ensures ∙ c.if-is_tag_right.false)
+returns-else-is_tag_right c = bad_tag c.args.s.now _ c.is_tag_right.ensures c.if-is_tag_right.false

@@ -9,7 +9,7 @@ use Rattle.tlv_head.specs.Head.{tag_size}
 use Rattle.slices.proofs.Cutting.{rest_part, none_left}
 use Rattle.dol_wanted.specs.Wanted.{asks, entries_of}
 use Rattle.dol_wanted.proofs.Entries.{counted_on, tally_counted, turn_counted, turn_malformed}
-use Rattle.dol_wanted.proofs.Entries.{counted_over, counted_end, entries_empty, entry_fits}
+use Rattle.dol_wanted.proofs.Entries.{counted_over, counted_end, entries_empty, entry_fits, goes_on, at_end}
 use native.Mathlib.Omega.{arith}
 use Rattle.dol_wanted.proofs.total.Goals as goal
 
@@ -26,7 +26,7 @@ returns-then-sum-gt-MOST c =
     let s = c.size_at-sum in (
       sym
           (sym l.invariant.1
-          ∙ (turn_counted r (omega arith) l.sum (entry)
+          ∙ (turn_counted r (goes_on r _ c.is_empty.ensures c.loop-rest-test.true) l.sum (entry)
           ∙ (ap (λ (n : ℕ). counted_on (l.sum + n) (entries_of (drop (tag_size r + 1) r))) (sym s.ensures.0)
           ∙ counted_over (l.sum + s.result) (entries_of (drop (tag_size r + 1) r)) (omega arith)))),
       omega arith,
@@ -87,13 +87,13 @@ loop-rest-preserved c =
       omega arith,
       ap (λ (x : List ℕ). counted_on (l.sum + s.result) (entries_of x)) (rest_part r n ∙ ap (λ (k : ℕ). drop k r) skip)
           ∙ (ap (λ (k : ℕ). counted_on (l.sum + k) (entries_of (drop (tag_size r + 1) r))) s.ensures.0
-          ∙ (sym (turn_counted r (omega arith) l.sum (entry)) ∙ l.invariant.1)),
+          ∙ (sym (turn_counted r (goes_on r _ c.is_empty.ensures c.loop-rest-test.true) l.sum (entry)) ∙ l.invariant.1)),
     )
 
 pub returns-else-is_entry : goal.returns-else-is_entry
 returns-else-is_entry c =
     let l = c.loop-rest in (
-      sym (sym l.invariant.1 ∙ turn_malformed l.rest.now (omega arith) l.sum
+      sym (sym l.invariant.1 ∙ turn_malformed l.rest.now (goes_on l.rest.now _ c.is_empty.ensures c.loop-rest-test.true) l.sum
           (sym c.is_entry.ensures ∙ c.if-is_entry.false)),
       omega arith,
     )
@@ -103,7 +103,7 @@ returns c =
     let l = c.loop-rest in (
       sym
           (sym l.invariant.1
-          ∙ (ap (λ (x : List ℕ). counted_on l.sum (entries_of x)) (none_left l.rest.now (omega arith))
+          ∙ (ap (λ (x : List ℕ). counted_on l.sum (entries_of x)) (none_left l.rest.now (at_end l.rest.now _ c.is_empty.ensures c.loop-rest-test.false))
           ∙ (ap (counted_on l.sum) entries_empty ∙ counted_end l.sum l.invariant.0))),
       omega arith,
     )

@@ -1,33 +1,38 @@
--- `decide_tvr::bits::in_both` meets its contract. The loop's invariant: what is left of the two slices shares a bit where the
--- whole does. Assumes nothing.
-use mathlib.Core.Path.{refl, sym, ◌∙◌}
-use native.Mathlib.Omega.{arith}
-use Rattle.decide_tvr.proofs.Rows.{meet_on, meet_here, meet_past, meet_short}
+-- `decide_tvr::bits::in_both` meets its contract: a bit is shared where some pair of bytes shares one.
+-- Assumes nothing.
+use Rattle.std.proofs.Common.{rules}
+use Rattle.std.proofs.lemmas.Iterator.{YieldsList-from_slice, YieldsList-from_zip}
+use Rattle.std.proofs.lemmas.Iterator.Search.{any_from_yields_List}
+use Rattle.std.specs.List.{list_any, zip}
+use mathlib.Core.Bool.{Bool, true, false, not, ◌||◌}
+use mathlib.Core.List.{List, [], ◌∷◌}
+use mathlib.Core.Path.{◌≡◌, refl, ap, ◌∙◌}
+use Prim.Native.Nat.{ℕ}
+use lib.Bits.{bit_and}
+use lib.Dec.{eqb}
+use borrow.Author.Tests.{tests}
+use Rattle.slices.specs.Choice.{pick}
+use Rattle.decide_tvr.specs.Bits.{meet}
 use Rattle.decide_tvr.proofs.bits.in_both.Goals as goal
 
-pub loop-i-init : goal.loop-i-init
-loop-i-init c = (omega arith, refl)
+-- two bytes that have a bit in common
+abbrev shares : ℕ × ℕ → Bool
+shares p = not (eqb (bit_and p.0 p.1) 0)
 
-pub returns-then-i-b : goal.returns-then-i-b
-returns-then-i-b c =
-    let a = c.args in
-    let l = c.loop-i in
-    sym (meet_short a.a.now a.b.now l.i (omega arith)) ∙ l.invariant.1
-
-pub returns-then-a-i-ne0 : goal.returns-then-a-i-ne0
-returns-then-a-i-ne0 c =
-    let a = c.args in
-    let l = c.loop-i in
-    sym (meet_here a.a.now a.b.now l.i (omega arith) (omega arith) c.if-a-i-ne0.true) ∙ l.invariant.1
-
-pub loop-i-preserved : goal.loop-i-preserved
-loop-i-preserved c =
-    let a = c.args in
-    let l = c.loop-i in
-    (omega arith, sym (meet_on a.a.now a.b.now l.i (omega arith) (omega arith) c.if-a-i-ne0.false) ∙ l.invariant.1)
+any_meet : (a b : List ℕ) → list_any shares (zip a b) ≡ meet a b
+unfolding meet pick
+any_meet [] b = refl
+any_meet (x ∷ a) [] = refl
+any_meet (x ∷ a) (y ∷ b) = one (eqb (bit_and x y) 0) ∙ ap (λ (t : Bool). pick (eqb (bit_and x y) 0) t true) (any_meet a b)
+  where
+    one : (t : Bool) → (not t || list_any shares (zip a b)) ≡ pick t (list_any shares (zip a b)) true
+    one true = refl
+    one false = refl
 
 pub returns : goal.returns
 returns c =
-    let a = c.args in
-    let l = c.loop-i in
-    sym (meet_past a.a.now a.b.now l.i (omega arith)) ∙ l.invariant.1
+    let a = c.args.a.now in
+    let b = c.args.b.now in
+    any_from_yields_List shares c.any.new.self _ _ c.any.ensures.ran (YieldsList-from_zip (YieldsList-from_slice a cc) (YieldsList-from_slice b cc))
+    (λ x t q k. search (rules, tests))
+    ∙ any_meet a b

@@ -8,29 +8,29 @@ use Rattle.start_fields.specs.declared.fields.Field.{Field}
 use Rattle.facts.specs.Facts.{Facts}
 use Rattle.session_records.specs.Slots.{told_in}
 use Rattle.dol_values.specs.Known.{own_field, value_by, value_for}
-use Rattle.dol_values.specs.declared.Own.{Own}
-use Rattle.dol_values.specs.declared.Own.TheVariants.{Of, Nothing}
+use Rattle.dol_values.specs.Own.{Own}
+use Rattle.std.specs.Prelude.{Some, None}
 use Rattle.dol_fill.proofs.count.is_there.Goals as goal
 
 module _ (t : Terminal) (known : Facts) (tag : ℕ) where
-  own_there : (f : Field) → own_field tag ≡ Of f → not (eqb (length (bytes_of f t)) 0) ≡ is_some (value_for t known tag)
+  own_there : (f : Field) → own_field tag ≡ Some f → not (eqb (length (bytes_of f t)) 0) ≡ is_some (value_for t known tag)
   unfolding value_for value_by
   own_there f e = sym (ap (λ (o : Own). is_some (value_by t (known tag) o)) e ∙ is_there_lem (bytes_of f t))
 
-  known_there : own_field tag ≡ Nothing → is_some (known tag) ≡ is_some (value_for t known tag)
+  known_there : own_field tag ≡ None → is_some (known tag) ≡ is_some (value_for t known tag)
   unfolding value_for value_by
   known_there e = sym (ap (λ (o : Own). is_some (value_by t (known tag) o)) e)
 
-pub returns-in-Of : goal.returns-in-Of
-returns-in-Of c =
+pub returns-in-Some : goal.returns-in-Some
+returns-in-Some c =
     let a = c.args in
     ap (λ (v : List ℕ). not (eqb (length v) 0)) c.bytes.ensures
-    ∙ own_there (reading_of a.start.now) (told_in a.known.now) a.tag c.in-Of.field
-    (sym c.own_field.ensures ∙ c.in-Of.is)
+    ∙ own_there (reading_of a.start.now) (told_in a.known.now) a.tag c.in-Some.field
+    (sym c.own_field.ensures ∙ c.in-Some.is)
 
-pub returns-in-Nothing : goal.returns-in-Nothing
-returns-in-Nothing c =
+pub returns-in-None : goal.returns-in-None
+returns-in-None c =
     let a = c.args in
     c.has.ensures
     ∙ known_there (reading_of a.start.now) (told_in a.known.now) a.tag (sym c.own_field.ensures
-    ∙ c.in-Nothing.is)
+    ∙ c.in-None.is)

@@ -8,7 +8,7 @@ use Rattle.slices.proofs.Cutting.{rest_part, none_left}
 use Rattle.start_fields.specs.Reading.{reading_of}
 use Rattle.session_records.specs.Slots.{told_in}
 use Rattle.dol_wanted.specs.Wanted.{entries_of}
-use Rattle.dol_wanted.proofs.Entries.{turn_fits, turn_some, fillable_some}
+use Rattle.dol_wanted.proofs.Entries.{turn_fits, turn_some, fillable_some, goes_on, at_end}
 use Rattle.dol_fill.specs.Filled.{missing_by}
 use Rattle.dol_fill.proofs.Missing.{turn_missing, nothing_missing}
 use Rattle.dol_fill.proofs.count.missing_in.Goals as goal
@@ -21,7 +21,7 @@ pub overflow_add-count : goal.overflow_add-count
 overflow_add-count c =
     let l = c.loop-rest in
     let h = l.invariant.1 in
-    let some_left = c.loop-rest-test.true in
+    let some_left = goes_on c.loop-rest.rest.now _ c.is_empty.ensures c.loop-rest-test.true in
     let most = c.missing-count.ensures.1 in
     omega arith
 
@@ -29,7 +29,7 @@ pub slice_bounds-rest-count : goal.slice_bounds-rest-count
 slice_bounds-rest-count c =
     let inside : c.tag_size-n.result + 1 ≤ length c.loop-rest.rest.now =
     let l = c.loop-rest in
-    let h = turn_fits l.rest.now c.loop-rest-test.true l.invariant.0 in
+    let h = turn_fits l.rest.now (goes_on c.loop-rest.rest.now _ c.is_empty.ensures c.loop-rest-test.true) l.invariant.0 in
     let e = c.tag_size-n.ensures.0 in
     omega arith
     in
@@ -39,7 +39,7 @@ pub slice_bounds-rest-start : goal.slice_bounds-rest-start
 slice_bounds-rest-start c =
     let inside : c.tag_size-n.result + 1 ≤ length c.loop-rest.rest.now =
     let l = c.loop-rest in
-    let h = turn_fits l.rest.now c.loop-rest-test.true l.invariant.0 in
+    let h = turn_fits l.rest.now (goes_on c.loop-rest.rest.now _ c.is_empty.ensures c.loop-rest-test.true) l.invariant.0 in
     let e = c.tag_size-n.ensures.0 in
     omega arith
     in
@@ -49,7 +49,7 @@ pub loop-rest-smaller : goal.loop-rest-smaller
 loop-rest-smaller c =
     let inside : c.tag_size-n.result + 1 ≤ length c.loop-rest.rest.now =
     let l = c.loop-rest in
-    let h = turn_fits l.rest.now c.loop-rest-test.true l.invariant.0 in
+    let h = turn_fits l.rest.now (goes_on c.loop-rest.rest.now _ c.is_empty.ensures c.loop-rest-test.true) l.invariant.0 in
     let e = c.tag_size-n.ensures.0 in
     omega arith
     in
@@ -62,7 +62,7 @@ loop-rest-preserved c =
     let t = reading_of a.start.now in
     let k = told_in a.known.now in
     let r = l.rest.now in
-    let test = c.loop-rest-test.true in
+    let test = goes_on c.loop-rest.rest.now _ c.is_empty.ensures c.loop-rest-test.true in
     let n = c.tag_size-n.result + 1 in
     let skip : n ≡ tag_size r + 1 = ap (λ (m : ℕ). m + 1) c.tag_size-n.ensures.0 in
     let rest : take (length r - n) (drop n r) ≡ drop (tag_size r + 1) r = rest_part r n ∙ ap (λ (m : ℕ). drop m r) skip in
@@ -82,7 +82,7 @@ returns c =
     let a = c.args in
     let t = reading_of a.start.now in
     let k = told_in a.known.now in
-    let empty = none_left l.rest.now (omega arith) in
+    let empty = none_left l.rest.now (at_end l.rest.now _ c.is_empty.ensures c.loop-rest-test.false) in
     let none : missing_by t k (entries_of l.rest.now) ≡ 0 =
     ap (λ (r : List ℕ). missing_by t k (entries_of r)) empty ∙ nothing_missing t k in
     let h = l.invariant.2 in

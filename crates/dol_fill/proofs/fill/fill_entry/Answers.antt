@@ -12,8 +12,8 @@ use Rattle.session_records.specs.Slots.{told_in}
 use Rattle.session_records.proofs.Present.{is_there_lem, is_none}
 use Rattle.dol_values.specs.Shape.{shaped, format_of}
 use Rattle.dol_values.specs.Known.{own_field, value_by, value_for, with_format, supplied}
-use Rattle.dol_values.specs.declared.Own.{Own}
-use Rattle.dol_values.specs.declared.Own.TheVariants.{Of, Nothing}
+use Rattle.dol_values.specs.Own.{Own}
+use Rattle.std.specs.Prelude.{Some, None}
 use Rattle.dol_fill.specs.Filled.{entry_bytes}
 use Rattle.dol_fill.proofs.Filling.{shaped_entry, blank_entry}
 use Rattle.dol_fill.proofs.fill.fill_entry.Goals as goal
@@ -23,31 +23,31 @@ module _ (n : ℕ) (t : Terminal) (known : Facts) (tag : ℕ) where
   abbrev by_own : Own → Option (List ℕ) → List ℕ
   by_own own other = entry_bytes n (with_format (format_of tag) (value_by t other own))
 
-  own_bytes : (f : Field) → own_field tag ≡ Of f
+  own_bytes : (f : Field) → own_field tag ≡ Some f
       → entry_bytes n (with_format (format_of tag) (unless_empty (bytes_of f t))) ≡ entry_bytes n (supplied t known tag)
   unfolding supplied value_for value_by
   own_bytes f e = sym (ap (λ o. by_own o (known tag)) e)
 
-  known_bytes : own_field tag ≡ Nothing → is_some (known tag) ≡ true
+  known_bytes : own_field tag ≡ None → is_some (known tag) ≡ true
       → shaped (format_of tag) n (get_or (known tag) []) ≡ entry_bytes n (supplied t known tag)
   unfolding supplied value_for value_by
   known_bytes e h =
       sym
       (ap (λ o. by_own o (known tag)) e
-      ∙ (ap (by_own Nothing) (is_there_lem (known tag) h) ∙ shaped_entry (format_of tag) n (get_or (known tag) [])))
+      ∙ (ap (by_own None) (is_there_lem (known tag) h) ∙ shaped_entry (format_of tag) n (get_or (known tag) [])))
 
-  not_there : own_field tag ≡ Nothing → is_some (known tag) ≡ false → zeros n ≡ entry_bytes n (supplied t known tag)
+  not_there : own_field tag ≡ None → is_some (known tag) ≡ false → zeros n ≡ entry_bytes n (supplied t known tag)
   unfolding supplied value_for value_by
   not_there e h =
-      sym (ap (λ o. by_own o (known tag)) e ∙ (ap (by_own Nothing) (is_none (known tag) h) ∙ blank_entry (format_of tag) n))
+      sym (ap (λ o. by_own o (known tag)) e ∙ (ap (by_own None) (is_none (known tag) h) ∙ blank_entry (format_of tag) n))
 
-pub returns-in-Of : goal.returns-in-Of
-returns-in-Of c =
+pub returns-in-Some : goal.returns-in-Some
+returns-in-Some c =
     let a = c.args in
     c.fill_own.ensures
     ∙ ((λ i. entry_bytes (length a.part.now) (with_format (c.format_of-format.ensures i) (unless_empty (c.bytes.ensures i))))
-    ∙ own_bytes (length a.part.now) (reading_of a.start.now) (told_in a.known.now) a.tag c.in-Of.field
-    (sym c.own_field.ensures ∙ c.in-Of.is))
+    ∙ own_bytes (length a.part.now) (reading_of a.start.now) (told_in a.known.now) a.tag c.in-Some.field
+    (sym c.own_field.ensures ∙ c.in-Some.is))
 
 pub returns-then-has : goal.returns-then-has
 returns-then-has c =
@@ -55,7 +55,7 @@ returns-then-has c =
     c.shape.ensures
     ∙ ((λ i. shaped (c.format_of-format.ensures i) (length a.part.now) (c.value.ensures i))
     ∙ known_bytes (length a.part.now) (reading_of a.start.now) (told_in a.known.now) a.tag
-    (sym c.own_field.ensures ∙ c.in-Nothing.is) (sym c.has.ensures ∙ c.if-has.true))
+    (sym c.own_field.ensures ∙ c.in-None.is) (sym c.has.ensures ∙ c.if-has.true))
 
 pub returns-else-has : goal.returns-else-has
 unfolding zeros
@@ -63,4 +63,4 @@ returns-else-has c =
     let a = c.args in
     c.blank.ensures
     ∙ not_there (length a.part.now) (reading_of a.start.now) (told_in a.known.now) a.tag
-    (sym c.own_field.ensures ∙ c.in-Nothing.is) (sym c.has.ensures ∙ c.if-has.false)
+    (sym c.own_field.ensures ∙ c.in-None.is) (sym c.has.ensures ∙ c.if-has.false)

@@ -7,7 +7,7 @@ use Rattle.slices.specs.Tables.{beside}
 use Rattle.slices.proofs.Tables.{beside_none}
 use Rattle.dol_values.specs.Shape.{own_table}
 use Rattle.dol_values.specs.Known.{own_field}
-use Rattle.dol_values.specs.declared.Own.TheVariants.{Of, Nothing}
+use Rattle.std.specs.Prelude.{Some, None}
 use Rattle.dol_values.proofs.supply.own_field.Goals as goal
 
 pub returns-in-40706 : goal.returns-in-40706
@@ -49,4 +49,4 @@ returns-in-40755 c = sym (ap own_field c.in-40755.is)
 pub returns-in_default : goal.returns-in_default
 unfolding own_field beside pick
 returns-in_default c =
-    sym (beside_none Nothing c.args.tag (map (λ row. (row.0, Of row.1.0)) own_table) c.in_default.in_default-own.rest)
+    sym (beside_none None c.args.tag (map (λ row. (row.0, Some row.1.0)) own_table) c.in_default.in_default-own.rest)

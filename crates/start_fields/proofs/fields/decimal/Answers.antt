@@ -1,5 +1,5 @@
 -- `start_fields::fields::decimal` meets its contract. The loop's invariant: the number so far, continued by what is left, is the
--- whole; and it stays below what i bytes of halves 15 come to, three times which is 5 * 100 ^ i - 5. Assumes nothing.
+-- whole; and it stays below what as many bytes of halves 15 come to, three times which is 5 * 100 ^ i - 5. Assumes nothing.
 use mathlib.Core.Path.{◌≡◌, refl, sym, ap, ◌∙◌}
 use mathlib.Core.List.{List}
 use Prim.Native.Nat.{ℕ, ◌+◌, ◌*◌, ◌^◌, ◌≤◌, ◌<◌}
@@ -28,38 +28,33 @@ six i h = pow-le-pow_right (lit< tt) h
 next : (i : ℕ) → 100 ^ (i + 1) ≡ 100 * 100 ^ i
 next i = ap (λ (k : ℕ). 100 ^ k) (add-one i) ∙ pow-succ' 100 i
 
-pub loop-i-init : goal.loop-i-init
+pub loop-b-init : goal.loop-b-init
 unfolding decimal
-loop-i-init c = (omega arith, c.requires, omega arith, refl)
+loop-b-init c = (omega arith, refl)
 
 pub overflow_mul-n : goal.overflow_mul-n
-overflow_mul-n c = omega (arith, six c.loop-i.i (omega arith))
-
-pub overflow_cast-s : goal.overflow_cast-s
-overflow_cast-s c =
-    omega (arith, c.type_inv.s c.loop-i.i)
+overflow_mul-n c = omega (arith, six c.loop-b.b-index (omega arith))
 
 pub overflow_add-n : goal.overflow_add-n
 overflow_add-n c =
-    let i = c.loop-i.i in
+    let i = c.loop-b.b-index in
     omega (arith, six i (omega arith), c.type_inv.s i, c.two_digits.ensures)
 
-pub loop-i-preserved : goal.loop-i-preserved
-loop-i-preserved c =
+pub loop-b-preserved : goal.loop-b-preserved
+loop-b-preserved c =
     let s = c.args.s.now in
-    let l = c.loop-i in
-    let bound : 3 * (l.n * 100 + c.two_digits.result) + 5 ≤ 5 * 100 ^ (l.i + 1) =
-    omega (arith, next l.i, c.type_inv.s l.i, c.two_digits.ensures) in (
-      omega arith,
-      omega arith,
+    let l = c.loop-b in
+    let i = l.b-index in
+    let bound : 3 * (l.n * 100 + c.two_digits.result) + 5 ≤ 5 * 100 ^ (i + 1) =
+    omega (arith, next i, c.type_inv.s i, c.two_digits.ensures) in (
       bound,
-      ap (λ (d : ℕ). decimal_from (l.n * 100 + d) (drop (l.i + 1) s)) c.two_digits.ensures
-          ∙ (sym (turn s l.n l.i (omega arith)) ∙ l.invariant.3),
+      ap (λ (d : ℕ). decimal_from (l.n * 100 + d) (drop (i + 1) s)) (c.two_digits.ensures ∙ ap two_digits c.from.ensures)
+          ∙ (sym (turn s l.n i (omega arith)) ∙ l.invariant.1),
     )
 
 pub returns : goal.returns
 returns c =
-    let l = c.loop-i in (
-      sym (end c.args.s.now l.n l.i (omega arith)) ∙ l.invariant.3,
-      omega (arith, six l.i (omega arith)),
+    let l = c.loop-b in (
+      sym (end c.args.s.now l.n l.b-index (omega arith)) ∙ l.invariant.1,
+      omega (arith, six l.b-index (omega arith)),
     )

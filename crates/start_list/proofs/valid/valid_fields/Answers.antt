@@ -1,6 +1,7 @@
 -- `valid::valid_fields` meets its contract. The loop's invariant: the fields that are left decide as all of them do.
 -- Assumes nothing.
-use mathlib.Core.Path.{◌≡◌, refl, sym, ap, ◌∙◌}
+use mathlib.Core.Path.{◌≡◌, sym, ap, ◌∙◌}
+use mathlib.Core.Bool.{Bool}
 use mathlib.Core.List.{List, []}
 use Prim.Native.Nat.{ℕ, ◌*◌, ◌<◌}
 use native.Mathlib.Omega.{arith}
@@ -12,47 +13,33 @@ use Rattle.start_list.proofs.Lists.{all_on, all_not, all_past}
 use Rattle.start_list.proofs.valid.valid_fields.Invariants.{used}
 use Rattle.start_list.proofs.valid.valid_fields.Goals as goal
 
-pub loop-k-init : goal.loop-k-init
-loop-k-init c = (c.count-n.ensures.0, c.count-n.ensures.1, refl)
+-- what the code finds of a field that is used is what holds of the row at its place
+found : (s fields row : List ℕ) (k : ℕ) (r : Bool) → k < count_in s → fields ≡ fields_in s → row ≡ take 18 (drop (18 * k) fields)
+    → r ≡ valid_field row → r ≡ valid_field (get_or (used s) k [])
+found s fields row k r h e f g =
+    g ∙ ap valid_field (f ∙ (ap (λ (t : List ℕ). take 18 (drop (18 * k) t)) e ∙ sym (row_at (count_in s) k (fields_in s) h)))
 
 pub loop-k-preserved : goal.loop-k-preserved
 loop-k-preserved c =
-    let found : c.loop-k.k < count_in c.args.s.now → c.valid_field.result ≡ valid_field (get_or (used c.args.s.now) c.loop-k.k []) =
-    λ h. let s = c.args.s.now in
-    let k = c.loop-k.k in
-    c.valid_field.ensures
-    ∙ ap valid_field
-    (c.row.ensures
-    ∙ (ap (λ (t : List ℕ). take 18 (drop (18 * k) t)) c.fields.ensures ∙ sym (row_at (count_in s) k (fields_in s) h)))
-    in
-    let s = c.args.s.now in
-    let l = c.loop-k in
-    let size = rows_length (count_in s) (fields_in s) in
-    let below : l.k < count_in s = omega arith in (
-      l.invariant.0,
-      omega arith,
-      sym (all_on valid_field (used s) [] l.k (omega arith) (sym (found below) ∙ c.if-valid_field.true)) ∙ l.invariant.2,
-    )
-
-pub returns-else-valid_field : goal.returns-else-valid_field
-returns-else-valid_field c =
-    let found : c.loop-k.k < count_in c.args.s.now → c.valid_field.result ≡ valid_field (get_or (used c.args.s.now) c.loop-k.k []) =
-    λ h. let s = c.args.s.now in
-    let k = c.loop-k.k in
-    c.valid_field.ensures
-    ∙ ap valid_field
-    (c.row.ensures
-    ∙ (ap (λ (t : List ℕ). take 18 (drop (18 * k) t)) c.fields.ensures ∙ sym (row_at (count_in s) k (fields_in s) h)))
-    in
     let s = c.args.s.now in
     let l = c.loop-k in
     let size = rows_length (count_in s) (fields_in s) in
     let below : l.k < count_in s = omega arith in
-    sym (all_not valid_field (used s) [] l.k (omega arith) (sym (found below) ∙ c.if-valid_field.false)) ∙ l.invariant.2
+    let e = found s _ _ l.k _ below c.fields.ensures c.row.ensures c.valid_field.ensures in
+    sym (all_on valid_field (used s) [] l.k (omega arith) (sym e ∙ c.if-not-valid_field.false)) ∙ l.invariant
+
+pub returns-then-not-valid_field : goal.returns-then-not-valid_field
+returns-then-not-valid_field c =
+    let s = c.args.s.now in
+    let l = c.loop-k in
+    let size = rows_length (count_in s) (fields_in s) in
+    let below : l.k < count_in s = omega arith in
+    let e = found s _ _ l.k _ below c.fields.ensures c.row.ensures c.valid_field.ensures in
+    sym (all_not valid_field (used s) [] l.k (omega arith) (sym e ∙ c.if-not-valid_field.true)) ∙ l.invariant
 
 pub returns : goal.returns
 returns c =
     let s = c.args.s.now in
     let l = c.loop-k in
     let size = rows_length (count_in s) (fields_in s) in
-    sym (all_past valid_field (used s) [] l.k (omega arith)) ∙ l.invariant.2
+    sym (all_past valid_field (used s) [] l.k (omega arith)) ∙ l.invariant

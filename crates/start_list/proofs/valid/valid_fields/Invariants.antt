@@ -2,7 +2,7 @@
 -- Assumes nothing.
 use mathlib.Core.Path.{◌≡◌}
 use mathlib.Core.List.{List, map}
-use Prim.Native.Nat.{ℕ, ◌-◌, ◌≤◌}
+use Prim.Native.Nat.{ℕ}
 use lib.ListN.{drop}
 use Rattle.slices.specs.Tests.{every}
 use Rattle.start_list.specs.Rows.{rows_in}
@@ -14,7 +14,4 @@ abbrev pub used : List ℕ → List (List ℕ)
 used s = rows_in (count_in s) (fields_in s)
 
 abbrev pub invariant-loop-k : goal.invariant-loop-k
-invariant-loop-k l = (l.n ≡ count_in l.s) × (l.n ≤ 8) × (every (map valid_field (drop l.k (used l.s))) ≡ every (map valid_field (used l.s)))
-
-abbrev pub decreases-loop-k : goal.decreases-loop-k
-decreases-loop-k l = l.n - l.k
+invariant-loop-k l = every (map valid_field (drop l.k (used l.s))) ≡ every (map valid_field (used l.s))

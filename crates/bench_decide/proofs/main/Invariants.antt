@@ -1,9 +1,0 @@
--- `bench_decide::main` is safe and ends: the turns are counted down. Assumes nothing.
-use Rattle.std.proofs.Common.{◌≤◌}
-use Rattle.bench_decide.proofs.main.Given as goal
-
-abbrev pub invariant-loop-turns : goal.invariant-loop-turns
-invariant-loop-turns l = l.turns ≤ l.initial.turns
-
-abbrev pub decreases-loop-turns : goal.decreases-loop-turns
-decreases-loop-turns l = l.turns
