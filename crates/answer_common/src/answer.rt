@@ -56,11 +56,7 @@ fn only(s: &[u8]) -> Next
         Next::Member { tag, start, end } => match next(s, end) {
             Next::End => Next::Member { tag, start, end },
             Next::Broken => Next::Broken,
-            Next::Member {
-                tag: _,
-                start: _,
-                end: _,
-            } => Next::Broken,
+            Next::Member { .. } => Next::Broken,
         },
     }
 }
@@ -81,11 +77,7 @@ pub fn is_one(answer: &[u8], tag: usize) -> bool
     match outer(answer) {
         Next::End => false,
         Next::Broken => false,
-        Next::Member {
-            tag: t,
-            start: _,
-            end: _,
-        } => t == tag,
+        Next::Member { tag: t, .. } => t == tag,
     }
 }
 
@@ -116,11 +108,7 @@ fn alone(s: &[u8]) -> Single
         Next::Member { tag, start, end } => match next(s, end) {
             Next::End => Single::Object { tag, start, end },
             Next::Broken => Single::Refused(FOR_OBJECT),
-            Next::Member {
-                tag: _,
-                start: _,
-                end: _,
-            } => Single::Refused(FOR_OBJECT),
+            Next::Member { .. } => Single::Refused(FOR_OBJECT),
         },
     }
 }

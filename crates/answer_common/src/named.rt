@@ -14,14 +14,7 @@ use tlv_list::place::value;
 pub fn is_listed(name: usize, names: &[usize]) -> bool
     ensures { result ≡ listed name names.now }
 {
-    let mut i = 0;
-    while i < names.len() {
-        if name == names[i] {
-            return true;
-        }
-        i += 1;
-    }
-    false
+    names.contains(&name)
 }
 
 // How often a name was found; 2 for twice and more.
@@ -30,7 +23,7 @@ pub fn times_of(found: Found) -> usize
 {
     match found {
         Found::Absent => 0,
-        Found::Once { start: _, end: _ } => 1,
+        Found::Once { .. } => 1,
         Found::Twice => 2,
     }
 }
@@ -39,16 +32,7 @@ pub fn times_of(found: Found) -> usize
 pub fn any_times(n: usize, a: Found, b: Found, c: Found, d: Found) -> bool
     ensures { result ≡ any_of (map (λ found. eqb (found_times found) n) (a ∷ b ∷ c ∷ d ∷ [])) }
 {
-    if times_of(a) == n {
-        return true;
-    }
-    if times_of(b) == n {
-        return true;
-    }
-    if times_of(c) == n {
-        return true;
-    }
-    times_of(d) == n
+    [a, b, c, d].iter().any(|found| times_of(*found) == n)
 }
 
 // The value of what was found once; else nothing.

@@ -17,15 +17,12 @@ fn digits(v: &[u8]) -> usize
     requires { length v.now ≤ 10 }
     ensures { result ≡ digits_of (halves v.now) }
 {
-    let mut i = 0;
-    while i < 2 * v.len() {
-        if half(v, i) <= 9 {
-            i += 1;
-        } else {
+    for i in 0..2 * v.len() {
+        if 9 < half(v, i) {
             return i;
         }
     }
-    i
+    2 * v.len()
 }
 
 // Whether only 'F' stands from a place on.
@@ -33,11 +30,8 @@ fn is_only_f(v: &[u8], from: usize) -> bool
     requires { length v.now ≤ 10 }
     ensures { result ≡ only_f (drop from (halves v.now)) }
 {
-    let mut i = from;
-    while i < 2 * v.len() {
-        if half(v, i) == 0xF {
-            i += 1;
-        } else {
+    for i in from..2 * v.len() {
+        if half(v, i) != 0xF {
             return false;
         }
     }

@@ -93,14 +93,7 @@ pub fn take(told: &mut [u8], names: &[usize], answer: &[u8]) -> usize
 fn any_untold(told: &[u8], names: &[usize]) -> bool
     ensures { result ≡ any_of (map (λ name. not (is_some (told_in told.now name))) names.now) }
 {
-    let mut i = 0;
-    while i < names.len() {
-        if !has(told, names[i]) {
-            return true;
-        }
-        i += 1;
-    }
-    false
+    names.iter().any(|name| !has(told, *name))
 }
 
 // Reasons 8 and 9 after the last record; 0 where neither applies.

@@ -44,7 +44,7 @@ pub fn pdol_read(answer: &[u8]) -> &[u8]
 {
     match single_of(answer) {
         Single::Refused(_) => &answer[0..0],
-        Single::Object { tag: _, start, end } => {
+        Single::Object { start, end, .. } => {
             let v = value(data_field(answer), start, end);
             value_in_checked(value_in_checked(v, 0xA5), 0x9F38)
         }
@@ -54,18 +54,7 @@ pub fn pdol_read(answer: &[u8]) -> &[u8]
 fn begins(aid: &[u8], v: &[u8]) -> bool
     ensures { result ≡ begins_of aid.now v.now }
 {
-    if v.len() < aid.len() {
-        return false;
-    }
-    let mut i = 0;
-    while i < aid.len() {
-        if aid[i] == v[i] {
-            i += 1;
-        } else {
-            return false;
-        }
-    }
-    true
+    v.starts_with(aid)
 }
 
 // Whether the name 84 was found and does not begin with the AID.

@@ -15,15 +15,9 @@ pub fn list(rt: &impl Print, words: &[u8]) -> io::Result<()> {
 
 fn print_all(rt: &impl Print, s: &[u8]) -> io::Result<()> {
     let mut at = 0;
-    while at < s.len() {
-        match tlv_reader::next_from(s, at) {
-            Next::End => return Ok(()),
-            Next::Broken => return Ok(()),
-            Next::Member { tag, start: _, end } => {
-                print_other(rt, tag, tlv_reader::value_from(s, at))?;
-                at = end;
-            }
-        }
+    while let Next::Member { tag, end, .. } = tlv_reader::next_from(s, at) {
+        print_other(rt, tag, tlv_reader::value_from(s, at))?;
+        at = end;
     }
     Ok(())
 }
@@ -36,8 +30,7 @@ pub fn nth(rt: &impl Print, words: &[u8]) -> io::Result<()> {
 
 fn print_nth(rt: &impl Print, n: usize, s: &[u8]) -> io::Result<()> {
     match tlv_reader::object_at(s, n) {
-        Next::End => text_print::text(rt, b"-"),
-        Next::Broken => text_print::text(rt, b"-"),
+        Next::End | Next::Broken => text_print::text(rt, b"-"),
         Next::Member { tag, start, end } => print_member(rt, tag, place::value(s, start, end)),
     }
 }

@@ -3,7 +3,7 @@ use std::io;
 use text_hex::unhex;
 use text_lines::{after_word, hex_number};
 use tlv_head::Next;
-use tlv_list::{Found, Sought, lookup, place};
+use tlv_list::{Found, lookup, place};
 
 pub fn list(rt: &impl Print, words: &[u8]) -> io::Result<()> {
     let mut bytes = [0u8; 5000];
@@ -16,8 +16,7 @@ fn print_list(rt: &impl Print, s: &[u8]) -> io::Result<()> {
         return text_print::text(rt, b"refused 9");
     }
     match place::next(s, 0) {
-        Next::End => text_print::text(rt, b"-"),
-        Next::Broken => text_print::text(rt, b"-"),
+        Next::End | Next::Broken => text_print::text(rt, b"-"),
         Next::Member { tag, start, end } => {
             print_member(rt, tag, place::value(s, start, end))?;
             print_others(rt, s, end)
@@ -27,15 +26,9 @@ fn print_list(rt: &impl Print, s: &[u8]) -> io::Result<()> {
 
 fn print_others(rt: &impl Print, s: &[u8], from: usize) -> io::Result<()> {
     let mut at = from;
-    while at < s.len() {
-        match place::next(s, at) {
-            Next::End => return Ok(()),
-            Next::Broken => return Ok(()),
-            Next::Member { tag, start, end } => {
-                print_other(rt, tag, place::value(s, start, end))?;
-                at = end;
-            }
-        }
+    while let Next::Member { tag, start, end } = place::next(s, at) {
+        print_other(rt, tag, place::value(s, start, end))?;
+        at = end;
     }
     Ok(())
 }
@@ -59,8 +52,8 @@ pub fn find(rt: &impl Print, words: &[u8]) -> io::Result<()> {
 
 fn print_sought(rt: &impl Print, tag: usize, s: &[u8]) -> io::Result<()> {
     match lookup::find(s, tag) {
-        Sought::Refused => text_print::text(rt, b"refused 9"),
-        Sought::InList(found) => print_found(rt, found, s),
+        None => text_print::text(rt, b"refused 9"),
+        Some(found) => print_found(rt, found, s),
     }
 }
 

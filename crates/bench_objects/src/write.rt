@@ -5,7 +5,7 @@ use std::io;
 use text_hex::unhex;
 use text_lines::{after_word, hex_number, number};
 use tlv_list::place;
-use tlv_write::Wrote;
+use tlv_write::WriteRefusal;
 
 pub fn write(rt: &impl Print, words: &[u8]) -> io::Result<()> {
     let mut value = [0u8; 5000];
@@ -22,8 +22,7 @@ pub fn write(rt: &impl Print, words: &[u8]) -> io::Result<()> {
 fn room(word: &[u8]) -> usize
     ensures { result ≤ 5000 }
 {
-    let asked = number(word);
-    if asked < 5000 { asked } else { 5000 }
+    number(word).min(5000)
 }
 
 // The buffer shows where it was touched behind the object.
@@ -38,15 +37,15 @@ fn write_into(rt: &impl Print, tag: usize, value: &[u8], room: usize) -> io::Res
 // Prints the object or the refusal, and answers how many bytes were written.
 fn print_written(rt: &impl Print, tag: usize, value: &[u8], buf: &mut [u8]) -> io::Result<usize> {
     match tlv_write::write(tag, value, buf) {
-        Wrote::BadObject => {
+        Err(WriteRefusal::BadObject) => {
             text_print::text(rt, b"refused 10")?;
             Ok(0)
         }
-        Wrote::NoRoom => {
+        Err(WriteRefusal::NoRoom) => {
             text_print::text(rt, b"refused 11")?;
             Ok(0)
         }
-        Wrote::Bytes(n) => {
+        Ok(n) => {
             text_print::bytes(rt, place::value(buf, 0, n))?;
             Ok(n)
         }

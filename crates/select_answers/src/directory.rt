@@ -51,22 +51,11 @@ fn entries_right(s: &[u8]) -> bool
         ≡ every (map (λ e. entry_right (standing e)) (entries (map (object_at s.now) (places_from s.now 0)))) }
 {
     let mut p = 0;
-    while p < s.len() {
-        match next(s, p) {
-            Next::End => return true,
-            Next::Broken => return true,
-            Next::Member { tag, start, end } => {
-                if tag == ENTRY {
-                    if is_entry_right(value(s, start, end)) {
-                        p = end;
-                    } else {
-                        return false;
-                    }
-                } else {
-                    p = end;
-                }
-            }
+    while let Next::Member { tag, start, end } = next(s, p) {
+        if tag == ENTRY && !is_entry_right(value(s, start, end)) {
+            return false;
         }
+        p = end;
     }
     true
 }

@@ -73,11 +73,8 @@ fn place_for(list: &[u8], standing: usize) -> usize
     ensures { (result ≡ place_for standing (list_in list.now)) × (result ≤ length (kept_in list.now)) }
 {
     let n = count(list);
-    let mut i = 0;
-    while i < n {
-        if standing_at(list, i) <= standing {
-            i += 1;
-        } else {
+    for i in 0..n {
+        if standing < standing_at(list, i) {
             return i;
         }
     }

@@ -7,9 +7,7 @@ pub fn move_up(buf: &mut [u8], at: usize, n: usize, by: usize)
     requires { at + by + n ≤ length buf.old }
     ensures { buf.new ≡ put (take n (drop at buf.old)) (at + by) buf.old }
 {
-    let mut i = n;
-    while 0 < i {
-        i -= 1;
+    for i in (0..n).rev() {
         buf[at + by + i] = buf[at + i];
     }
 }
@@ -19,9 +17,7 @@ pub fn move_down(buf: &mut [u8], at: usize, n: usize, by: usize)
     requires { at + by + n ≤ length buf.old }
     ensures { buf.new ≡ put (take n (drop (at + by) buf.old)) at buf.old }
 {
-    let mut i = 0;
-    while i < n {
+    for i in 0..n {
         buf[at + i] = buf[at + by + i];
-        i += 1;
     }
 }

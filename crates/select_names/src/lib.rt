@@ -30,13 +30,10 @@ pub fn matches_listed(start: &[u8], k: usize, name: &[u8]) -> bool
 pub fn is_supported(start: &[u8], name: &[u8]) -> bool
     ensures { result ≡ supported (applications_in start.now) name.now }
 {
-    let n = listed_count(start);
-    let mut k = 0;
-    while k < n {
+    for k in 0..listed_count(start) {
         if matches_listed(start, k, name) {
             return true;
         }
-        k += 1;
     }
     false
 }

@@ -31,14 +31,12 @@ fn slot_in(names: &[usize], tag: usize) -> Slot
     ensures { result ≡ beside nowhere tag (placed told_from (rooms_of names.now)) }
 {
     let mut at = 15;
-    let mut i = 0;
-    while i < names.len() {
-        let size = room(names[i]) + 1;
-        if names[i] == tag {
+    for name in names {
+        let size = room(*name) + 1;
+        if *name == tag {
             return Slot { at, size };
         }
         at += size;
-        i += 1;
     }
     Slot { at: END, size: 0 }
 }

@@ -12,8 +12,9 @@ use Rattle.tlv_head.specs.Head.{length_form, length_size, length_of, value_start
 use Rattle.slices.specs.Tests.{is_some}
 use Rattle.tlv_list.specs.Objects.{Object, between, first_object, before, right_inside, listed, objects, is_list, read_refusal}
 use Rattle.tlv_list.specs.Lookup.{seek}
-use Rattle.tlv_list.specs.declared.Sought.{Sought}
-use Rattle.tlv_list.specs.declared.Sought.TheVariants.{Refused}
+use Rattle.std.specs.Prelude.{None}
+use Rattle.std.specs.Prelude.{Option as Answer}
+use Rattle.tlv_list.specs.declared.Found.{Found}
 
 object : ℕ → List ℕ → Object
 object t v = record { tag = t; value = v }
@@ -74,10 +75,10 @@ unfolding reads whole tag_right pick
 no_tag = (refl, refl)
 
 -- bytes that are no list are refused by a look-up, also of a tag that stands before the break, or of none
-looks_up : List ℕ → ℕ → Sought
+looks_up : List ℕ → ℕ → Answer Found
 unfolding reads is_list first_of read_refusal seek
 looks_up s tag = seek s tag
 
-no_look_up : (looks_up (0x5A ∷ 0x01 ∷ 0x12 ∷ 0xFF ∷ []) 0x5A ≡ Refused) × (looks_up (0x5A ∷ 0x01 ∷ 0x12 ∷ 0xFF ∷ []) 0x82 ≡ Refused)
+no_look_up : (looks_up (0x5A ∷ 0x01 ∷ 0x12 ∷ 0xFF ∷ []) 0x5A ≡ None) × (looks_up (0x5A ∷ 0x01 ∷ 0x12 ∷ 0xFF ∷ []) 0x82 ≡ None)
 unfolding looks_up
 no_look_up = (refl, refl)

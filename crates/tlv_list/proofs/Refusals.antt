@@ -15,7 +15,7 @@ use Rattle.slices.specs.Tests.{is_some}
 use Rattle.tlv_list.specs.Objects.{Object, objects, is_list, read_refusal}
 use Rattle.tlv_list.specs.Lookup.{lookup, find_in_checked, found_value, seek, lookup_refusal}
 use Rattle.tlv_list.specs.declared.Found.{Found}
-use Rattle.tlv_list.specs.declared.Sought.TheVariants.{Refused, InList}
+use Rattle.std.specs.Prelude.{None, Some}
 use Rattle.tlv_list.proofs.Walking.{find_lookup}
 
 module _ (s : List ℕ) where
@@ -47,11 +47,11 @@ module _ (s : List ℕ) where
     -- the look-up's refusal is that of the list check, whatever the tag
     pub refused_as_list : lookup_refusal (seek s tag) ≡ read_refusal s
     unfolding seek lookup_refusal pick
-    refused_as_list = numbers (λ n. lookup_refusal (pick (eqb n 9) Refused (InList (find_in_checked s tag))) ≡ n) refl refl
+    refused_as_list = numbers (λ n. lookup_refusal (pick (eqb n 9) None (Some (find_in_checked s tag))) ≡ n) refl refl
 
     -- in a list it says what a look-up among the members says
     pub sought : (ms : List Object) → length s ≤ 4096 → objects s ≡ some ms
-        → (f : Found) × (seek s tag ≡ InList f) × (found_value s f ≡ lookup tag ms)
+        → (f : Found) × (seek s tag ≡ Some f) × (found_value s f ≡ lookup tag ms)
     unfolding seek is_list is_some
     sought ms h e =
         let right : is_list s ≡ true = ap is_some e in

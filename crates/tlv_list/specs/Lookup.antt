@@ -1,7 +1,7 @@
 -- Looking up a tag among the direct members of a list: it is absent, it stands there once, or more than once. In bytes that are
 -- no list nothing is looked up.
 -- Assumes nothing.
-use Rattle.std.specs.Prelude.{true, false, List, [], ◌∷◌, ℕ, eqb}
+use Rattle.std.specs.Prelude.{true, false, Option, None, Some, List, [], ◌∷◌, ℕ, eqb}
 use Rattle.slices.specs.Choice.{pick}
 use Rattle.numbers.specs.Tables.{refused_reading}
 use Rattle.tlv_list.specs.Objects.{Object, between, read_refusal}
@@ -9,8 +9,6 @@ use Rattle.tlv_list.specs.Place.{Place, places_from}
 use Rattle.tlv_list.specs.declared.Found.{Found}
 use Rattle.tlv_list.specs.declared.Found.TheVariants.{Absent, Once, Twice}
 use Rattle.tlv_list.specs.declared.Members.{Members}
-use Rattle.tlv_list.specs.declared.Sought.{Sought}
-use Rattle.tlv_list.specs.declared.Sought.TheVariants.{Refused, InList}
 
 -- among members, with the value where the tag stands once: what the rules above are written with
 pub data Lookup : Type 0 where
@@ -87,10 +85,10 @@ found_value s (Once a e) = once (between s a e)
 found_value s Twice = twice
 
 -- the look-up for any bytes: what is refused as a list (9) is refused here, whatever the tag
-unfoldable pub seek : List ℕ → ℕ → Sought
-seek s tag = pick (eqb (read_refusal s) refused_reading) Refused (InList (find_in_checked s tag))
+unfoldable pub seek : List ℕ → ℕ → Option Found
+seek s tag = pick (eqb (read_refusal s) refused_reading) None (Some (find_in_checked s tag))
 
 -- 01's number for each answer
-unfoldable pub lookup_refusal : Sought → ℕ
-lookup_refusal Refused = refused_reading
-lookup_refusal (InList f) = 0
+unfoldable pub lookup_refusal : Option Found → ℕ
+lookup_refusal None = refused_reading
+lookup_refusal (Some f) = 0

@@ -22,10 +22,3 @@ pub struct Members {
     pub third: Found,
     pub fourth: Found,
 }
-
-// What a look-up answers: refusal 9, or what stands in the list.
-#[derive(Clone, Copy)]
-pub enum Sought {
-    Refused,
-    InList(Found),
-}

@@ -17,15 +17,10 @@ pub fn is_list(s: &[u8]) -> bool
             Next::End => return true,
             Next::Broken => return false,
             Next::Member { tag, start, end } => {
-                if is_constructed(tag) {
-                    if is_list(&s[start..end]) {
-                        at = end;
-                    } else {
-                        return false;
-                    }
-                } else {
-                    at = end;
+                if is_constructed(tag) && !is_list(&s[start..end]) {
+                    return false;
                 }
+                at = end;
             }
         }
     }

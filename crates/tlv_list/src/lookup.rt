@@ -3,7 +3,7 @@ ghost use Rattle.std.specs.Prelude.{◌≡◌};
 ghost use Rattle.tlv_list.specs.Lookup.{find_in_checked, first_from, seek, noted as noted_of, no_members, members_of};
 
 use crate::place::{list_refusal, next, next_checked};
-use crate::{Found, Members, Sought};
+use crate::{Found, Members};
 use numbers::REFUSED_READING;
 use tlv_head::Next;
 
@@ -12,17 +12,11 @@ fn first_from(s: &[u8], at: usize, tag: usize) -> Found
     ensures { result ≡ first_from s.now at tag }
 {
     let mut p = at;
-    while p < s.len() {
-        match next(s, p) {
-            Next::End => return Found::Absent,
-            Next::Broken => return Found::Absent,
-            Next::Member { tag: t, start, end } => {
-                if t == tag {
-                    return Found::Once { start, end };
-                }
-                p = end;
-            }
+    while let Next::Member { tag: t, start, end } = next(s, p) {
+        if t == tag {
+            return Found::Once { start, end };
         }
+        p = end;
     }
     Found::Absent
 }
@@ -37,20 +31,19 @@ pub fn find_in_checked(s: &[u8], tag: usize) -> Found
         Found::Twice => Found::Twice,
         Found::Once { start, end } => match first_from(s, end, tag) {
             Found::Absent => Found::Once { start, end },
-            Found::Twice => Found::Twice,
-            Found::Once { start: _, end: _ } => Found::Twice,
+            Found::Once { .. } | Found::Twice => Found::Twice,
         },
     }
 }
 
-// The same for any bytes: those that are no list, or too many, are refused.
-pub fn find(s: &[u8], tag: usize) -> Sought
+// The same for any bytes; nothing where they are no list, or too many: refusal 9.
+pub fn find(s: &[u8], tag: usize) -> Option<Found>
     ensures { result ≡ seek s.now tag }
 {
     if list_refusal(s) == REFUSED_READING {
-        return Sought::Refused;
+        return None;
     }
-    Sought::InList(find_in_checked(s, tag))
+    Some(find_in_checked(s, tag))
 }
 
 // What was found of a tag, and one object more. It is built anew, not handed on: that would copy the bytes between its parts.

@@ -5,7 +5,7 @@ ghost use Rattle.tlv_list.specs.Place.{fillers, next_at, checked_at, data_field}
 
 use crate::list::is_list;
 use numbers::REFUSED_READING;
-use slices::{byte, part};
+use slices::part;
 use tlv_head::Next;
 use tlv_head::head::member_at;
 use tlv_head::tag::is_constructed;
@@ -15,14 +15,12 @@ fn past_fillers(s: &[u8], at: usize) -> usize
     requires { at ≤ length s.now }
     ensures { (result ≡ at + fillers (drop at s.now)) × (result ≤ length s.now) }
 {
-    let mut i = at;
-    while i < s.len() {
-        if byte(s, i) != 0 {
+    for i in at..s.len() {
+        if s[i] != 0 {
             return i;
         }
-        i += 1;
     }
-    i
+    s.len()
 }
 
 // 0 where the bytes are a list of objects that may be read, else refusal 9.
@@ -70,10 +68,8 @@ pub fn next_checked(s: &[u8], at: usize) -> Next
         Next::End => Next::End,
         Next::Broken => Next::Broken,
         Next::Member { tag, start, end } => {
-            if is_constructed(tag) {
-                if list_refusal(value(s, start, end)) != 0 {
-                    return Next::Broken;
-                }
+            if is_constructed(tag) && list_refusal(value(s, start, end)) != 0 {
+                return Next::Broken;
             }
             Next::Member { tag, start, end }
         }

@@ -20,11 +20,7 @@ fn place_after(s: &[u8], at: usize) -> usize
     ensures { result ≡ place_after s.now at }
 {
     match next(s, at) {
-        Next::Member {
-            tag: _,
-            start: _,
-            end,
-        } => end,
+        Next::Member { end, .. } => end,
         Next::End => at,
         Next::Broken => at,
     }
@@ -35,7 +31,7 @@ fn value_at(s: &[u8], at: usize) -> &[u8]
     ensures { result.now ≡ value_at s.now at }
 {
     match next(s, at) {
-        Next::Member { tag: _, start, end } => value(s, start, end),
+        Next::Member { start, end, .. } => value(s, start, end),
         Next::End => value(s, 0, 0),
         Next::Broken => value(s, 0, 0),
     }
@@ -98,18 +94,12 @@ pub fn object_at(s: &[u8], n: usize) -> Next
     ensures { result ≡ nth_from n s.now 0 }
 {
     let mut at = 0;
-    let mut i = 0;
-    while i < n {
+    for _ in 0..n {
         match next_from(s, at) {
-            Next::Member {
-                tag: _,
-                start: _,
-                end,
-            } => at = end,
+            Next::Member { end, .. } => at = end,
             Next::End => return Next::End,
             Next::Broken => return Next::Broken,
         }
-        i += 1;
     }
     next_from(s, at)
 }

@@ -12,7 +12,8 @@ use Rattle.slices.proofs.Writing.{put_start}
 use Rattle.tlv_list.specs.Objects.{Object, objects}
 use Rattle.tlv_write.specs.Written.{written, write_refusal, refusal_of, size_of}
 use Rattle.tlv_write.specs.Writes.{Writes}
-use Rattle.tlv_write.specs.declared.Wrote.{Wrote}
+use Rattle.std.specs.Prelude.{Result}
+use Rattle.tlv_write.specs.declared.WriteRefusal.{WriteRefusal}
 use Rattle.tlv_write.proofs.Refusals.{not_refused, accepted_size, accepted_buffer, written_length}
 use Rattle.tlv_write.proofs.ReadBack.{Writable, written_back}
 
@@ -27,7 +28,7 @@ accepted_writable tag value room e =
     record { a_tag = ok.sound.a_tag; fits = ok.sound.fits; short = omega arith }
 
 -- an accepted write leaves, as the first bytes of its buffer, bytes that read as exactly that object
-pub reads_back : (tag : ℕ) (value before : List ℕ) (answer : Wrote) (after : List ℕ) → Writes tag value before answer after
+pub reads_back : (tag : ℕ) (value before : List ℕ) (answer : Result ℕ WriteRefusal) (after : List ℕ) → Writes tag value before answer after
     → refusal_of answer ≡ 0 → objects (take (size_of answer) after) ≡ some (object tag value ∷ [])
 reads_back tag value before answer after w ok =
     let none = sym w.refusal ∙ ok in

@@ -15,8 +15,9 @@ use Rattle.slices.proofs.Writing.{put_length, put_step, laid_fits}
 use Rattle.slices.proofs.Choice.{pick_yes, pick_no, pick_same, picked, either, and_left}
 use Rattle.tlv_write.specs.Written.{is_tag, tag_bytes, length_bytes, written, fits_tag}
 use Rattle.tlv_write.specs.Written.{write_refusal, size_written, buffer_after, refusal_of, size_of}
-use Rattle.tlv_write.specs.declared.Wrote.{Wrote}
-use Rattle.tlv_write.specs.declared.Wrote.TheVariants.{Bytes, BadObject, NoRoom}
+use Rattle.std.specs.Prelude.{Result, Ok, Err}
+use Rattle.tlv_write.specs.declared.WriteRefusal.{WriteRefusal}
+use Rattle.tlv_write.specs.declared.WriteRefusal.TheVariants.{BadObject, NoRoom}
 
 pub written_length : (tag : ℕ) (value : List ℕ)
     → length (written tag value) ≡ length (tag_bytes tag) + length (length_bytes (length value)) + length value
@@ -95,17 +96,17 @@ module _ (tag : ℕ) (value buf : List ℕ) where
   accepted_buffer e = pick_yes _ _ _ (eq-eqb _ _ e)
 
 -- the promise on the answer fits one answer only
-pub one_answer : (a b : Wrote) → refusal_of a ≡ refusal_of b → size_of a ≡ size_of b → a ≡ b
+pub one_answer : (a b : Result ℕ WriteRefusal) → refusal_of a ≡ refusal_of b → size_of a ≡ size_of b → a ≡ b
 unfolding refusal_of size_of
-one_answer (Bytes m) (Bytes n) e f = ap Bytes f
-one_answer (Bytes m) BadObject e f = absurd (omega arith)
-one_answer (Bytes m) NoRoom e f = absurd (omega arith)
-one_answer BadObject (Bytes n) e f = absurd (omega arith)
-one_answer BadObject BadObject e f = refl
-one_answer BadObject NoRoom e f = absurd (omega arith)
-one_answer NoRoom (Bytes n) e f = absurd (omega arith)
-one_answer NoRoom BadObject e f = absurd (omega arith)
-one_answer NoRoom NoRoom e f = refl
+one_answer (Ok m) (Ok n) e f = ap Ok f
+one_answer (Ok m) (Err BadObject) e f = absurd (omega arith)
+one_answer (Ok m) (Err NoRoom) e f = absurd (omega arith)
+one_answer (Err BadObject) (Ok n) e f = absurd (omega arith)
+one_answer (Err BadObject) (Err BadObject) e f = refl
+one_answer (Err BadObject) (Err NoRoom) e f = absurd (omega arith)
+one_answer (Err NoRoom) (Ok n) e f = absurd (omega arith)
+one_answer (Err NoRoom) (Err BadObject) e f = absurd (omega arith)
+one_answer (Err NoRoom) (Err NoRoom) e f = refl
 
 -- a tag has at most two bytes
 pub tag_small : (t : ℕ) → is_tag t ≡ true → t < 65536

@@ -1,13 +1,13 @@
 -- One object written, with the shortest length form. 01, "Data objects", and refusals 10 and 11.
 -- Assumes nothing.
-use Rattle.std.specs.Prelude.{Bool, true, not, ◌&&◌, List, [], ◌∷◌, ◌++◌, ℕ, ◌/◌, ◌%◌, ltb, eqb, length}
+use Rattle.std.specs.Prelude.{Bool, true, not, ◌&&◌, Result, Ok, Err, List, [], ◌∷◌, ◌++◌, ℕ, ◌/◌, ◌%◌, ltb, eqb, length}
 use Rattle.slices.specs.Choice.{pick, first_of}
 use Rattle.slices.specs.Writing.{put}
 use Rattle.numbers.specs.Tables.{refused_writing, refused_space}
 use Rattle.tlv_head.specs.Head.{constructed, two_bytes}
 use Rattle.tlv_list.specs.Objects.{Object, is_list, longest}
-use Rattle.tlv_write.specs.declared.Wrote.{Wrote}
-use Rattle.tlv_write.specs.declared.Wrote.TheVariants.{Bytes, BadObject, NoRoom}
+use Rattle.tlv_write.specs.declared.WriteRefusal.{WriteRefusal}
+use Rattle.tlv_write.specs.declared.WriteRefusal.TheVariants.{BadObject, NoRoom}
 
 -- a number that is exactly one tag: one byte that is not '00' and asks for no second, or two bytes, the first asking for
 -- the second and that being '00' to '7F'
@@ -46,15 +46,15 @@ write_refusal tag value room =
     ∷ [])
 
 -- the answer's cases, with 01's number for each and the bytes written
-unfoldable pub refusal_of : Wrote → ℕ
-refusal_of (Bytes n) = 0
-refusal_of BadObject = 10
-refusal_of NoRoom = 11
+unfoldable pub refusal_of : {A : Type 0} → Result A WriteRefusal → ℕ
+refusal_of (Ok n) = 0
+refusal_of (Err BadObject) = 10
+refusal_of (Err NoRoom) = 11
 
-unfoldable pub size_of : Wrote → ℕ
-size_of (Bytes n) = n
-size_of BadObject = 0
-size_of NoRoom = 0
+unfoldable pub size_of : Result ℕ WriteRefusal → ℕ
+size_of (Ok n) = n
+size_of (Err BadObject) = 0
+size_of (Err NoRoom) = 0
 
 -- how many bytes are written: none where the object is refused
 unfoldable pub size_written : ℕ → List ℕ → ℕ → ℕ

@@ -6,15 +6,13 @@ ghost use Rattle.slices.specs.Writing.{laid, put};
 ghost use Rattle.tlv_write.specs.Written.{is_tag, tag_bytes, length_bytes, fits_tag, written};
 ghost use Rattle.tlv_write.specs.Written.{write_refusal, refusal_of, size_of, size_written, buffer_after};
 
-use numbers::{REFUSED_SPACE, REFUSED_WRITING};
 use slices::lay;
 use tlv_head::tag::{has_two_bytes, is_constructed};
 use tlv_list::place::list_refusal;
 
-// What the writer did: bytes written, or why it did not write.
-#[derive(Clone, Copy)]
-pub enum Wrote {
-    Bytes(usize),
+// Why an object is not written: refusals 10 and 11.
+#[derive(Clone, Copy, PartialEq, Eq)]
+pub enum WriteRefusal {
     BadObject,
     NoRoom,
 }
@@ -23,21 +21,9 @@ fn is_tag(t: usize) -> bool
     ensures { result ≡ is_tag t }
 {
     if t < 256 {
-        if t == 0 {
-            false
-        } else if has_two_bytes(t) {
-            false
-        } else {
-            true
-        }
-    } else if t < 65536 {
-        if has_two_bytes(t / 256) {
-            t % 256 < 0x80
-        } else {
-            false
-        }
+        t != 0 && !has_two_bytes(t)
     } else {
-        false
+        t < 65536 && has_two_bytes(t / 256) && t % 256 < 0x80
     }
 }
 
@@ -45,11 +31,7 @@ fn fits_tag(tag: usize, value: &[u8]) -> bool
     requires { length value.now ≤ 4096 }
     ensures { result ≡ fits_tag tag value.now }
 {
-    if is_constructed(tag) {
-        list_refusal(value) == 0
-    } else {
-        true
-    }
+    !is_constructed(tag) || list_refusal(value) == 0
 }
 
 fn tag_size(tag: usize) -> usize
@@ -70,26 +52,21 @@ fn length_size(n: usize) -> usize
     }
 }
 
-// The refusal's number, or 0. The size goes before the list check, which refuses over 4,096 bytes by another number.
-fn refusal(tag: usize, value: &[u8], room: usize) -> usize
-    ensures { result ≡ write_refusal tag value.now room }
+// Whether the object may be written. Its size goes before the list check, which refuses over 4,096 bytes by another number.
+fn accept(tag: usize, value: &[u8], room: usize) -> Result<(), WriteRefusal>
+    ensures { refusal_of result ≡ write_refusal tag value.now room }
 {
     if 4096 < value.len() {
-        return REFUSED_WRITING;
+        return Err(WriteRefusal::BadObject);
     }
     let size = tag_size(tag) + length_size(value.len()) + value.len();
-    if 4096 < size {
-        return REFUSED_WRITING;
+    if 4096 < size || !is_tag(tag) || !fits_tag(tag, value) {
+        return Err(WriteRefusal::BadObject);
     }
-    if is_tag(tag) {
-        if fits_tag(tag, value) {
-            if room < size { REFUSED_SPACE } else { 0 }
-        } else {
-            REFUSED_WRITING
-        }
-    } else {
-        REFUSED_WRITING
+    if room < size {
+        return Err(WriteRefusal::NoRoom);
     }
+    Ok(())
 }
 
 fn lay_tag(buf: &mut [u8], tag: usize)
@@ -135,17 +112,11 @@ fn lay_object(buf: &mut [u8], tag: usize, value: &[u8]) -> usize
     b + value.len()
 }
 
-pub fn write(tag: usize, value: &[u8], buf: &mut [u8]) -> Wrote
+pub fn write(tag: usize, value: &[u8], buf: &mut [u8]) -> Result<usize, WriteRefusal>
     ensures refusal { refusal_of result ≡ write_refusal tag value.now (length buf.old) }
     ensures size { size_of result ≡ size_written tag value.now (length buf.old) }
     ensures buffer { buf.new ≡ buffer_after tag value.now buf.old }
 {
-    let why = refusal(tag, value, buf.len());
-    if why == REFUSED_WRITING {
-        return Wrote::BadObject;
-    }
-    if why == REFUSED_SPACE {
-        return Wrote::NoRoom;
-    }
-    Wrote::Bytes(lay_object(buf, tag, value))
+    accept(tag, value, buf.len())?;
+    Ok(lay_object(buf, tag, value))
 }

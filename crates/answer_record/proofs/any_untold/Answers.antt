@@ -1,28 +1,19 @@
--- `answer_record::any_untold` meets its contract. The loop's invariant: the names that are left decide as all do.
+-- `answer_record::any_untold` meets its contract: the library's test of the names.
 -- Assumes nothing.
-use mathlib.Core.Path.{sym, ap, ◌∙◌}
-use mathlib.Core.Bool.{not}
-use native.Mathlib.Omega.{arith}
-use Rattle.slices.proofs.Tables.{any_one_on, any_found, any_through}
-use Rattle.answer_record.proofs.any_untold.Invariants.{untold}
+use Rattle.std.proofs.Common.{rules, tests, ◌∙◌, refl, Bool, not, List, ℕ}
+use Rattle.std.proofs.lemmas.Iterator.{YieldsList-from_slice}
+use Rattle.std.proofs.lemmas.Iterator.Search.{any_from_yields_List}
+use Rattle.slices.specs.Tests.{is_some}
+use Rattle.session_records.specs.Slots.{told_in}
+use Rattle.answer_common.proofs.Any.{any_list}
 use Rattle.answer_record.proofs.any_untold.Goals as goal
 
-pub returns-then-not-has : goal.returns-then-not-has
-returns-then-not-has c =
-    let a = c.args in
-    let l = c.loop-i in
-    sym (any_found (untold a.told.now) a.names.now l.i (omega arith) (ap not (sym c.has.ensures) ∙ (ap not c.if-not-has.true)))
-    ∙ l.invariant
-
-pub loop-i-preserved : goal.loop-i-preserved
-loop-i-preserved c =
-    let a = c.args in
-    let l = c.loop-i in
-    sym (any_one_on (untold a.told.now) a.names.now l.i (omega arith) (ap not (sym c.has.ensures) ∙ (ap not c.if-not-has.false)))
-    ∙ l.invariant
+untold : List ℕ → ℕ → Bool
+untold told name = not (is_some (told_in told name))
 
 pub returns : goal.returns
+unfolding untold
 returns c =
     let a = c.args in
-    let l = c.loop-i in
-    sym (any_through (untold a.told.now) a.names.now l.i (omega arith)) ∙ l.invariant
+    any_from_yields_List (untold a.told.now) _ _ _ c.any.ensures.ran (YieldsList-from_slice a.names.now (cc)) (λ x b q k. search (rules, tests))
+    ∙ any_list (untold a.told.now) (untold a.told.now) (λ name. refl) a.names.now

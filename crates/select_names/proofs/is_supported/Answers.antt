@@ -11,7 +11,7 @@ use Rattle.select_names.proofs.is_supported.Goals as goal
 
 pub loop-k-init : goal.loop-k-init
 unfolding supported
-loop-k-init c = (c.listed_count-n.ensures.0, c.listed_count-n.ensures.1, refl)
+loop-k-init c = refl
 
 pub returns-then-matches_listed : goal.returns-then-matches_listed
 unfolding listed_at
@@ -20,22 +20,19 @@ returns-then-matches_listed c =
     let a = c.args in
     sym (any_yes (matches a.name.now) (listed a.start.now) (listed_of []) l.k (omega arith)
     (sym c.matches_listed.ensures ∙ c.if-matches_listed.true))
-    ∙ l.invariant.2
+    ∙ l.invariant
 
 pub loop-k-preserved : goal.loop-k-preserved
 unfolding listed_at
 loop-k-preserved c =
     let l = c.loop-k in
-    let a = c.args in (
-      l.invariant.0,
-      omega arith,
-      sym (any_on (matches a.name.now) (listed a.start.now) (listed_of []) l.k (omega arith)
-          (sym c.matches_listed.ensures ∙ c.if-matches_listed.false))
-          ∙ l.invariant.2,
-    )
+    let a = c.args in
+    sym (any_on (matches a.name.now) (listed a.start.now) (listed_of []) l.k (omega arith)
+    (sym c.matches_listed.ensures ∙ c.if-matches_listed.false))
+    ∙ l.invariant
 
 pub returns : goal.returns
 returns c =
     let l = c.loop-k in
     let a = c.args in
-    sym (any_past (matches a.name.now) (listed a.start.now) (listed_of []) l.k (omega arith)) ∙ l.invariant.2
+    sym (any_past (matches a.name.now) (listed a.start.now) (listed_of []) l.k (omega arith)) ∙ l.invariant

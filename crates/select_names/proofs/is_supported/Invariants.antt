@@ -2,8 +2,8 @@
 -- Assumes nothing.
 use mathlib.Core.Path.{◌≡◌}
 use mathlib.Core.List.{List, map}
-use Prim.Native.Nat.{ℕ, ◌-◌, ◌≤◌}
-use lib.ListN.{length, drop}
+use Prim.Native.Nat.{ℕ}
+use lib.ListN.{drop}
 use Rattle.slices.specs.Tables.{any_of}
 use Rattle.start_list.specs.Listing.{Listed, applications_in}
 use Rattle.select_names.specs.Names.{matches, supported}
@@ -16,7 +16,4 @@ abbrev pub left_over : List ℕ → List ℕ → ℕ → Type 0
 left_over start name k = any_of (map (matches name) (drop k (listed start))) ≡ supported (applications_in start) name
 
 abbrev pub invariant-loop-k : goal.invariant-loop-k
-invariant-loop-k l = (l.n ≡ length (listed l.start)) × (l.n ≤ 8) × left_over l.start l.name l.k
-
-abbrev pub decreases-loop-k : goal.decreases-loop-k
-decreases-loop-k l = l.n - l.k
+invariant-loop-k l = left_over l.start l.name l.k

@@ -31,32 +31,29 @@ module _ (s : List ℕ) (at : ℕ) where
       let left : n - i ≡ suc (n - (i + 1)) = omega arith in
       ap (λ p. nth_from (n - (i + 1)) s (go_on at p)) e ∙ ap (λ (k : ℕ). nth_from k s at) (sym left)
 
-pub loop-i-init : goal.loop-i-init
-loop-i-init c = (omega arith, ap (λ (k : ℕ). nth_from k c.args.s.now 0) (omega arith))
-
 pub returns-in-End : goal.returns-in-End
 returns-in-End c =
     let a = c.args in
-    let l = c.loop-i in
-    at_end_lem a.s.now l.at (a.n - l.i) (sym c.in-End.is ∙ c.next_from.ensures) ∙ l.invariant.1
+    let l = c.loop in
+    at_end_lem a.s.now l.at (a.n - l.counter) (sym c.in-End.is ∙ c.next_from.ensures) ∙ l.invariant
 
 pub returns-in-Broken : goal.returns-in-Broken
 returns-in-Broken c =
     let a = c.args in
-    let l = c.loop-i in
-    broken a.s.now l.at (a.n - l.i) (sym c.in-Broken.is ∙ c.next_from.ensures) ∙ l.invariant.1
+    let l = c.loop in
+    broken a.s.now l.at (a.n - l.counter) (sym c.in-Broken.is ∙ c.next_from.ensures) ∙ l.invariant
 
-pub loop-i-preserved : goal.loop-i-preserved
-loop-i-preserved c =
+pub loop-preserved : goal.loop-preserved
+loop-preserved c =
     let a = c.args in
-    let l = c.loop-i in
+    let l = c.loop in
     let found = sym c.in-Member.is ∙ c.next_from.ensures in
-    (omega arith, step a.s.now l.at a.n l.i _ _ _ (omega arith) found ∙ l.invariant.1)
+    step a.s.now l.at a.n l.counter _ _ _ (omega arith) found ∙ l.invariant
 
 pub returns : goal.returns
 unfolding nth_from
 returns c =
     let a = c.args in
-    let l = c.loop-i in
-    let none_left : a.n - l.i ≡ 0 = omega arith in
-    c.next_from-2.ensures ∙ (sym (ap (λ (k : ℕ). nth_from k a.s.now l.at) none_left) ∙ l.invariant.1)
+    let l = c.loop in
+    let none_left : a.n - l.counter ≡ 0 = omega arith in
+    c.next_from-2.ensures ∙ (sym (ap (λ (k : ℕ). nth_from k a.s.now l.at) none_left) ∙ l.invariant)

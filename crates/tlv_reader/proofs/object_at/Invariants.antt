@@ -1,12 +1,9 @@
 -- `object_at` meets its contract. The loop's invariant: what stands there after the steps that are left is what was asked for.
 -- Assumes nothing.
 use mathlib.Core.Path.{◌≡◌}
-use Prim.Native.Nat.{◌-◌, ◌≤◌}
+use Prim.Native.Nat.{◌-◌}
 use Rattle.tlv_reader.specs.Held.{nth_from}
 use Rattle.tlv_reader.proofs.object_at.Given as goal
 
-abbrev pub invariant-loop-i : goal.invariant-loop-i
-invariant-loop-i l = (l.i ≤ l.n) × (nth_from (l.n - l.i) l.s l.at ≡ nth_from l.n l.s 0)
-
-abbrev pub decreases-loop-i : goal.decreases-loop-i
-decreases-loop-i l = l.n - l.i
+abbrev pub invariant-loop : goal.invariant-loop
+invariant-loop l = nth_from (l.n - l.counter) l.s l.at ≡ nth_from l.n l.s 0

@@ -1,36 +1,15 @@
--- `answer_common::named::any_times` meets its contract: the four, one after the other.
+-- `answer_common::named::any_times` meets its contract: the library's test of the four.
 -- Assumes nothing.
-use mathlib.Core.Path.{◌≡◌, sym, ap, ◌∙◌}
-use Prim.Native.Nat.{ℕ}
-use lib.Dec.{eqb}
-use borrow.Author.Tests.{eq-eqb, ne_eqb}
-use Rattle.answer_common.proofs.Any.{any_yes, any_no, any_last}
+use Rattle.std.proofs.Common.{rules, tests, ◌∙◌, refl, eqb, [], ◌∷◌}
+use Rattle.std.proofs.lemmas.Iterator.{YieldsList-from_slice}
+use Rattle.std.proofs.lemmas.Iterator.Search.{any_from_yields_List}
+use Rattle.answer_common.specs.Named.{found_times}
+use Rattle.answer_common.proofs.Any.{any_list}
 use Rattle.answer_common.proofs.named.any_times.Goals as goal
-
--- a number of times that the code found, and the test of it
-test : {k t : ℕ} (n : ℕ) → k ≡ t → eqb k n ≡ eqb t n
-test n e = ap (λ (x : ℕ). eqb x n) e
-
-pub returns-then-times_of-n : goal.returns-then-times_of-n
-returns-then-times_of-n c = sym (any_yes (test _ c.times_of.ensures) _ (eq-eqb _ _ c.if-times_of-n.true))
-
-pub returns-then-times_of-n-2 : goal.returns-then-times_of-n-2
-returns-then-times_of-n-2 c =
-    sym
-    (any_no (test _ c.times_of.ensures) _ (ne_eqb _ _ c.if-times_of-n.false)
-    ∙ any_yes (test _ c.times_of-2.ensures) _ (eq-eqb _ _ c.if-times_of-n-2.true))
-
-pub returns-then-times_of-n-3 : goal.returns-then-times_of-n-3
-returns-then-times_of-n-3 c =
-    sym
-    (any_no (test _ c.times_of.ensures) _ (ne_eqb _ _ c.if-times_of-n.false)
-    ∙ (any_no (test _ c.times_of-2.ensures) _ (ne_eqb _ _ c.if-times_of-n-2.false)
-    ∙ any_yes (test _ c.times_of-3.ensures) _ (eq-eqb _ _ c.if-times_of-n-3.true)))
 
 pub returns : goal.returns
 returns c =
-    let n = c.args.n in
-    sym
-    (any_no (test n c.times_of.ensures) _ (ne_eqb _ _ c.if-times_of-n.false)
-    ∙ (any_no (test n c.times_of-2.ensures) _ (ne_eqb _ _ c.if-times_of-n-2.false)
-    ∙ (any_no (test n c.times_of-3.ensures) _ (ne_eqb _ _ c.if-times_of-n-3.false) ∙ any_last (test n c.times_of-4.ensures))))
+    let a = c.args in
+    any_from_yields_List (λ f. eqb (found_times f) a.n) _ _ _ c.any.ensures.ran
+    (YieldsList-from_slice (a.a ∷ a.b ∷ a.c ∷ a.d ∷ []) (cc)) (λ x b q k. search (rules, tests))
+    ∙ any_list (λ f. eqb (found_times f) a.n) (λ f. eqb (found_times f) a.n) (λ f. refl) (a.a ∷ a.b ∷ a.c ∷ a.d ∷ [])

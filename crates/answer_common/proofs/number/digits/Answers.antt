@@ -14,8 +14,8 @@ loop-i-preserved c =
     let on = digit_on (halves v) i (omega arith) (omega arith) in
     omega arith
 
-pub returns-else-half-le9 : goal.returns-else-half-le9
-returns-else-half-le9 c =
+pub returns-then-half-gt9 : goal.returns-then-half-gt9
+returns-then-half-gt9 c =
     let v = c.args.v.now in
     let i = c.loop-i.i in
     let size = halves_length v in

@@ -15,16 +15,16 @@ loop-i-preserved c =
     let v = c.args.v.now in
     let l = c.loop-i in
     let size = halves_length v in
-    let filler = eq-eqb 0xF _ (sym (sym c.half.ensures ∙ c.if-half-eq15.true)) in
+    let filler = eq-eqb 0xF _ (sym (sym c.half.ensures ∙ c.if-half-ne15.false)) in
     sym (all_one_on (eqb 0xF) (halves v) l.i (omega arith) filler) ∙ l.invariant
 
-pub returns-else-half-eq15 : goal.returns-else-half-eq15
+pub returns-then-half-ne15 : goal.returns-then-half-ne15
 unfolding only_f
-returns-else-half-eq15 c =
+returns-then-half-ne15 c =
     let v = c.args.v.now in
     let l = c.loop-i in
     let size = halves_length v in
-    let other = ne_eqb 0xF _ (λ e. c.if-half-eq15.false (c.half.ensures ∙ sym e)) in
+    let other = ne_eqb 0xF _ (λ e. c.if-half-ne15.true (c.half.ensures ∙ sym e)) in
     sym (all_but_one (eqb 0xF) (halves v) l.i (omega arith) other) ∙ l.invariant
 
 pub returns : goal.returns

@@ -4,8 +4,8 @@ use native.Mathlib.Omega.{arith}
 use Rattle.tlv_list.proofs.Reading.{next_ahead}
 use Rattle.bench_objects.proofs.holding.print_all.Goals as goal
 
-pub loop-at-smaller : goal.loop-at-smaller
-loop-at-smaller g c =
+pub loop-tag-smaller : goal.loop-tag-smaller
+loop-tag-smaller g c =
     let e = sym c.next_from.ensures ∙ c.in-Member.is in
-    let ahead = next_ahead c.args.s.now c.loop-at.at c.in-Member.tag c.in-Member.start c.in-Member.end e in
+    let ahead = next_ahead c.args.s.now c.loop-tag.at _ _ _ e in
     omega arith

@@ -17,8 +17,8 @@ right e = entry_right (standing e)
 abbrev pub from : List ℕ → ℕ → Bool
 from s p = every (map right (entries (map (object_at s) (places_from s p))))
 
-abbrev pub invariant-loop-p : goal.invariant-loop-p
-invariant-loop-p l = from l.s l.p ≡ from l.s 0
+abbrev pub invariant-loop-tag : goal.invariant-loop-tag
+invariant-loop-tag l = from l.s l.p ≡ from l.s 0
 
-abbrev pub decreases-loop-p : goal.decreases-loop-p
-decreases-loop-p l = length l.s - l.p
+abbrev pub decreases-loop-tag : goal.decreases-loop-tag
+decreases-loop-tag l = length l.s - l.p

@@ -2,7 +2,7 @@
 -- Assumes nothing.
 use mathlib.Core.Path.{◌≡◌}
 use mathlib.Core.List.{List}
-use Prim.Native.Nat.{ℕ, ◌+◌, ◌-◌, ◌≤◌}
+use Prim.Native.Nat.{ℕ, ◌+◌, ◌≤◌}
 use lib.ListN.{length, take, drop}
 use lib.Seq.{paste}
 use Rattle.select_list.proofs.moving.move_down.Given as goal
@@ -14,6 +14,3 @@ abbrev pub invariant-loop-i : goal.invariant-loop-i
 invariant-loop-i l =
     (l.i ≤ l.n) × (l.at + l.by + l.n ≤ length l.initial.buf) × (length l.buf ≡ length l.initial.buf)
     × (l.buf ≡ paste l.initial.buf l.at (moved l.initial.buf (l.at + l.by) l.n) l.i)
-
-abbrev pub decreases-loop-i : goal.decreases-loop-i
-decreases-loop-i l = l.n - l.i

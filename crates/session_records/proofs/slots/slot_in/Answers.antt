@@ -40,45 +40,45 @@ past : (names : List ℕ) (tag at i : ℕ) → length names ≤ i → from tag a
 unfolding placed beside
 past names tag at i h = ap (from tag at) (drop_of_length-le names h)
 
-pub loop-i-init : goal.loop-i-init
-loop-i-init c = (omega (arith, c.requires), refl)
+pub loop-name-init : goal.loop-name-init
+loop-name-init c = (omega (arith, c.requires), refl)
 
 pub overflow_add-size : goal.overflow_add-size
 overflow_add-size c =
-    let l = c.loop-i in
+    let l = c.loop-name in
     let z =
     one c.args.names.now c.args.tag l.at
-    l.i (omega arith) in
+    l.name-index (omega arith) in
     omega (arith, z, l.invariant.0, c.room-size.ensures)
 
-pub returns-then-names-i : goal.returns-then-names-i
-returns-then-names-i c =
-    let l = c.loop-i in
+pub returns-then-name-tag : goal.returns-then-name-tag
+returns-then-name-tag c =
+    let l = c.loop-name in
     let a = c.args in
     ap (λ (n : ℕ). record { at = l.at; size = n + 1 }) c.room-size.ensures
-    ∙ (sym (here a.names.now a.tag l.at l.i (omega arith) c.if-names-i.true) ∙ l.invariant.1)
+    ∙ (sym (here a.names.now a.tag l.at l.name-index (omega arith) c.if-name-tag.true) ∙ l.invariant.1)
 
 pub overflow_add-at : goal.overflow_add-at
 overflow_add-at c =
-    let l = c.loop-i in
+    let l = c.loop-name in
     let a = c.args in
-    let z = one a.names.now a.tag l.at l.i (omega arith) in
+    let z = one a.names.now a.tag l.at l.name-index (omega arith) in
     omega (arith, z, l.invariant.0, c.room-size.ensures)
 
-pub loop-i-preserved : goal.loop-i-preserved
-loop-i-preserved c =
-    let l = c.loop-i in
+pub loop-name-preserved : goal.loop-name-preserved
+loop-name-preserved c =
+    let l = c.loop-name in
     let a = c.args in
     let r = c.room-size.ensures in
-    let z = one a.names.now a.tag l.at l.i (omega arith) in (
+    let z = one a.names.now a.tag l.at l.name-index (omega arith) in (
       omega (arith, z, l.invariant.0, r),
-      ap (λ (n : ℕ). from a.tag (l.at + (n + 1)) (drop (l.i + 1) a.names.now)) r
-          ∙ (sym (further a.names.now a.tag l.at l.i (omega arith) c.if-names-i.false) ∙ l.invariant.1),
+      ap (λ (n : ℕ). from a.tag (l.at + (n + 1)) (drop (l.name-index + 1) a.names.now)) r
+          ∙ (sym (further a.names.now a.tag l.at l.name-index (omega arith) c.if-name-tag.false) ∙ l.invariant.1),
     )
 
 pub returns : goal.returns
 unfolding nowhere
 returns c =
-    let l = c.loop-i in
+    let l = c.loop-name in
     let a = c.args in
-    sym (past a.names.now a.tag l.at l.i (omega arith)) ∙ l.invariant.1
+    sym (past a.names.now a.tag l.at l.name-index (omega arith)) ∙ l.invariant.1

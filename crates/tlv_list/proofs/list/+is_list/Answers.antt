@@ -8,6 +8,7 @@ use Rattle.tlv_list.specs.Objects.{between}
 use Rattle.tlv_list.proofs.Reading.{next_ahead, next_end}
 use Rattle.tlv_list.proofs.ListCheck.{check_end, check_broken, check_plain, check_inside, check_outside}
 use Rattle.tlv_list.proofs.list.+is_list.Goals as goal
+use Rattle.tlv_list.proofs.list.+is_list.Goals.{else-is_constructed-via-then-is_constructed+else-not-is_list, else-is_constructed-via-else-is_constructed}
 
 pub loop-at-init : goal.loop-at-init
 loop-at-init t c = (zero-le, refl)
@@ -40,28 +41,13 @@ is_list-requires t c =
     let ahead = next_ahead c.args.s.now c.loop-at.at _ _ _ (sym c.next.ensures ∙ c.in-Member.is) in
     (rw length-take (omega arith), tt)
 
-pub loop-at-smaller-then-is_list : goal.loop-at-smaller-then-is_list
-loop-at-smaller-then-is_list t c =
-    let ahead = next_ahead c.args.s.now c.loop-at.at _ _ _ (sym c.next.ensures ∙ c.in-Member.is) in
-    omega arith
-
-pub loop-at-preserved-then-is_list : goal.loop-at-preserved-then-is_list
+pub returns-then-not-is_list : goal.returns-then-not-is_list
 unfolding between
-loop-at-preserved-then-is_list t c =
-    let e = sym c.next.ensures ∙ c.in-Member.is in
-    let ahead = next_ahead c.args.s.now c.loop-at.at _ _ _ e in (
-      ahead.fits,
-      sym (check_inside _ _ _ _ _ e (sym c.is_constructed.ensures ∙ c.if-is_constructed.true) (sym c.is_list.ensures ∙ c.if-is_list.true))
-          ∙ c.loop-at.invariant.1,
-    )
-
-pub returns-else-is_list : goal.returns-else-is_list
-unfolding between
-returns-else-is_list t c =
+returns-then-not-is_list t c =
     let e = sym c.next.ensures ∙ c.in-Member.is in
     sym
     (sym c.loop-at.invariant.1
-    ∙ check_outside _ _ _ _ _ e (sym c.is_constructed.ensures ∙ c.if-is_constructed.true) (sym c.is_list.ensures ∙ c.if-is_list.false))
+    ∙ check_outside _ _ _ _ _ e (sym c.is_constructed.ensures ∙ c.if-is_constructed.true) (sym c.is_list.ensures ∙ c.if-not-is_list.true))
 
 pub loop-at-smaller : goal.loop-at-smaller
 loop-at-smaller t c =
@@ -72,10 +58,19 @@ pub loop-at-preserved : goal.loop-at-preserved
 unfolding between
 loop-at-preserved t c =
     let e = sym c.next.ensures ∙ c.in-Member.is in
-    let ahead = next_ahead c.args.s.now c.loop-at.at _ _ _ e in (
-      ahead.fits,
-      sym (check_plain _ _ _ _ _ e (sym c.is_constructed.ensures ∙ c.if-is_constructed.false)) ∙ c.loop-at.invariant.1,
-    )
+    let ahead = next_ahead c.args.s.now c.loop-at.at _ _ _ e in
+    elim c.else-is_constructed.branch [
+      | else-is_constructed-via-then-is_constructed+else-not-is_list w ↦ (
+        ahead.fits,
+        sym (check_inside _ _ _ _ _ e (sym c.is_constructed.ensures ∙ w.if-is_constructed.true)
+            (sym w.is_list.ensures ∙ w.if-not-is_list.false))
+            ∙ c.loop-at.invariant.1,
+      )
+      | else-is_constructed-via-else-is_constructed w ↦ (
+        ahead.fits,
+        sym (check_plain _ _ _ _ _ e (sym c.is_constructed.ensures ∙ w.if-is_constructed.false)) ∙ c.loop-at.invariant.1,
+      )
+    ]
 
 pub returns : goal.returns
 returns t c =

@@ -4,7 +4,7 @@ use mathlib.Core.Path.{sym, ap, ◌∙◌}
 use borrow.Author.Tests.{eq-eqb, ne_eqb}
 use Rattle.slices.proofs.Choice.{pick_yes, pick_no}
 use Rattle.tlv_list.specs.Lookup.{seek}
-use Rattle.tlv_list.specs.declared.Sought.TheVariants.{InList}
+use Rattle.std.specs.Prelude.{Some}
 use Rattle.tlv_list.proofs.lookup.find.Goals as goal
 
 pub returns-then-list_refusal-eq-REFUSED_READING : goal.returns-then-list_refusal-eq-REFUSED_READING
@@ -15,5 +15,5 @@ returns-then-list_refusal-eq-REFUSED_READING c = sym
 pub returns : goal.returns
 unfolding seek
 returns c =
-    ap InList c.find_in_checked.ensures
+    ap Some c.find_in_checked.ensures
     ∙ sym (pick_no _ _ _ (ne_eqb _ _ (λ e. c.if-list_refusal-eq-REFUSED_READING.false (c.list_refusal.ensures ∙ e))))

@@ -2,6 +2,7 @@
 -- Assumes nothing.
 use mathlib.Core.Path.{◌≡◌, sym, ap, ◌∙◌}
 use mathlib.Core.List.{List}
+use mathlib.Core.Logic.{inl, inr}
 use Prim.Native.Nat.{ℕ}
 use Rattle.tlv_list.specs.Lookup.{first_from, unless, alone, find_in_checked}
 use Rattle.tlv_list.specs.declared.Found.{Found}
@@ -43,18 +44,13 @@ returns-in-Absent-first_from c =
     (sym c.first_from.ensures ∙ c.in-Once.is)
     (sym c.first_from-in-Once.ensures ∙ c.in-Absent-first_from.is)
 
-pub returns-in-Twice-first_from : goal.returns-in-Twice-first_from
-unfolding unless
-returns-in-Twice-first_from c =
-    let a = c.args in
-    by_second_lem a.s.now a.tag c.in-Once.start c.in-Once.end Twice
-    (sym c.first_from.ensures ∙ c.in-Once.is)
-    (sym c.first_from-in-Once.ensures ∙ c.in-Twice-first_from.is)
-
 pub returns-in-Once-first_from : goal.returns-in-Once-first_from
 unfolding unless
 returns-in-Once-first_from c =
-    let a = c.args in
-    by_second_lem a.s.now a.tag c.in-Once.start c.in-Once.end (Once c.in-Once-first_from.start c.in-Once-first_from.end)
-    (sym c.first_from.ensures ∙ c.in-Once.is)
-    (sym c.first_from-in-Once.ensures ∙ c.in-Once-first_from.is)
+    let second = by_second_lem c.args.s.now c.args.tag c.in-Once.start c.in-Once.end in
+    let first = sym c.first_from.ensures ∙ c.in-Once.is in
+    let e = sym c.first_from-in-Once.ensures in
+    elim c.in-Once-first_from.is [
+      | inl w ↦ second (Once w.0 w.1) first (e ∙ w.2)
+      | inr w ↦ second Twice first (e ∙ w)
+    ]

@@ -6,8 +6,8 @@ use lib.ListN.{length}
 use Rattle.tlv_list.specs.Lookup.{first_from}
 use Rattle.tlv_list.proofs.lookup.first_from.Given as goal
 
-abbrev pub invariant-loop-p : goal.invariant-loop-p
-invariant-loop-p l = first_from l.s l.p l.tag ≡ first_from l.s l.at l.tag
+abbrev pub invariant-loop-t : goal.invariant-loop-t
+invariant-loop-t l = first_from l.s l.p l.tag ≡ first_from l.s l.at l.tag
 
-abbrev pub decreases-loop-p : goal.decreases-loop-p
-decreases-loop-p l = length l.s - l.p
+abbrev pub decreases-loop-t : goal.decreases-loop-t
+decreases-loop-t l = length l.s - l.p

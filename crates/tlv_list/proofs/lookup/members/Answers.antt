@@ -68,9 +68,6 @@ loop-p-init c =
       four = all_noted a.d s;
     }
 
-pub enum_told-1 : goal.enum_told-1
-enum_told-1 c = c.in-End.in-End-own.keys1
-
 pub loop-p-preserved-in-End : goal.loop-p-preserved-in-End
 loop-p-preserved-in-End c =
     let l = c.loop-p in
@@ -86,9 +83,6 @@ loop-p-preserved-in-End c =
       four = ends s l.p a.d l.fourth k.0 i.four;
     }
 
-pub enum_told-in-Broken : goal.enum_told-in-Broken
-enum_told-in-Broken c = c.in-Broken.in-Broken-own.keys2
-
 pub returns-in-Broken : goal.returns-in-Broken
 returns-in-Broken c =
     let l = c.loop-p in
@@ -98,9 +92,6 @@ returns-in-Broken c =
     (no_list s
     (sym l.invariant.list
     ∙ on_broken s l.p c.if-s-gt4096.false (sym c.next_checked.ensures ∙ c.in-Broken.is)))
-
-pub enum_known-tag : goal.enum_known-tag
-enum_known-tag c = c.in-Member.in-Member-own.keys3
 
 pub loop-p-smaller : goal.loop-p-smaller
 loop-p-smaller c =

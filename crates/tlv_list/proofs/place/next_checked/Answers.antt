@@ -12,6 +12,7 @@ use Rattle.tlv_list.specs.Place.{next_at, looked_into, checked_at}
 use Rattle.tlv_head.specs.declared.Next.{Next}
 use Rattle.tlv_head.specs.declared.Next.TheVariants.{Member, End, Broken}
 use Rattle.tlv_list.proofs.place.next_checked.Goals as goal
+use Rattle.tlv_list.proofs.place.next_checked.Goals.{else-is_constructed-via-then-is_constructed+else-list_refusal-ne0, else-is_constructed-via-else-is_constructed}
 
 module _ (s : List ℕ) (at : ℕ) where
   found : (n : Next) → next_at s at ≡ n → checked_at s at ≡ looked_into s n
@@ -51,13 +52,14 @@ returns-in-End c = at_end_lem _ _ (sym c.next.ensures ∙ c.in-End.is)
 pub returns-in-Broken : goal.returns-in-Broken
 returns-in-Broken c = broken _ _ (sym c.next.ensures ∙ c.in-Broken.is)
 
-pub returns-else-list_refusal-ne0 : goal.returns-else-list_refusal-ne0
-returns-else-list_refusal-ne0 c =
-    list_inside _ _ c.in-Member.tag c.in-Member.start c.in-Member.end (sym c.next.ensures ∙ c.in-Member.is)
-    (sym c.is_constructed.ensures ∙ c.if-is_constructed.true)
-    (sym (ap read_refusal c.value.ensures) ∙ (sym c.list_refusal.ensures ∙ c.if-list_refusal-ne0.false))
-
 pub returns-else-is_constructed : goal.returns-else-is_constructed
 returns-else-is_constructed c =
-    plain _ _ c.in-Member.tag c.in-Member.start c.in-Member.end (sym c.next.ensures ∙ c.in-Member.is)
-    (sym c.is_constructed.ensures ∙ c.if-is_constructed.false)
+    let e = sym c.next.ensures ∙ c.in-Member.is in
+    elim c.else-is_constructed.branch [
+      | else-is_constructed-via-then-is_constructed+else-list_refusal-ne0 w ↦
+          list_inside _ _ c.in-Member.tag c.in-Member.start c.in-Member.end e
+          (sym c.is_constructed.ensures ∙ w.if-is_constructed.true)
+          (sym (ap read_refusal w.value.ensures) ∙ (sym w.list_refusal.ensures ∙ w.if-list_refusal-ne0.false))
+      | else-is_constructed-via-else-is_constructed w ↦
+          plain _ _ c.in-Member.tag c.in-Member.start c.in-Member.end e (sym c.is_constructed.ensures ∙ w.if-is_constructed.false)
+    ]
