@@ -4,6 +4,10 @@ use Rattle.std.specs.Prelude.{Bool, true, false, List, ℕ, ◌/◌, eqb, leb, l
 use Rattle.slices.specs.Choice.{pick}
 use Rattle.apdu.specs.declared.Trailer.{Trailer}
 
+-- a status from its two bytes, SW1 and SW2
+abbrev pub trailer_of : ℕ → ℕ → Trailer
+trailer_of a b = record { sw1 = a; sw2 = b }
+
 -- '6x' and '9x' (000, Table I-21)
 unfoldable pub is_status : ℕ → Bool
 is_status b = pick (eqb (b / 16) 6) true (eqb (b / 16) 9)
