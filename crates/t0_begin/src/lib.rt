@@ -26,7 +26,7 @@ pub struct Step {
     pub reply: Result<Reply, Refusal>,
 }
 
-#[tactic(auto, unfolding(slices::specs::Choice::pick, crate::specs::Begin::begun, crate::specs::Begin::begun_as, crate::specs::Begin::begun_in, crate::specs::Begin::begun_by))]
+#[tactic(auto, unfolding(crate::proofs::Opened::beginning))]
 pub fn begin(command: &[u8], out: &mut [u8; DATA_MOST]) -> Step
     ensures { replied result out.new ≡ begun_by command.now out.old }
 {
