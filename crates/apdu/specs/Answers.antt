@@ -2,17 +2,22 @@
 -- Assumes nothing.
 use Rattle.std.specs.Prelude.{Bool, true, false, List, ℕ, ◌/◌, eqb, leb, length, take}
 use Rattle.slices.specs.Choice.{pick}
+use Rattle.apdu.specs.declared.Trailer.{Trailer}
+
+-- a status from its two bytes, SW1 and SW2
+abbrev pub trailer_of : ℕ → ℕ → Trailer
+trailer_of a b = record { sw1 = a; sw2 = b }
 
 -- '6x' and '9x' (000, Table I-21)
 unfoldable pub is_status : ℕ → Bool
 is_status b = pick (eqb (b / 16) 6) true (eqb (b / 16) 9)
 
 -- '9000' alone is normal; '62', '63' and every other '9x' warn or belong to the application (000, I-5.3.1.1)
-unfoldable pub is_warning : ℕ → ℕ → Bool
-is_warning a b =
-    pick (eqb a 0x62) true
-    (pick (eqb a 0x63) true
-    (pick (eqb (a / 16) 9) (pick (eqb a 0x90) (pick (eqb b 0x00) false true) true) false))
+unfoldable pub is_warning : Trailer → Bool
+is_warning t =
+    pick (eqb t.sw1 0x62) true
+    (pick (eqb t.sw1 0x63) true
+    (pick (eqb (t.sw1 / 16) 9) (pick (eqb t.sw1 0x90) (pick (eqb t.sw2 0x00) false true) true) false))
 
 -- the most bytes of an answer: what a command and sixteen '61' can bring by T=0, 256 bytes each, and the status (02, R-4). T=1 takes no
 -- more either way

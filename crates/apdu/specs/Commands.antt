@@ -1,23 +1,23 @@
 -- A command: header, Lc, data, Le. 000, I-5.4 and I-5.4.1.
 -- Assumes nothing.
-use Rattle.std.specs.Prelude.{List, ℕ, ◌+◌, eqb, ltb, length, get_or, take, drop}
+use Rattle.std.specs.Prelude.{List, ℕ, ◌+◌, eqb, ltb, length, get_or, take, drop, Option, None, Some}
 use Rattle.slices.specs.Choice.{pick}
 use Rattle.apdu.specs.declared.Case.{Case}
-use Rattle.apdu.specs.declared.Case.TheVariants.{One, Two, Three, Four, NoCase}
+use Rattle.apdu.specs.declared.Case.TheVariants.{One, Two, Three, Four}
 
 -- what stands behind the header's four bytes first: Lc, or Le where nothing follows; 0 where there is neither
 abbrev pub length_byte : List ℕ → ℕ
 length_byte c = get_or c 4 0
 
 -- 000, Table I-29: cases 1, 2, 3 and 4. An Lc of 0 is none (000, I-5.4.1), and so is any other length
-unfoldable pub case_of : List ℕ → Case
+unfoldable pub case_of : List ℕ → Option Case
 case_of c =
-    pick (ltb (length c) 4) NoCase
-    (pick (eqb (length c) 4) One
-    (pick (eqb (length c) 5) Two
-    (pick (eqb (length_byte c) 0) NoCase
-    (pick (eqb (length c) (5 + length_byte c)) Three
-    (pick (eqb (length c) (6 + length_byte c)) Four NoCase)))))
+    pick (ltb (length c) 4) None
+    (pick (eqb (length c) 4) (Some One)
+    (pick (eqb (length c) 5) (Some Two)
+    (pick (eqb (length_byte c) 0) None
+    (pick (eqb (length c) (5 + length_byte c)) (Some Three)
+    (pick (eqb (length c) (6 + length_byte c)) (Some Four) None)))))
 
 -- the data that goes with a command: as much as Lc says
 unfoldable pub data_of : List ℕ → List ℕ

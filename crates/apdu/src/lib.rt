@@ -12,43 +12,40 @@ pub const DATA_MOST: usize = 255;
 
 pub const ANSWER_MOST: usize = 4354;
 
-// The four cases of a command, 1 to 4 in their order, and none of them.
-#[derive(Clone, Copy)]
+// The four cases of a command.
+#[derive(Clone, Copy, PartialEq, Eq)]
 pub enum Case {
     One,
     Two,
     Three,
     Four,
-    NoCase,
 }
 
-pub fn case_of(command: &[u8]) -> Case
+// SW1 and SW2, the status that an answer ends with.
+#[derive(Clone, Copy, PartialEq, Eq)]
+pub struct Trailer {
+    pub sw1: u8,
+    pub sw2: u8,
+}
+
+// The case of a command, where it has one.
+#[tactic(auto, unfolding(slices::specs::Choice::pick, crate::specs::Commands::case_of))]
+pub fn case_of(command: &[u8]) -> Option<Case>
     ensures { result ≡ case_of command.now }
 {
-    let n = command.len();
-    if n < 4 {
-        return Case::NoCase;
-    }
-    if n == 4 {
-        return Case::One;
-    }
-    if n == 5 {
-        return Case::Two;
-    }
     let lc = byte(command, 4);
-    if lc == 0 {
-        return Case::NoCase;
+    match command.len() {
+        4 => Some(Case::One),
+        5 => Some(Case::Two),
+        n if n < 4 || lc == 0 => None,
+        n if n == 5 + lc => Some(Case::Three),
+        n if n == 6 + lc => Some(Case::Four),
+        _ => None,
     }
-    if n == 5 + lc {
-        return Case::Three;
-    }
-    if n == 6 + lc {
-        return Case::Four;
-    }
-    Case::NoCase
 }
 
 // The data that goes with a command.
+#[tactic(auto, unfolding(crate::specs::Commands::data_of))]
 pub fn data_of(command: &[u8]) -> &[u8]
     ensures { result.now ≡ data_of command.now }
 {
@@ -56,6 +53,7 @@ pub fn data_of(command: &[u8]) -> &[u8]
 }
 
 // How many bytes a length byte asks for.
+#[tactic(auto, unfolding(slices::specs::Choice::pick, crate::specs::Commands::asked))]
 pub fn asked(n: u8) -> usize
     ensures { result ≡ asked_of n }
 {
@@ -63,32 +61,23 @@ pub fn asked(n: u8) -> usize
 }
 
 // Whether a byte is one that status can begin with: '6x' or '9x'.
+#[tactic(auto, unfolding(slices::specs::Choice::pick, crate::specs::Answers::is_status))]
 pub fn is_status(b: u8) -> bool
     ensures { result ≡ is_status b }
 {
-    if b / 16 == 6 {
-        return true;
-    }
-    b / 16 == 9
+    matches!(b / 16, 6 | 9)
 }
 
 // Whether a status warns, or belongs to the application: neither an error nor '9000'.
-pub fn is_warning(a: u8, b: u8) -> bool
-    ensures { result ≡ is_warning a b }
+#[tactic(auto, unfolding(slices::specs::Choice::pick, crate::specs::Answers::is_warning))]
+pub fn is_warning(status: Trailer) -> bool
+    ensures { result ≡ is_warning status }
 {
-    if a == 0x62 {
-        return true;
+    match (status.sw1, status.sw2) {
+        (0x62 | 0x63, _) => true,
+        (0x90, 0x00) => false,
+        (sw1, _) => sw1 / 16 == 9,
     }
-    if a == 0x63 {
-        return true;
-    }
-    if a / 16 == 9 {
-        if a == 0x90 {
-            return if b == 0x00 { false } else { true };
-        }
-        return true;
-    }
-    false
 }
 
 // The most bytes of an answer that a session takes, and what it is handed of a longer one.
@@ -97,11 +86,13 @@ const HANDED_MOST: usize = 496;
 const HANDED_OF_LONGER: usize = 259;
 
 // What a session is handed of an answer, as a part of the answer itself.
+#[tactic(auto, unfolding(slices::specs::Choice::pick, crate::specs::Answers::handed))]
 pub fn handed(answer: &[u8]) -> &[u8]
     ensures { result.now ≡ handed_of answer.now }
 {
     if answer.len() <= HANDED_MOST {
-        return answer;
+        answer
+    } else {
+        part(answer, 0, HANDED_OF_LONGER)
     }
-    part(answer, 0, HANDED_OF_LONGER)
 }

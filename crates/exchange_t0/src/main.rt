@@ -17,58 +17,65 @@
 mod say;
 mod turn;
 
-use apdu::{ANSWER_MOST, DATA_MOST};
-use slices::{alike, part};
+use slices::part;
 use std::io;
-use t0_state::State;
+use text_hex::unhex;
 use text_input::{Line, read_line};
 use text_lines::{after_word, word_end};
+use turn::Bench;
 
 // A line with 16,384 bytes.
 const LONGEST: usize = 32_800;
 
-fn main(rt: HostRuntime) -> io::Result<()> {
-    let mut line = [0u8; LONGEST];
-    let mut out = [0u8; DATA_MOST];
-    let mut answer = [0u8; ANSWER_MOST];
-    exchange(&rt, &mut line, &mut out, &mut answer)
+// More lines than there can be: nothing says that the input ends.
+const MOST: usize = 0x7FFF_FFFF_FFFF_FFFF;
+
+// What a line tells of.
+#[derive(Clone, Copy)]
+enum Event {
+    Command,
+    Card,
 }
 
-// Lines are counted down from more than there can be, since nothing says that the input ends.
-fn exchange(
-    rt: &(impl Input + Print),
-    line: &mut [u8],
-    out: &mut [u8; DATA_MOST],
-    answer: &mut [u8; ANSWER_MOST],
-) -> io::Result<()> {
-    let mut state = turn::none(out);
-    let mut left: usize = 0x7FFF_FFFF_FFFF_FFFF;
-    while 0 < left {
+fn main(rt: HostRuntime) -> io::Result<()> {
+    let mut line = [0u8; LONGEST];
+    let mut bench = Bench::new();
+    exchange(&rt, &mut line, &mut bench)
+}
+
+fn exchange(rt: &(impl Input + Print), line: &mut [u8], bench: &mut Bench) -> io::Result<()> {
+    for _ in 0..MOST {
         match read_line(rt, line) {
-            Line::Whole(n) => state = said(rt, state, part(line, 0, n), out, answer)?,
-            Line::Long => text_print::text(rt, b"ERROR line too long\n")?,
+            Line::Whole(n) => said(rt, part(line, 0, n), bench)?,
+            Line::Long => println!(rt; "ERROR line too long")?,
             Line::End => return Ok(()),
         }
-        left -= 1;
     }
     Ok(())
 }
 
-fn said(
-    rt: &impl Print,
-    s: State,
-    line: &[u8],
-    out: &mut [u8; DATA_MOST],
-    answer: &mut [u8; ANSWER_MOST],
-) -> io::Result<State> {
-    let end = word_end(line, 0);
-    let word = part(line, 0, end);
-    if alike(word, b"COMMAND") {
-        return turn::command(rt, s, after_word(line), out);
+fn said(rt: &impl Print, line: &[u8], bench: &mut Bench) -> io::Result<()> {
+    let event = match part(line, 0, word_end(line, 0)) {
+        b"COMMAND" => Event::Command,
+        b"CARD" => Event::Card,
+        _ => return println!(rt; "ERROR unknown word"),
+    };
+    let mut room = [0u8; 16384];
+    let Some(bytes) = unhexed(after_word(line), &mut room) else {
+        return println!(rt; "ERROR not hexadecimal");
+    };
+    match event {
+        Event::Command => bench.command(rt, bytes),
+        Event::Card => bench.card(rt, bytes),
     }
-    if alike(word, b"CARD") {
-        return turn::card(rt, s, after_word(line), out, answer);
+}
+
+// Bytes by their digits, where these are whole pairs.
+fn unhexed<'a>(digits: &[u8], room: &'a mut [u8; 16384]) -> Option<&'a [u8]> {
+    let n = unhex(digits, room);
+    if digits.len() == 2 * n {
+        Some(&room[..n])
+    } else {
+        None
     }
-    text_print::text(rt, b"ERROR unknown word\n")?;
-    Ok(s)
 }

@@ -14,7 +14,7 @@
 #![tactic(auto)]
 
 use apdu::handed;
-use slices::{alike, part};
+use slices::part;
 use std::io;
 use text_hex::unhex;
 use text_input::{Line, read_line};
@@ -32,48 +32,31 @@ fn main(rt: HostRuntime) -> io::Result<()> {
 }
 
 fn hand_all(rt: &(impl Input + Print), line: &mut [u8]) -> io::Result<()> {
-    let mut left: usize = MOST;
-    while 0 < left {
+    for _ in 0..MOST {
         match read_line(rt, line) {
             Line::Whole(n) => hand(rt, part(line, 0, n))?,
-            Line::Long => too_long(rt)?,
+            Line::Long => println!(rt; "ERROR line too long")?,
             Line::End => return Ok(()),
         }
-        left -= 1;
     }
     Ok(())
 }
 
-fn too_long(rt: &impl Print) -> io::Result<()> {
-    text_print::text(rt, b"ERROR line too long\n")
-}
-
 fn hand(rt: &impl Print, line: &[u8]) -> io::Result<()> {
-    let word = part(line, 0, word_end(line, 0));
-    if is_answer(word) {
-        return hand_bytes(rt, after_word(line));
+    match part(line, 0, word_end(line, 0)) {
+        b"ANSWER" | b"MESSAGE" => hand_bytes(rt, after_word(line)),
+        b"REFUSED" | b"END" => println!(rt; "SILENCE"),
+        _ => println!(rt; "ERROR unknown word"),
     }
-    if is_none(word) {
-        return text_print::text(rt, b"SILENCE\n");
-    }
-    text_print::text(rt, b"ERROR unknown word\n")
-}
-
-fn is_answer(word: &[u8]) -> bool {
-    alike(word, b"ANSWER") || alike(word, b"MESSAGE")
-}
-
-fn is_none(word: &[u8]) -> bool {
-    alike(word, b"REFUSED") || alike(word, b"END")
 }
 
 fn hand_bytes(rt: &impl Print, digits: &[u8]) -> io::Result<()> {
     let mut bytes = [0u8; 4496];
     let n = unhex(digits, &mut bytes);
     if digits.len() != 2 * n {
-        return text_print::text(rt, b"ERROR not whole bytes in hexadecimal\n");
+        return println!(rt; "ERROR not whole bytes in hexadecimal");
     }
-    text_print::text(rt, b"ANSWER ")?;
-    text_print::bytes(rt, handed(&bytes[0..n]))?;
-    text_print::text(rt, b"\n")
+    print!(rt; "ANSWER ")?;
+    text_print::bytes(rt, handed(&bytes[..n]))?;
+    println!(rt)
 }

@@ -1,52 +1,61 @@
 // T=0: an exchange begins with a command, whose header goes out first.
 #![tactic(auto)]
 
-ghost use Rattle.std.specs.Prelude.{◌≡◌};
-ghost use Rattle.t0_begin.specs.Begin.{header_of, command_of, state_at, nowhere, replied, begun_by, begun_as};
+mod waits;
+
+ghost use Rattle.std.specs.Prelude.{◌≡◌, Err};
+ghost use Rattle.t0_begin.specs.Begin.{header_of, command_of, state_at, nowhere, replied, begun_by};
 
 use apdu::{Case, DATA_MOST, asked, case_of, data_of, is_status};
 use slices::{byte, lay};
-use t0_state::{Command, Counts, Header, Phase, Refusal, Sent, State, Trailer};
+use t0_state::{Command, Counts, Header, Phase, Refusal, Sent, State};
+pub use waits::Wait;
 
-// What is waited for: a procedure byte, the length behind '61' or '6C', the second byte of a status, so many bytes of data.
-#[derive(Clone, Copy)]
-pub enum Wait {
-    Procedure,
-    Length,
-    Sw2,
-    Data(usize),
-}
-
-// So many bytes, at the start of the lent buffer, are to be sent, and then something is waited for; the answer is complete and
-// has so many bytes; or a refusal.
+// So many bytes, at the start of the lent buffer, are to be sent, and then something is waited for; or the answer is complete and
+// has so many bytes.
 #[derive(Clone, Copy)]
 pub enum Reply {
     Go { send: usize, wait: Wait },
     Answer(usize),
-    Refused(Refusal),
 }
 
+// The exchange afterwards, and what it says, or why it turns the command or the byte away.
 #[derive(Clone, Copy)]
 pub struct Step {
     pub state: State,
-    pub reply: Reply,
+    pub reply: Result<Reply, Refusal>,
 }
 
+#[tactic(auto, unfolding(crate::proofs::Opened::beginning))]
 pub fn begin(command: &[u8], out: &mut [u8; DATA_MOST]) -> Step
     ensures { replied result out.new ≡ begun_by command.now out.old }
 {
-    let p3 = byte(command, 4);
-    match case_of(command) {
-        Case::NoCase => refused(Refusal::Command),
-        Case::One => begin_as(Sent::Case1, 0, command, out),
-        Case::Two => begin_as(Sent::Case2, asked(p3 as u8), command, out),
-        Case::Three => begin_as(Sent::Case3, p3, command, out),
-        Case::Four => begin_as(Sent::Case4, p3, command, out),
+    let Some(case) = case_of(command) else {
+        return refused(Refusal::Command);
+    };
+    if is_status(byte(command, 1) as u8) {
+        return refused(Refusal::Ins);
+    }
+    let p3 = byte(command, 4) as u8;
+    let size = match case {
+        Case::One => 0,
+        Case::Two => asked(p3),
+        Case::Three | Case::Four => p3 as usize,
+    };
+    let state = state_at(kept(command), Sent::Own(case), size, Phase::Procedure);
+    lay(out, 0, &header_bytes(&state, p3));
+    Step {
+        state,
+        reply: Ok(Reply::Go {
+            send: 5,
+            wait: Wait::Procedure,
+        }),
     }
 }
 
+#[tactic(auto, unfolding(slices::specs::Writing::zeros, crate::specs::Begin::nowhere))]
 fn refused(why: Refusal) -> Step
-    ensures { (result.state ≡ nowhere) × (result.reply ≡ Reply.Refused why) }
+    ensures { (result.state ≡ nowhere) × (result.reply ≡ Err why) }
 {
     let command = Command {
         cla: 0,
@@ -56,25 +65,8 @@ fn refused(why: Refusal) -> Step
         body: [0; DATA_MOST],
     };
     Step {
-        state: state_at(command, Sent::Case1, 0, Phase::Over),
-        reply: Reply::Refused(why),
-    }
-}
-
-fn begin_as(sent: Sent, size: usize, command: &[u8], out: &mut [u8; DATA_MOST]) -> Step
-    ensures { replied result out.new ≡ begun_as sent size command.now out.old }
-{
-    if is_status(byte(command, 1) as u8) {
-        return refused(Refusal::Ins);
-    }
-    let state = state_at(kept(command), sent, size, Phase::Procedure);
-    lay(out, 0, &header_bytes(state, byte(command, 4) as u8));
-    Step {
-        state,
-        reply: Reply::Go {
-            send: 5,
-            wait: Wait::Procedure,
-        },
+        state: state_at(command, Sent::Own(Case::One), 0, Phase::Over),
+        reply: Err(why),
     }
 }
 
@@ -93,12 +85,13 @@ fn state_at(command: Command, sent: Sent, size: usize, phase: Phase) -> State
             gets: 0,
             repeated: false,
         },
-        trailer: Trailer::Last,
+        trailer: None,
         phase,
         received: 0,
     }
 }
 
+#[tactic(auto, unfolding(slices::specs::Writing::zeros, crate::specs::Begin::command_of))]
 fn kept(command: &[u8]) -> Command
     ensures { result ≡ command_of command.now }
 {
@@ -114,17 +107,13 @@ fn kept(command: &[u8]) -> Command
 }
 
 // The header with a length.
-pub fn header_bytes(s: State, p3: u8) -> [u8; 5]
-    ensures { result ≡ header_of s p3 }
+#[tactic(auto, unfolding(crate::specs::Begin::header_for, crate::specs::Begin::header_of))]
+pub fn header_bytes(s: &State, p3: u8) -> [u8; 5]
+    ensures { result ≡ header_of s.now p3 }
 {
     let c = s.command;
-    let header = s.header;
-    let sent = header.sent;
-    match sent {
+    match s.header.sent {
+        Sent::Own(_) => [c.cla, c.ins, c.p1, c.p2, p3],
         Sent::GetResponse => [0x00, 0xC0, 0x00, 0x00, p3],
-        Sent::Case1 => [c.cla, c.ins, c.p1, c.p2, p3],
-        Sent::Case2 => [c.cla, c.ins, c.p1, c.p2, p3],
-        Sent::Case3 => [c.cla, c.ins, c.p1, c.p2, p3],
-        Sent::Case4 => [c.cla, c.ins, c.p1, c.p2, p3],
     }
 }

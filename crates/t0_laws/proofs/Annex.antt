@@ -9,7 +9,8 @@ use Rattle.t0_state.specs.Bytes.{may_get_after, may_get, may_repeat, goes_on_aft
 use Rattle.t0_procedure.specs.Procedure.{moving, on_all, on_next, on_wait, on_get, on_six_c, by_meaning, on_procedure}
 use Rattle.t0_turns.specs.Turns.{on_length, on_repeat, ending_in, on_status, phase_after, on_data, by_phase, after_byte}
 use Rattle.t0_begin.specs.Begin.{header_for, header_of, command_of, nowhere, begun, begun_as, begun_in, begun_by}
-use Rattle.t0.specs.Steps.{sent_by, kept_by, wait_for, reply_to, done, step_of}
+use Rattle.t0_begin.specs.Begin.{wait_for}
+use Rattle.t0.specs.Steps.{sent_by, kept_by, reply_to, done, step_of}
 use Rattle.t0_pieces.specs.Pieces.{is_over, is_closed}
 use Rattle.t0_laws.specs.Outcomes.{logged, settled, opened, playing}
 use Rattle.t0_laws.specs.Moves.{size_said, answered}

@@ -7,14 +7,15 @@ use Rattle.slices.proofs.Choice.{picked}
 use Rattle.apdu.specs.Commands.{length_byte, case_of, asked}
 use Rattle.apdu.specs.Answers.{is_status}
 use Rattle.apdu.specs.declared.Case.{Case}
-use Rattle.apdu.specs.declared.Case.TheVariants.{One, Two, Three, Four, NoCase}
+use Rattle.apdu.specs.declared.Case.TheVariants.{One, Two, Three, Four}
 use Rattle.t0_state.specs.declared.Sent.{Sent}
-use Rattle.t0_state.specs.declared.Sent.TheVariants.{Case1, Case2, Case3, Case4}
+use Rattle.t0_state.specs.declared.Sent.TheVariants.{Own}
 use Rattle.t0_begin.specs.Begin.{nowhere, Begun, begun, begun_as, begun_in, begun_by}
 use Rattle.t0_laws.specs.Outcomes.{settled, opened, playing, Bytes}
 use Rattle.t0_laws.specs.Moves.{kept, size_said, answered}
 use Rattle.t0_laws.proofs.Beginning.{started}
 use Rattle.t0_laws.proofs.Received.{answer_room, comes_in_order}
+use Rattle.std.specs.Prelude.{Option, None, Some}
 
 -- nothing has come yet
 abbrev Empty : Begun → Type 0
@@ -25,13 +26,13 @@ module _ (c out : List ℕ) where
   unfolding begun_as begun nowhere settled size_said
   as_empty sent size = picked Empty (is_status (get_or c 1 0)) _ _ (λ e. (refl, refl)) (λ e. (refl, refl))
 
-  in_empty : (x : Case) → Empty (begun_in x c out)
+  in_empty : (x : Option Case) → Empty (begun_in x c out)
   unfolding begun_in nowhere settled size_said
-  in_empty NoCase = (refl, refl)
-  in_empty One = as_empty Case1 0
-  in_empty Two = as_empty Case2 (asked (length_byte c))
-  in_empty Three = as_empty Case3 (length_byte c)
-  in_empty Four = as_empty Case4 (length_byte c)
+  in_empty None = (refl, refl)
+  in_empty (Some One) = as_empty (Own One) 0
+  in_empty (Some Two) = as_empty (Own Two) (asked (length_byte c))
+  in_empty (Some Three) = as_empty (Own Three) (length_byte c)
+  in_empty (Some Four) = as_empty (Own Four) (length_byte c)
 
   empty : Empty (begun_by c out)
   unfolding begun_by

@@ -12,7 +12,7 @@ use Rattle.slices.proofs.Choice.{pick_yes, pick_no, picked}
 use Rattle.apdu.specs.Answers.{is_status}
 use Rattle.t0_state.specs.Bytes.{ins_for, ins_of, complement, meaning_of}
 use Rattle.t0_state.specs.declared.Sent.{Sent}
-use Rattle.t0_state.specs.declared.Sent.TheVariants.{Case1, Case2, Case3, Case4, GetResponse}
+use Rattle.t0_state.specs.declared.Sent.TheVariants.{Own, GetResponse}
 use Rattle.t0_state.specs.declared.Command.{Command}
 use Rattle.t0_state.specs.declared.State.{State}
 use Rattle.t0_state.specs.declared.Turn.{Turn}
@@ -20,6 +20,7 @@ use Rattle.t0_state.specs.declared.bytes.Meaning.{Meaning}
 use Rattle.t0_state.specs.declared.bytes.Meaning.TheVariants.{Wait, Get, Repeat, Status}
 use Rattle.t0_turns.specs.Turns.{on_length, on_data, after_byte}
 use Rattle.t0_laws.proofs.Cases.{every_turn}
+use Rattle.apdu.specs.declared.Case.TheVariants.{One, Two, Three, Four}
 
 -- the upper half of a byte that is no status
 not_six_nine : (b : ℕ) → is_status b ≡ false → (b / 16 ≡ 6 → ⊥) × (b / 16 ≡ 9 → ⊥)
@@ -69,10 +70,10 @@ command_kept s b =
 
 for_any : (x : Sent) (c : Command) → is_status c.ins ≡ false → is_status (ins_for x c) ≡ false
 unfolding ins_for is_status pick
-for_any Case1 c e = e
-for_any Case2 c e = e
-for_any Case3 c e = e
-for_any Case4 c e = e
+for_any (Own One) c e = e
+for_any (Own Two) c e = e
+for_any (Own Three) c e = e
+for_any (Own Four) c e = e
 for_any GetResponse c e = refl
 
 pub ins_accepted : (s : State) → is_status s.command.ins ≡ false → is_status (ins_of s) ≡ false

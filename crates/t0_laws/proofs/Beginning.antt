@@ -11,9 +11,9 @@ use Rattle.slices.proofs.Choice.{picked}
 use Rattle.apdu.specs.Commands.{length_byte, case_of, asked}
 use Rattle.apdu.specs.Answers.{is_status}
 use Rattle.apdu.specs.declared.Case.{Case}
-use Rattle.apdu.specs.declared.Case.TheVariants.{One, Two, Three, Four, NoCase}
+use Rattle.apdu.specs.declared.Case.TheVariants.{One, Two, Three, Four}
 use Rattle.t0_state.specs.declared.Sent.{Sent}
-use Rattle.t0_state.specs.declared.Sent.TheVariants.{Case1, Case2, Case3, Case4}
+use Rattle.t0_state.specs.declared.Sent.TheVariants.{Own}
 use Rattle.t0_state.specs.declared.Command.{Command}
 use Rattle.t0_state.specs.declared.Phase.{Phase}
 use Rattle.t0_state.specs.declared.Phase.TheVariants.{Procedure, Over}
@@ -26,6 +26,7 @@ use Rattle.t0_laws.specs.Bounds.{bytes_most, waits_left, gets_left, repeat_cost,
 use Rattle.t0_laws.specs.Bounds.{phase_cost, bytes_left, header_data, phase_data, data_left, is6_c, Sound}
 use Rattle.t0_laws.proofs.Headers.{moved_none, asked_most}
 use Rattle.t0_laws.proofs.Ends.{sound_on, ends_within}
+use Rattle.std.specs.Prelude.{Option, None, Some}
 
 pub byte_at : (l : List ℕ) (i : ℕ) → Bytes l → get_or l i 0 < 256
 byte_at [] i h = omega arith
@@ -49,7 +50,7 @@ module _ (k : Command) (sent : Sent) (size : ℕ) (fits : size ≤ size_most sen
 module _ (c : List ℕ) where
   nowhere_started : Started nowhere
   unfolding nowhere is6_c phase_data phase_cost size_most header_data header_cost
-  nowhere_started = at_first _ Case1 0 (omega arith) (omega arith) (omega arith) Over refl refl (omega arith)
+  nowhere_started = at_first _ (Own One) 0 (omega arith) (omega arith) (omega arith) Over refl refl (omega arith)
 
   begun_started : (sent : Sent) (size : ℕ) → size ≤ size_most sent → header_data sent 0 ≤ 256 → header_cost sent 0 ≤ 769
       → Started (begun sent size c)
@@ -63,30 +64,30 @@ module _ (c : List ℕ) where
   as_begun out P sent size none p = picked (λ (y : Begun). P y.state) (is_status (get_or c 1 0)) _ _ (λ e. none) (λ e. p)
 
   module _ (bytes : Bytes c) where
-    pub started_one : Started (begun Case1 0 c)
+    pub started_one : Started (begun (Own One) 0 c)
     unfolding size_most header_data header_cost
-    started_one = begun_started Case1 0 (omega arith) (omega arith) (omega arith)
+    started_one = begun_started (Own One) 0 (omega arith) (omega arith) (omega arith)
 
-    pub started_two : Started (begun Case2 (asked (length_byte c)) c)
+    pub started_two : Started (begun (Own Two) (asked (length_byte c)) c)
     unfolding size_most header_data header_cost
-    started_two = begun_started Case2 (asked (length_byte c)) (asked_most _ (byte_at c 4 bytes)) (omega arith) (omega arith)
+    started_two = begun_started (Own Two) (asked (length_byte c)) (asked_most _ (byte_at c 4 bytes)) (omega arith) (omega arith)
 
-    pub started_three : Started (begun Case3 (length_byte c) c)
+    pub started_three : Started (begun (Own Three) (length_byte c) c)
     unfolding size_most header_data header_cost
-    started_three = begun_started Case3 (length_byte c) (omega (arith, byte_at c 4 bytes)) (omega arith) (omega arith)
+    started_three = begun_started (Own Three) (length_byte c) (omega (arith, byte_at c 4 bytes)) (omega arith) (omega arith)
 
-    pub started_four : Started (begun Case4 (length_byte c) c)
+    pub started_four : Started (begun (Own Four) (length_byte c) c)
     unfolding size_most header_data header_cost
-    started_four = begun_started Case4 (length_byte c) (omega (arith, byte_at c 4 bytes)) (omega arith) (omega arith)
+    started_four = begun_started (Own Four) (length_byte c) (omega (arith, byte_at c 4 bytes)) (omega arith) (omega arith)
 
     module _ (out : List ℕ) where
-      in_case : (x : Case) → Started (begun_in x c out).state
+      in_case : (x : Option Case) → Started (begun_in x c out).state
       unfolding begun_in
-      in_case NoCase = nowhere_started
-      in_case One = as_begun out Started Case1 0 nowhere_started started_one
-      in_case Two = as_begun out Started Case2 (asked (length_byte c)) nowhere_started started_two
-      in_case Three = as_begun out Started Case3 (length_byte c) nowhere_started started_three
-      in_case Four = as_begun out Started Case4 (length_byte c) nowhere_started started_four
+      in_case None = nowhere_started
+      in_case (Some One) = as_begun out Started (Own One) 0 nowhere_started started_one
+      in_case (Some Two) = as_begun out Started (Own Two) (asked (length_byte c)) nowhere_started started_two
+      in_case (Some Three) = as_begun out Started (Own Three) (length_byte c) nowhere_started started_three
+      in_case (Some Four) = as_begun out Started (Own Four) (length_byte c) nowhere_started started_four
 
       pub started : Started (begun_by c out).state
       unfolding begun_by

@@ -9,19 +9,22 @@ use lib.ListN.{drop}
 use Rattle.slices.proofs.Choice.{pick_yes, pick_no, picked, either}
 use Rattle.t0_state.specs.declared.State.{State}
 use Rattle.t0_begin.specs.declared.Reply.{Reply}
-use Rattle.t0_begin.specs.declared.Reply.TheVariants.{Go, Answer, Refused}
-use Rattle.t0.specs.Steps.{wait_for, Stepped, done, step_of}
+use Rattle.t0_begin.specs.declared.Reply.TheVariants.{Go, Answer}
+use Rattle.t0_begin.specs.Begin.{wait_for}
+use Rattle.t0.specs.Steps.{Stepped, done, step_of}
 use Rattle.t0_pieces.specs.Pieces.{is_closed, waiting_in, is_quiet, Took, here, ends, takes_from}
 use Rattle.t0_laws.specs.Outcomes.{Outcome, logged, settled, stepped_to, playing, called_to}
 use Rattle.t0_laws.proofs.Cutting.{going}
 use Rattle.t0_laws.proofs.Quiet.{quiet_open}
+use Rattle.std.specs.Prelude.{Result, Err, Ok}
+use Rattle.t0_state.specs.declared.Refusal.{Refusal}
 
 -- a quiet reply adds nothing to what was sent
-unlogged : (y : Reply) (out : List ℕ) (sent : List (List ℕ)) → is_quiet y ≡ true → logged y out sent ≡ sent
+unlogged : (y : Result Reply Refusal) (out : List ℕ) (sent : List (List ℕ)) → is_quiet y ≡ true → logged y out sent ≡ sent
 unfolding logged is_quiet
-unlogged (Go n w) out sent e = pick_yes _ _ _ e
-unlogged (Answer n) out sent e = refl
-unlogged (Refused why) out sent e = refl
+unlogged (Ok (Go n w)) out sent e = pick_yes _ _ _ e
+unlogged (Ok (Answer n)) out sent e = refl
+unlogged (Err why) out sent e = refl
 
 -- after a quiet step
 module _ (s : State) (b : ℕ) (out answer : List ℕ) (q : is_quiet (step_of s b out answer).reply ≡ true) where
@@ -43,7 +46,7 @@ grows (b ∷ piece) n s out answer =
     (λ e. picked (λ (t : Took). n ≤ t.taken) (is_quiet r.reply) _ _
     (λ f. let more = grows piece (n + 1) r.state r.out r.answer in omega arith) (λ f. omega arith))
 
-waits : (s : State) → is_closed s ≡ false → waiting_in s ≡ Go 0 (wait_for s.phase)
+waits : (s : State) → is_closed s ≡ false → waiting_in s ≡ Ok (Go 0 (wait_for s.phase))
 unfolding waiting_in
 waits s e = pick_no _ _ _ e
 
@@ -54,7 +57,7 @@ unfolding called_to is_quiet settled
 called_here o w =
     picked (λ (x : Outcome). x ≡ o) (is_closed o.state) _ _ (λ e. refl)
     (λ e. ap₂ (λ (x : List (List ℕ))
-    (y : Reply). record { state = o.state; taken = o.taken; sent = x; said = y; out = o.out; answer = o.answer })
+    (y : Result Reply Refusal). record { state = o.state; taken = o.taken; sent = x; said = y; out = o.out; answer = o.answer })
     (unlogged (waiting_in o.state) o.out o.sent (ap is_quiet (waits o.state e)))
     (ap settled (waits o.state e) ∙ (sym (waits o.state e) ∙ sym (w e))))
 

@@ -15,8 +15,7 @@ use Rattle.apdu.specs.Answers.{is_status}
 use Rattle.t0_state.specs.Bytes.{ins_of, complement, meaning_of, comes_in, may_get, may_repeat, goes_on}
 use Rattle.t0_state.specs.Changes.{at_phase, with_received, with_trailer, asking}
 use Rattle.t0_state.specs.declared.Sent.TheVariants.{GetResponse}
-use Rattle.t0_state.specs.declared.Trailer.{Trailer}
-use Rattle.t0_state.specs.declared.Trailer.TheVariants.{Last, Kept}
+use Rattle.apdu.specs.declared.Trailer.{Trailer}
 use Rattle.t0_state.specs.declared.Phase.{Phase}
 use Rattle.t0_state.specs.declared.Phase.TheVariants.{Procedure, Length61, Length6C, Status, Data, Over}
 use Rattle.t0_state.specs.declared.State.{State}
@@ -42,6 +41,8 @@ use Rattle.t0_laws.proofs.Received.{answer_room}
 use Rattle.t0_laws.proofs.Answered.{whole_answer}
 use Rattle.t0_laws.proofs.Collide.{Accepted, ins_byte, accepted}
 use Rattle.t0_laws.proofs.Counting.{sixty, sixty_one, six_c, turn_is}
+use Rattle.apdu.specs.Answers.{trailer_of}
+use Rattle.std.specs.Prelude.{Option, None, Some, Ok}
 
 few_in : (s : State) → Sound s → s.received ≤ data_most
 few_in s f = let r = f.room in omega arith
@@ -91,14 +92,14 @@ module _ (s : State) (due : s.phase ≡ Procedure) (ok : Accepted s.command) (so
   moved_in n h e = pick_no _ _ _ (ne_eqb n 0 (λ z. omega arith)) ∙ pick_yes _ _ _ e
 
   moved_out : (n : ℕ) → 1 ≤ n → comes_in s.header.sent ≡ false
-      → moving n s ≡ record { state = less_left n s; act = Send (s.header.size - s.header.left) n }
+      → moving n s ≡ record { state = less_left n s; act = Ok (Send (s.header.size - s.header.left) n) }
   unfolding moving
   moved_out n h e = pick_no _ _ _ (ne_eqb n 0 (λ z. omega arith)) ∙ pick_no _ _ _ e
 
   one_left : 1 ≤ s.header.left → ◌≡◌ {A = ℕ} (pick (eqb s.header.left 0) 0 1) 1
   one_left h = pick_no _ _ _ (ne_eqb s.header.left 0 (λ z. omega arith))
 
-  pub waits_turn : s.counts.waits < waits_most → after_byte s 0x60 ≡ record { state = waited s; act = Nothing }
+  pub waits_turn : s.counts.waits < waits_most → after_byte s 0x60 ≡ record { state = waited s; act = Ok Nothing }
   unfolding by_meaning on_wait
   waits_turn h = meant 0x60 Wait (sixty (ins_of s) low fine) ∙ pick_yes _ _ _ (lt-ltb s.counts.waits waits_most h)
 
@@ -115,12 +116,12 @@ module _ (s : State) (due : s.phase ≡ Procedure) (ok : Accepted s.command) (so
 
   pub takes_turn : 1 ≤ s.header.left → comes_in s.header.sent ≡ false
       → after_byte s (ins_of s)
-      ≡ record { state = less_left s.header.left s; act = Send (s.header.size - s.header.left) s.header.left }
+      ≡ record { state = less_left s.header.left s; act = Ok (Send (s.header.size - s.header.left) s.header.left) }
   unfolding by_meaning on_all
   takes_turn h e = meant (ins_of s) All all_meant ∙ moved_out s.header.left h e
 
   pub takes_one_turn : 1 ≤ s.header.left → comes_in s.header.sent ≡ false
-      → after_byte s (complement (ins_of s)) ≡ record { state = less_left 1 s; act = Send (s.header.size - s.header.left) 1 }
+      → after_byte s (complement (ins_of s)) ≡ record { state = less_left 1 s; act = Ok (Send (s.header.size - s.header.left) 1) }
   unfolding by_meaning on_next
   takes_one_turn h e =
       meant (complement (ins_of s)) Next next_meant ∙ (ap (λ (n : ℕ). moving n s) (one_left h) ∙ moved_out 1 (omega arith) e)
@@ -140,21 +141,21 @@ module _ (s : State) (due : s.phase ≡ Procedure) (ok : Accepted s.command) (so
 
 -- the second byte
 module _ (s : State) (b : ℕ) (sound : Sound s) where
-  pub length_turn : s.phase ≡ Length61 → after_byte s b ≡ record { state = asking GetResponse (asked b) s; act = Header b }
+  pub length_turn : s.phase ≡ Length61 → after_byte s b ≡ record { state = asking GetResponse (asked b) s; act = Ok (Header b) }
   unfolding by_phase on_length
   length_turn e = turn_is s b (few_in s sound) Length61 e
 
-  pub repeat_turn : s.phase ≡ Length6C → after_byte s b ≡ record { state = asking s.header.sent (asked b) s; act = Header b }
+  pub repeat_turn : s.phase ≡ Length6C → after_byte s b ≡ record { state = asking s.header.sent (asked b) s; act = Ok (Header b) }
   unfolding by_phase on_repeat on_length
   repeat_turn e = turn_is s b (few_in s sound) Length6C e
 
-  pub warns_turn : (a : ℕ) → s.phase ≡ Status a → goes_on s.header a b ≡ true
-      → after_byte s b ≡ record { state = asking GetResponse 256 (with_trailer a b s); act = Header 0 }
+  pub warns_turn : (a : ℕ) → s.phase ≡ Status a → goes_on s.header (trailer_of a b) ≡ true
+      → after_byte s b ≡ record { state = asking GetResponse 256 (with_trailer (trailer_of a b) s); act = Ok (Header 0) }
   unfolding by_phase on_status
   warns_turn a e f = turn_is s b (few_in s sound) (Status a) e ∙ pick_yes _ _ _ f
 
-  pub ends_turn : (a : ℕ) → s.phase ≡ Status a → goes_on s.header a b ≡ false
-      → after_byte s b ≡ record { state = at_phase Over s; act = ending_in s.trailer a b }
+  pub ends_turn : (a : ℕ) → s.phase ≡ Status a → goes_on s.header (trailer_of a b) ≡ false
+      → after_byte s b ≡ record { state = at_phase Over s; act = Ok (ending_in s.trailer (trailer_of a b)) }
   unfolding by_phase on_status
   ends_turn a e f = turn_is s b (few_in s sound) (Status a) e ∙ pick_no _ _ _ f
 
@@ -162,10 +163,10 @@ module _ (s : State) (b : ℕ) (sound : Sound s) where
   unfolding by_phase
   data_turn n e = turn_is s b (few_in s sound) (Data n) e
 
-ending_kept : (t : Trailer) (a b : ℕ) → kept_by (ending_in t a b) ≡ ending t a b
+ending_kept : (t : Option Trailer) (a b : ℕ) → kept_by (Ok (ending_in t (trailer_of a b))) ≡ ending t a b
 unfolding kept_by ending_in
-ending_kept Last a b = refl
-ending_kept (Kept x y) a b = refl
+ending_kept None a b = refl
+ending_kept (Some t) a b = refl
 
 -- the data that a procedure byte announces
 abbrev filled : ℕ → State → State
@@ -184,17 +185,17 @@ data_in : (b : ℕ) (d rest : List ℕ) (u : State) (n : ℕ) → u.phase ≡ Da
     → (kept u (b ∷ (d ++ rest)) ≡ b ∷ (d ++ kept (filled n u) rest)) × Sound (filled n u)
 unfolding on_data kept_by
 data_in b [] rest u n e h bytes ok sound =
-    let t : after_byte u b ≡ record { state = filled n u; act = Keep b }
+    let t : after_byte u b ≡ record { state = filled n u; act = Ok (Keep b) }
     = data_turn u b sound n e
-    ∙ (ap (λ (p : Phase). record { state = at_phase p (with_received (u.received + 1) u); act = Keep b }) (last_byte n (omega arith))
-    ∙ ap (λ (k : ℕ). record { state = at_phase Procedure (with_received (u.received + k) u); act = Keep b })
+    ∙ (ap (λ (p : Phase). record { state = at_phase p (with_received (u.received + 1) u); act = Ok (Keep b) }) (last_byte n (omega arith))
+    ∙ ap (λ (k : ℕ). record { state = at_phase Procedure (with_received (u.received + k) u); act = Ok (Keep b) })
     (let z : 1 ≡ n = omega arith in z))
     in
     (one_kept u b _ t bytes.0 ok sound rest, after_sound u b _ t bytes.0 ok sound)
 data_in b (c ∷ d) rest u n e h bytes ok sound =
-    let t : after_byte u b ≡ record { state = at_phase (Data (n - 1)) (with_received (u.received + 1) u); act = Keep b }
+    let t : after_byte u b ≡ record { state = at_phase (Data (n - 1)) (with_received (u.received + 1) u); act = Ok (Keep b) }
     = data_turn u b sound n e
-    ∙ ap (λ (p : Phase). record { state = at_phase p (with_received (u.received + 1) u); act = Keep b })
+    ∙ ap (λ (p : Phase). record { state = at_phase p (with_received (u.received + 1) u); act = Ok (Keep b) })
     (more_bytes n (length d) (omega arith))
     in
     let on = data_in c d rest (at_phase (Data (n - 1)) (with_received (u.received + 1) u)) (n - 1) refl (omega arith) bytes.1
@@ -279,7 +280,7 @@ follows (warns a b sc) s due right ok sound bytes =
     let t' = warns_turn u b sound' a refl right.1 in
     one_kept s a _ t bytes.0 ok sound _
     ∙ (one_kept u b _ t' bytes.1.0 ok sound' _
-    ∙ follows sc (asking GetResponse 256 (with_trailer a b u)) refl right.2 ok (after_sound u b _ t' bytes.1.0 ok sound') bytes.1.1)
+    ∙ follows sc (asking GetResponse 256 (with_trailer (trailer_of a b) u)) refl right.2 ok (after_sound u b _ t' bytes.1.0 ok sound') bytes.1.1)
 follows (ends a b) s due right ok sound bytes =
     let t = first_turn s due ok sound a right.0 in
     let u = at_phase (Status a) s in

@@ -22,6 +22,8 @@ use Rattle.t0_state.specs.declared.Turn.{Turn}
 use Rattle.t0_procedure.specs.Procedure.{waits_most, gets_most, refused, onward, less_left, moving, on_all, on_next}
 use Rattle.t0_procedure.specs.Procedure.{waited, on_wait, got, on_get, repeats, on_six_c, by_meaning, on_procedure}
 use Rattle.t0_turns.specs.Turns.{data_most, closed_on, on_length, on_repeat, ending_in, on_status, on_data, by_phase, after_byte}
+use Rattle.apdu.specs.Answers.{trailer_of}
+use Rattle.std.specs.Prelude.{Ok}
 
 module _ (s : State) (b : ℕ) (P : Turn → Type 0)
     (refuses : (why : Refusal) → P (refused why s))
@@ -30,16 +32,16 @@ module _ (s : State) (b : ℕ) (P : Turn → Type 0)
     (comes : (n : ℕ) → s.phase ≡ Procedure → 1 ≤ n → n ≤ s.header.left → comes_in s.header.sent ≡ true
     → P (onward (Data n) (less_left n s)))
     (sends : (n : ℕ) → s.phase ≡ Procedure → 1 ≤ n → n ≤ s.header.left → comes_in s.header.sent ≡ false
-    → P (record { state = less_left n s; act = Send (s.header.size - s.header.left) n }))
-    (waits : s.phase ≡ Procedure → s.counts.waits < waits_most → P (record { state = waited s; act = Nothing }))
+    → P (record { state = less_left n s; act = Ok (Send (s.header.size - s.header.left) n) }))
+    (waits : s.phase ≡ Procedure → s.counts.waits < waits_most → P (record { state = waited s; act = Ok Nothing }))
     (gets : s.phase ≡ Procedure → s.counts.gets < gets_most → may_get s.header ≡ true → P (onward Length61 (got s)))
     (repeating : s.phase ≡ Procedure → s.counts.repeated ≡ false → may_repeat s.header ≡ true → P (onward Length6C (repeats s)))
     (begins : s.phase ≡ Procedure → P (onward (Status b) s))
     (fetches : s.phase ≡ Length61 → P (on_length GetResponse s b))
     (again : s.phase ≡ Length6C → P (on_length s.header.sent s b))
-    (warns : (a : ℕ) → s.phase ≡ Status a → goes_on s.header a b ≡ true
-    → P (record { state = asking GetResponse 256 (with_trailer a b s); act = Header 0 }))
-    (finishes : (a : ℕ) → s.phase ≡ Status a → P (record { state = at_phase Over s; act = ending_in s.trailer a b }))
+    (warns : (a : ℕ) → s.phase ≡ Status a → goes_on s.header (trailer_of a b) ≡ true
+    → P (record { state = asking GetResponse 256 (with_trailer (trailer_of a b) s); act = Ok (Header 0) }))
+    (finishes : (a : ℕ) → s.phase ≡ Status a → P (record { state = at_phase Over s; act = Ok (ending_in s.trailer (trailer_of a b)) }))
     (keeps : (n : ℕ) → s.phase ≡ Data n → P (on_data n s b))
   where
     moving_cases : (n : ℕ) → s.phase ≡ Procedure → n ≤ s.header.left → P (moving n s)
@@ -75,7 +77,7 @@ module _ (s : State) (b : ℕ) (P : Turn → Type 0)
     by_phase_lem Procedure e = by_meaning_lem (meaning_of (ins_of s) b) e
     by_phase_lem Length61 e = fetches e
     by_phase_lem Length6C e = again e
-    by_phase_lem (Status a) e = picked P (goes_on s.header a b) _ _ (λ f. warns a e f) (λ f. finishes a e)
+    by_phase_lem (Status a) e = picked P (goes_on s.header (trailer_of a b)) _ _ (λ f. warns a e f) (λ f. finishes a e)
     by_phase_lem (Data n) e = keeps n e
     by_phase_lem Over e = over e
 

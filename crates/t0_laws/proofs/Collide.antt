@@ -12,10 +12,10 @@ use Rattle.slices.proofs.Choice.{picked}
 use Rattle.apdu.specs.Commands.{length_byte, case_of, asked}
 use Rattle.apdu.specs.Answers.{is_status}
 use Rattle.apdu.specs.declared.Case.{Case}
-use Rattle.apdu.specs.declared.Case.TheVariants.{One, Two, Three, Four, NoCase}
+use Rattle.apdu.specs.declared.Case.TheVariants.{One, Two, Three, Four}
 use Rattle.t0_state.specs.Bytes.{ins_for, ins_of, meaning_of}
 use Rattle.t0_state.specs.declared.Sent.{Sent}
-use Rattle.t0_state.specs.declared.Sent.TheVariants.{Case1, Case2, Case3, Case4, GetResponse}
+use Rattle.t0_state.specs.declared.Sent.TheVariants.{Own, GetResponse}
 use Rattle.t0_state.specs.declared.Command.{Command}
 use Rattle.t0_state.specs.declared.State.{State}
 use Rattle.t0_state.specs.declared.bytes.Meaning.TheVariants.{Wait, Get, Repeat, Status}
@@ -24,16 +24,17 @@ use Rattle.t0_turns.specs.Turns.{after_byte}
 use Rattle.t0_laws.specs.Outcomes.{turned, Bytes}
 use Rattle.t0_laws.proofs.Apart.{status_read, command_kept, ins_accepted}
 use Rattle.t0_laws.proofs.Beginning.{byte_at}
+use Rattle.std.specs.Prelude.{Option, None, Some}
 
 abbrev pub Accepted : Command → Type 0
 Accepted c = (c.ins < 256) × (is_status c.ins ≡ false)
 
 pub ins_byte : (x : Sent) (c : Command) → c.ins < 256 → ins_for x c < 256
 unfolding ins_for
-ins_byte Case1 c h = h
-ins_byte Case2 c h = h
-ins_byte Case3 c h = h
-ins_byte Case4 c h = h
+ins_byte (Own One) c h = h
+ins_byte (Own Two) c h = h
+ins_byte (Own Three) c h = h
+ins_byte (Own Four) c h = h
 ins_byte GetResponse c h = omega arith
 
 pub stays : (bs : List ℕ) (s : State) → Accepted s.command → Accepted (turned s bs).command
@@ -51,13 +52,13 @@ module _ (c out : List ℕ) (bytes : Bytes c) where
   as_accepted sent size =
       picked (λ (x : Begun). Accepted x.state.command) (is_status (get_or c 1 0)) _ _ (λ e. none) (λ e. (byte_at c 1 bytes, e))
 
-  in_accepted : (x : Case) → Accepted (begun_in x c out).state.command
+  in_accepted : (x : Option Case) → Accepted (begun_in x c out).state.command
   unfolding begun_in
-  in_accepted NoCase = none
-  in_accepted One = as_accepted Case1 0
-  in_accepted Two = as_accepted Case2 (asked (length_byte c))
-  in_accepted Three = as_accepted Case3 (length_byte c)
-  in_accepted Four = as_accepted Case4 (length_byte c)
+  in_accepted None = none
+  in_accepted (Some One) = as_accepted (Own One) 0
+  in_accepted (Some Two) = as_accepted (Own Two) (asked (length_byte c))
+  in_accepted (Some Three) = as_accepted (Own Three) (length_byte c)
+  in_accepted (Some Four) = as_accepted (Own Four) (length_byte c)
 
   pub accepted : Accepted (begun_by c out).state.command
   unfolding begun_by

@@ -13,10 +13,10 @@ use Rattle.slices.proofs.Choice.{pick_yes, pick_no, picked, either}
 use Rattle.apdu.specs.Answers.{is_status}
 use Rattle.apdu.specs.Commands.{length_byte, case_of, asked}
 use Rattle.apdu.specs.declared.Case.{Case}
-use Rattle.apdu.specs.declared.Case.TheVariants.{One, Two, Three, Four, NoCase}
+use Rattle.apdu.specs.declared.Case.TheVariants.{One, Two, Three, Four}
 use Rattle.t0_state.specs.Bytes.{ins_of, meaning_of, may_get, may_repeat}
 use Rattle.t0_state.specs.declared.Sent.{Sent}
-use Rattle.t0_state.specs.declared.Sent.TheVariants.{Case1, Case2, Case3, Case4}
+use Rattle.t0_state.specs.declared.Sent.TheVariants.{Own}
 use Rattle.t0_state.specs.declared.Phase.{Phase}
 use Rattle.t0_state.specs.declared.Phase.TheVariants.{Procedure, Length61, Length6C, Status, Data, Over}
 use Rattle.t0_state.specs.declared.Refusal.{Refusal}
@@ -38,6 +38,7 @@ use Rattle.t0_laws.proofs.Apart.{status_read, command_kept, ins_accepted}
 use Rattle.t0_laws.proofs.Ends.{stays_over, sound_on}
 use Rattle.t0_laws.proofs.Beginning.{started}
 use Rattle.t0_laws.proofs.Collide.{Accepted, ins_byte, stays, accepted}
+use Rattle.std.specs.Prelude.{Option, None, Some, Ok}
 
 pub plus_none : (n : ℕ) → n ≡ n + 0
 plus_none n = omega arith
@@ -252,13 +253,13 @@ module _ (c out : List ℕ) where
   unfolding begun_as begun nowhere
   as_uncounted sent size = picked Uncounted (is_status (get_or c 1 0)) _ _ (λ e. (refl, refl, refl)) (λ e. (refl, refl, refl))
 
-  in_uncounted : (x : Case) → Uncounted (begun_in x c out)
+  in_uncounted : (x : Option Case) → Uncounted (begun_in x c out)
   unfolding begun_in nowhere
-  in_uncounted NoCase = (refl, refl, refl)
-  in_uncounted One = as_uncounted Case1 0
-  in_uncounted Two = as_uncounted Case2 (asked (length_byte c))
-  in_uncounted Three = as_uncounted Case3 (length_byte c)
-  in_uncounted Four = as_uncounted Case4 (length_byte c)
+  in_uncounted None = (refl, refl, refl)
+  in_uncounted (Some One) = as_uncounted (Own One) 0
+  in_uncounted (Some Two) = as_uncounted (Own Two) (asked (length_byte c))
+  in_uncounted (Some Three) = as_uncounted (Own Three) (length_byte c)
+  in_uncounted (Some Four) = as_uncounted (Own Four) (length_byte c)
 
   pub uncounted : Uncounted (begun_by c out)
   unfolding begun_by
@@ -298,13 +299,13 @@ module _ (c out bs : List ℕ) (bytes : Bytes c) (card : Bytes bs) where
 
     -- the 256th '60' of the command is too many, and none before it
     pub sixty_limit : after_byte after 0x60
-        ≡ pick (ltb (times 0x60 said) waits_most) (record { state = waited after; act = Nothing }) (refused Many60 after)
+        ≡ pick (ltb (times 0x60 said) waits_most) (record { state = waited after; act = Ok Nothing }) (refused Many60 after)
     unfolding by_meaning on_wait
     sixty_limit =
         let n : after.counts.waits ≡ times 0x60 said = (whole_command still).waits
         ∙ (ap (λ (k : ℕ). k + times 0x60 said) none_yet.0 ∙ none_plus _) in
         byte_means 0x60 Wait (λ ins x y. sixty ins x y)
-        ∙ ap (λ (k : ℕ). pick (ltb k waits_most) (record { state = waited after; act = Nothing }) (refused Many60 after)) n
+        ∙ ap (λ (k : ℕ). pick (ltb k waits_most) (record { state = waited after; act = Ok Nothing }) (refused Many60 after)) n
 
     -- the 17th '61'
     pub sixty_one_limit : after_byte after 0x61

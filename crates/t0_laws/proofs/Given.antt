@@ -11,8 +11,7 @@ use Rattle.slices.proofs.Choice.{pick_yes, pick_no}
 use Rattle.apdu.specs.Commands.{asked}
 use Rattle.t0_state.specs.Bytes.{comes_in}
 use Rattle.t0_state.specs.declared.Sent.TheVariants.{GetResponse}
-use Rattle.t0_state.specs.declared.Trailer.{Trailer}
-use Rattle.t0_state.specs.declared.Trailer.TheVariants.{Last, Kept}
+use Rattle.apdu.specs.declared.Trailer.{Trailer}
 use Rattle.t0_state.specs.declared.State.{State}
 use Rattle.t0_state.specs.declared.Turn.{Turn}
 use Rattle.t0_state.specs.declared.Phase.TheVariants.{Data, Over}
@@ -26,6 +25,8 @@ use Rattle.t0_laws.specs.Moves.{data_sent_by, data_out, unsent}
 use Rattle.t0_laws.proofs.Cases.{every_turn}
 use Rattle.t0_laws.proofs.Headers.{repeats_in}
 use Rattle.t0_laws.proofs.Ends.{sound_on}
+use Rattle.apdu.specs.Answers.{trailer_of}
+use Rattle.std.specs.Prelude.{Option, None, Some, Ok}
 
 abbrev Gives : State → Turn → Type 0
 Gives s t = (q : List ℕ) × (data_sent_by t.act t.state ++ (unsent t.state ++ q) ≡ unsent s)
@@ -57,10 +58,10 @@ module _ (s : State) (left : s.header.left ≤ s.header.size) where
       ∙ (ap (λ (k : ℕ). take (s.header.left - n) (drop k l)) behind ∙ ap (take (s.header.left - n)) (sym (drop-drop n at l)))))
       ∙ (sym (take-add n (s.header.left - n) (drop at l)) ∙ (ap (λ (k : ℕ). take k (drop at l)) all ∙ sym (pick_no _ _ _ out)))
 
-ending_none : (x : Trailer) (a b : ℕ) (t : State) → data_sent_by (ending_in x a b) t ≡ []
+ending_none : (x : Option Trailer) (last : Trailer) (t : State) → data_sent_by (Ok (ending_in x last)) t ≡ []
 unfolding ending_in data_sent_by
-ending_none Last a b t = refl
-ending_none (Kept x y) a b t = refl
+ending_none None last t = refl
+ending_none (Some kept) last t = refl
 
 turn_gives : (s : State) (b : ℕ) → Sound s → Gives s (after_byte s b)
 unfolding data_sent_by sent_by on_length on_data comes_in unsent is6_c
@@ -74,8 +75,8 @@ turn_gives s b sound =
     (λ h. still refl)
     (λ h. none (unsent_in (asking GetResponse (asked b) s) refl))
     (λ h. none (unsent_in (asking s.header.sent (asked b) s) (repeats_in s.header (sound.again (ap is6_c h))).0))
-    (λ a h i. none (unsent_in (asking GetResponse 256 (with_trailer a b s)) refl))
-    (λ a h. ([], ap (λ (l : List ℕ). l ++ (unsent s ++ [])) (ending_none s.trailer a b (at_phase Over s)) ∙ append-nil (unsent s)))
+    (λ a h i. none (unsent_in (asking GetResponse 256 (with_trailer (trailer_of a b) s)) refl))
+    (λ a h. ([], ap (λ (l : List ℕ). l ++ (unsent s ++ [])) (ending_none s.trailer (trailer_of a b) (at_phase Over s)) ∙ append-nil (unsent s)))
     (λ n h. still refl)
 
 -- the data sent over any bytes of the card's is a beginning of what was left

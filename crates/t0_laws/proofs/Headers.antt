@@ -9,9 +9,12 @@ use Rattle.slices.proofs.Choice.{picked}
 use Rattle.apdu.specs.Commands.{asked}
 use Rattle.t0_state.specs.Bytes.{comes_in, may_repeat, goes_on_after, goes_on}
 use Rattle.t0_state.specs.declared.Sent.{Sent}
-use Rattle.t0_state.specs.declared.Sent.TheVariants.{Case1, Case2, Case3, Case4, GetResponse}
+use Rattle.t0_state.specs.declared.Sent.TheVariants.{Own, GetResponse}
 use Rattle.t0_state.specs.declared.Header.{Header}
 use Rattle.t0_laws.specs.Bounds.{moved, size_most, header_cost, header_data}
+use Rattle.apdu.specs.declared.Case.TheVariants.{One, Two, Three, Four}
+use Rattle.apdu.specs.Answers.{trailer_of}
+use Rattle.apdu.specs.declared.Trailer.{Trailer}
 
 -- bytes that come in
 pub record In (x : Sent) : Type 0 where
@@ -21,10 +24,10 @@ pub record In (x : Sent) : Type 0 where
 
 pub comes_in_lem : (x : Sent) → comes_in x ≡ true → In x
 unfolding comes_in size_most header_cost header_data
-comes_in_lem Case1 e = absurd (false≢true e)
-comes_in_lem Case2 e = record { size = refl; cost = λ m. refl; data' = λ m. refl }
-comes_in_lem Case3 e = absurd (false≢true e)
-comes_in_lem Case4 e = absurd (false≢true e)
+comes_in_lem (Own One) e = absurd (false≢true e)
+comes_in_lem (Own Two) e = record { size = refl; cost = λ m. refl; data' = λ m. refl }
+comes_in_lem (Own Three) e = absurd (false≢true e)
+comes_in_lem (Own Four) e = absurd (false≢true e)
 comes_in_lem GetResponse e = record { size = refl; cost = λ m. refl; data' = λ m. refl }
 
 -- bytes that go out
@@ -35,24 +38,24 @@ pub record Out (x : Sent) : Type 0 where
 
 pub goes_out_lem : (x : Sent) → comes_in x ≡ false → Out x
 unfolding comes_in size_most header_cost header_data
-goes_out_lem Case1 e = record { size = omega arith; cost = λ h m. absurd (omega arith); data' = λ m k. refl }
-goes_out_lem Case2 e = absurd (false≢true (sym e))
-goes_out_lem Case3 e = record { size = omega arith; cost = λ h m. omega arith; data' = λ m k. refl }
-goes_out_lem Case4 e = record { size = omega arith; cost = λ h m. omega arith; data' = λ m k. refl }
+goes_out_lem (Own One) e = record { size = omega arith; cost = λ h m. absurd (omega arith); data' = λ m k. refl }
+goes_out_lem (Own Two) e = absurd (false≢true (sym e))
+goes_out_lem (Own Three) e = record { size = omega arith; cost = λ h m. omega arith; data' = λ m k. refl }
+goes_out_lem (Own Four) e = record { size = omega arith; cost = λ h m. omega arith; data' = λ m k. refl }
 goes_out_lem GetResponse e = absurd (false≢true (sym e))
 
 -- only case 4 goes on after a status
-four : (x : Sent) (left a b : ℕ) → goes_on_after x left a b ≡ true → x ≡ Case4
+four : (x : Sent) (left : ℕ) (t : Trailer) → goes_on_after x left t ≡ true → x ≡ Own Four
 unfolding goes_on_after
-four Case1 left a b e = absurd (false≢true e)
-four Case2 left a b e = absurd (false≢true e)
-four Case3 left a b e = absurd (false≢true e)
-four Case4 left a b e = refl
-four GetResponse left a b e = absurd (false≢true e)
+four (Own One) left t e = absurd (false≢true e)
+four (Own Two) left t e = absurd (false≢true e)
+four (Own Three) left t e = absurd (false≢true e)
+four (Own Four) left t e = refl
+four GetResponse left t e = absurd (false≢true e)
 
-pub goes_on_four : (h : Header) (a b : ℕ) → goes_on h a b ≡ true → h.sent ≡ Case4
+pub goes_on_four : (h : Header) (a b : ℕ) → goes_on h (trailer_of a b) ≡ true → h.sent ≡ Own Four
 unfolding goes_on
-goes_on_four h a b e = four h.sent h.left a b e
+goes_on_four h a b e = four h.sent h.left (trailer_of a b) e
 
 -- '6C' in its place: bytes come in, and none has come
 pub repeats_in : (h : Header) → may_repeat h ≡ true → (comes_in h.sent ≡ true) × (h.left ≡ h.size)

@@ -1,3 +1,4 @@
+
 pub mod Cases
 pub mod Cutting
 pub mod Quiet

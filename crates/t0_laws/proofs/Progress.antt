@@ -24,6 +24,7 @@ use Rattle.t0_laws.specs.Bounds.{waits_left, gets_left, repeat_cost, moved, size
 use Rattle.t0_laws.specs.Bounds.{phase_cost, bytes_left, header_data, phase_data, data_left, is6_c, Sound}
 use Rattle.t0_laws.proofs.Cases.{every_turn}
 use Rattle.t0_laws.proofs.Headers.{comes_in_lem, goes_out_lem, goes_on_four, repeats_in, moved_left, moved_none, moved_more, asked_most}
+use Rattle.apdu.specs.Answers.{trailer_of}
 
 -- over, or nearer to the end
 abbrev pub Good : State → State → Type 0
@@ -181,7 +182,7 @@ module _ (s : State) (sound : Sound s) where
       )
 
   -- GET RESPONSE goes out behind a warning
-  warns : (a b : ℕ) → s.phase ≡ Status a → goes_on s.header a b ≡ true → Good s (asking GetResponse 256 (with_trailer a b s))
+  warns : (a b : ℕ) → s.phase ≡ Status a → goes_on s.header (trailer_of a b) ≡ true → Good s (asking GetResponse 256 (with_trailer (trailer_of a b) s))
   unfolding is6_c size_most bytes_left header_cost phase_cost data_left header_data phase_data
   warns a b h on =
       let p = ap phase_cost h in

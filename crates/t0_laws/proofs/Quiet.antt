@@ -4,29 +4,32 @@ use mathlib.Core.Bool.{true, false, false≢true}
 use Prim.Native.Nat.{ℕ}
 use lib.Dec.{leb}
 use Rattle.slices.proofs.Choice.{picked}
-use Rattle.t0_state.specs.declared.Trailer.{Trailer}
-use Rattle.t0_state.specs.declared.Trailer.TheVariants.{Last, Kept}
+use Rattle.apdu.specs.Answers.{trailer_of}
+use Rattle.apdu.specs.declared.Trailer.{Trailer}
 use Rattle.t0_state.specs.declared.Phase.{Phase}
 use Rattle.t0_state.specs.declared.Phase.TheVariants.{Over}
 use Rattle.t0_state.specs.declared.State.{State}
 use Rattle.t0_state.specs.declared.Turn.{Turn}
 use Rattle.t0_begin.specs.declared.Reply.TheVariants.{Go}
 use Rattle.t0_turns.specs.Turns.{on_length, ending_in, phase_after, on_data, after_byte}
-use Rattle.t0.specs.Steps.{wait_for, reply_to}
+use Rattle.t0_begin.specs.Begin.{wait_for}
+use Rattle.t0.specs.Steps.{reply_to}
 use Rattle.t0_pieces.specs.Pieces.{is_over, is_quiet}
 use Rattle.t0_laws.specs.Outcomes.{settled}
 use Rattle.t0_laws.proofs.Cases.{every_turn}
+use Rattle.std.specs.Prelude.{Option, None, Some, Ok}
 
 -- of a turn whose reply is quiet
 abbrev Open : Turn → Type 0
 Open t =
     (n r : ℕ) → is_quiet (reply_to t.act n r t.state.phase) ≡ true
-    → (is_over t.state.phase ≡ false) × (settled (reply_to t.act n r t.state.phase) ≡ Go 0 (wait_for t.state.phase))
+    → (is_over t.state.phase ≡ false) × (settled (reply_to t.act n r t.state.phase) ≡ Ok (Go 0 (wait_for t.state.phase)))
 
-never : (x : Trailer) (a b n r : ℕ) (p : Phase) → is_quiet (reply_to (ending_in x a b) n r p) ≡ false
+never : (x : Option Trailer) (last : Trailer) (n r : ℕ) (p : Phase)
+    → is_quiet (reply_to (Ok (ending_in x last)) n r p) ≡ false
 unfolding ending_in reply_to is_quiet
-never Last a b n r p = refl
-never (Kept x y) a b n r p = refl
+never None last n r p = refl
+never (Some kept) last n r p = refl
 
 after_open : (n : ℕ) → is_over (phase_after n) ≡ false
 unfolding phase_after is_over
@@ -45,5 +48,5 @@ quiet_open s b =
     (λ h n r e. (refl, refl))
     (λ h n r e. (refl, refl))
     (λ a h i n r e. (refl, refl))
-    (λ a h n r e. absurd (false≢true (sym (never s.trailer a b n r Over) ∙ e)))
+    (λ a h n r e. absurd (false≢true (sym (never s.trailer (trailer_of a b) n r Over) ∙ e)))
     (λ n h m r e. (after_open n, refl))

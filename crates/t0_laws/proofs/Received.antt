@@ -12,8 +12,7 @@ use Rattle.slices.specs.Writing.{put, laid}
 use Rattle.slices.proofs.Choice.{pick_no, picked, either}
 use Rattle.slices.proofs.Writing.{put_length, put_take, put_there, laid_fits}
 use Rattle.apdu.specs.Answers.{answer_most}
-use Rattle.t0_state.specs.declared.Trailer.{Trailer}
-use Rattle.t0_state.specs.declared.Trailer.TheVariants.{Last, Kept}
+use Rattle.apdu.specs.declared.Trailer.{Trailer}
 use Rattle.t0_state.specs.declared.Phase.{Phase}
 use Rattle.t0_state.specs.declared.Phase.TheVariants.{Data, Over}
 use Rattle.t0_state.specs.declared.State.{State}
@@ -28,6 +27,8 @@ use Rattle.t0_laws.specs.Moves.{kept, size_said, answered}
 use Rattle.t0_laws.proofs.Cases.{every_turn}
 use Rattle.t0_laws.proofs.Cutting.{stopped, going}
 use Rattle.t0_laws.proofs.Ends.{closed_turn, sound_on}
+use Rattle.std.specs.Prelude.{Option, None, Some, Ok}
+use Rattle.apdu.specs.Answers.{trailer_of}
 
 -- room for the longest answer
 abbrev pub answer_room : ℕ
@@ -61,13 +62,13 @@ module _ (s : State) (w : List ℕ) (room : answer_room ≤ length w) (few : s.r
   unchanged : take s.received (laid [] s.received w) ≡ take s.received w ++ []
   unchanged = ap (take s.received) (laid_nothing s.received w) ∙ sym (append-nil (take s.received w))
 
-  ending : (x : Trailer) (a b n : ℕ) (p : Phase)
-      → take (size_said (settled (reply_to (ending_in x a b) n s.received p)) s.received)
-      (laid (kept_by (ending_in x a b)) s.received w)
-      ≡ take s.received w ++ kept_by (ending_in x a b)
+  ending : (x : Option Trailer) (last : Trailer) (n : ℕ) (p : Phase)
+      → take (size_said (settled (reply_to (Ok (ending_in x last)) n s.received p)) s.received)
+      (laid (kept_by (Ok (ending_in x last))) s.received w)
+      ≡ take s.received w ++ kept_by (Ok (ending_in x last))
   unfolding ending_in kept_by reply_to settled size_said
-  ending Last a b n p = take_laid (a ∷ b ∷ []) s.received w (omega arith)
-  ending (Kept x y) a b n p = take_laid (x ∷ y ∷ []) s.received w (omega arith)
+  ending None last n p = take_laid (last.sw1 ∷ last.sw2 ∷ []) s.received w (omega arith)
+  ending (Some kept') last n p = take_laid (kept'.sw1 ∷ kept'.sw2 ∷ []) s.received w (omega arith)
 
   turn_adds : (b : ℕ) → Adds (after_byte s b)
   unfolding kept_by reply_to settled size_said on_length on_data is_over
@@ -82,7 +83,7 @@ module _ (s : State) (w : List ℕ) (room : answer_room ≤ length w) (few : s.r
       (λ h n. (unchanged, λ e. refl))
       (λ h n. (unchanged, λ e. refl))
       (λ a h i n. (unchanged, λ e. refl))
-      (λ a h n. (ending s.trailer a b n Over, λ e. absurd (false≢true (sym e))))
+      (λ a h n. (ending s.trailer (trailer_of a b) n Over, λ e. absurd (false≢true (sym e))))
       (λ n h m. (take_laid (b ∷ []) s.received w (omega arith), λ e. refl))
 
 -- an exchange that is over keeps nothing more

@@ -15,15 +15,15 @@ use Rattle.t0.proofs.Laying.{laid_nothing}
 use Rattle.apdu.specs.Answers.{is_status}
 use Rattle.apdu.specs.Commands.{length_byte, case_of, asked}
 use Rattle.apdu.specs.declared.Case.{Case}
-use Rattle.apdu.specs.declared.Case.TheVariants.{One, Two, Three, Four, NoCase}
+use Rattle.apdu.specs.declared.Case.TheVariants.{One, Two, Three, Four}
 use Rattle.t0_state.specs.Bytes.{ins_of, meaning_of, comes_in, may_get, may_repeat, goes_on}
 use Rattle.t0_state.specs.declared.Sent.{Sent}
-use Rattle.t0_state.specs.declared.Sent.TheVariants.{Case1, Case2, Case3, Case4}
+use Rattle.t0_state.specs.declared.Sent.TheVariants.{Own}
 use Rattle.t0_state.specs.declared.Phase.{Phase}
 use Rattle.t0_state.specs.declared.Phase.TheVariants.{Procedure, Length61, Length6C, Status, Data, Over}
 use Rattle.t0_state.specs.declared.State.{State}
 use Rattle.t0_state.specs.declared.Act.{Act}
-use Rattle.t0_state.specs.declared.Act.TheVariants.{Nothing, Header, Send, Keep, Answer, Refuse}
+use Rattle.t0_state.specs.declared.Act.TheVariants.{Nothing, Header, Send, Keep, Answer}
 use Rattle.t0_state.specs.declared.Turn.{Turn}
 use Rattle.t0_state.specs.declared.bytes.Meaning.{Meaning}
 use Rattle.t0_state.specs.declared.bytes.Meaning.TheVariants.{All, Next, Wait, Get, Repeat, Strange, Status as Begins}
@@ -32,7 +32,8 @@ use Rattle.t0_turns.specs.Turns.{data_most, on_length, on_repeat, on_status, on_
 use Rattle.t0_begin.specs.Begin.{Begun, header_of, nowhere, begun, begun_as, begun_in, begun_by}
 use Rattle.t0_begin.specs.declared.Reply.{Reply}
 use Rattle.t0_begin.specs.declared.Reply.TheVariants.{Go}
-use Rattle.t0.specs.Steps.{sent_by, kept_by, wait_for, reply_to, done, step_of}
+use Rattle.t0_begin.specs.Begin.{wait_for}
+use Rattle.t0.specs.Steps.{sent_by, kept_by, reply_to, done, step_of}
 use Rattle.t0_pieces.specs.Pieces.{is_over, is_closed}
 use Rattle.t0_laws.specs.Outcomes.{Outcome, logged, settled, opened, stepped_to, playing, turned, Bytes}
 use Rattle.t0_laws.specs.Counting.{procedure_due, procedures, times, once, one_more}
@@ -44,6 +45,9 @@ use Rattle.t0_laws.proofs.Ends.{sound_on}
 use Rattle.t0_laws.proofs.Beginning.{started}
 use Rattle.t0_laws.proofs.Collide.{Accepted, ins_byte, accepted}
 use Rattle.t0_laws.proofs.Counting.{is_wait, sixty, tells, times_more, due_adds, rest_adds, turn_is, none_plus, uncounted}
+use Rattle.apdu.specs.Answers.{trailer_of}
+use Rattle.std.specs.Prelude.{Err, Result, Option, None, Some, Ok}
+use Rattle.t0_state.specs.declared.Refusal.{Refusal}
 
 -- the same turn with one more
 abbrev later : Turn → Turn
@@ -77,7 +81,7 @@ module _ (s : State) (b : ℕ) where
   phases Procedure h = means (meaning_of (ins_of s) b) (h refl)
   phases Length61 h = refl
   phases Length6C h = refl
-  phases (Status a) h = both (goes_on s.header a b) _ _ _ _ refl refl
+  phases (Status a) h = both (goes_on s.header (trailer_of a b)) _ _ _ _ refl refl
   phases (Data n) h = refl
   phases Over h = refl
 
@@ -87,14 +91,14 @@ module _ (s : State) (b : ℕ) where
   turns h = both (ltb data_most s.received) _ _ _ _ refl (phases s.phase h)
 
 -- what is sent does not look at the count
-sends : (a : Act) (s : State) → sent_by a (waited s) ≡ sent_by a s
+sends : (a : Result Act Refusal) (s : State) → sent_by a (waited s) ≡ sent_by a s
 unfolding sent_by header_of
-sends Nothing s = refl
-sends (Header p3) s = refl
-sends (Send from n) s = refl
-sends (Keep b) s = refl
-sends (Answer a b) s = refl
-sends (Refuse why) s = refl
+sends (Ok Nothing) s = refl
+sends (Ok (Header p3)) s = refl
+sends (Ok (Send from n)) s = refl
+sends (Ok (Keep b)) s = refl
+sends (Ok (Answer t)) s = refl
+sends (Err why) s = refl
 
 dones : (t : Turn) (received : ℕ) (out answer : List ℕ)
     → done (later t).state t.act received out answer
@@ -116,7 +120,7 @@ dones t received out answer =
 -- what is said where an exchange goes on
 abbrev Says : Turn → Type 0
 Says t =
-    (n r : ℕ) → is_over t.state.phase ≡ false → settled (reply_to t.act n r t.state.phase) ≡ Go 0 (wait_for t.state.phase)
+    (n r : ℕ) → is_over t.state.phase ≡ false → settled (reply_to t.act n r t.state.phase) ≡ Ok (Go 0 (wait_for t.state.phase))
 
 turn_says : (s : State) (b : ℕ) → s.received ≤ data_most → Says (after_byte s b)
 unfolding reply_to settled is_over on_length on_data
@@ -139,7 +143,7 @@ turn_says s b few =
 record Fine (o : Outcome) : Type 0 where
   sound : Sound o.state
   fine : Accepted o.state.command
-  says : is_over o.state.phase ≡ false → o.said ≡ Go 0 (wait_for o.state.phase)
+  says : is_over o.state.phase ≡ false → o.said ≡ Ok (Go 0 (wait_for o.state.phase))
 
 abbrev next : Outcome → ℕ → Outcome
 next o b = stepped_to o (step_of o.state b o.out o.answer)
@@ -222,7 +226,7 @@ here : (o : Outcome) → Fine o → o.state.phase ≡ Procedure → o.state.coun
 unfolding step_of done by_phase on_procedure by_meaning on_wait ins_of reply_to settled logged sent_by kept_by is_over
 here o f e few =
     let s = o.state in
-    let turn : after_byte s 0x60 ≡ record { state = waited s; act = Nothing } =
+    let turn : after_byte s 0x60 ≡ record { state = waited s; act = Ok Nothing } =
     turn_is s 0x60 (few_in o f) Procedure e
     ∙ (ap (λ (m : Meaning). by_meaning m s 0x60)
     (sixty (ins_of s) (ins_byte s.header.sent s.command f.fine.0) (ins_accepted s f.fine.1))
@@ -233,11 +237,11 @@ here o f e few =
       state = waited s;
       taken = o.taken + 1;
       sent = pick true o.sent (o.sent ++ (take 0 x ∷ []));
-      said = Go 0 (wait_for s.phase);
+      said = Ok (Go 0 (wait_for s.phase));
       out = x;
       answer = y;
     }) (laid_nothing 0 o.out) (laid_nothing s.received o.answer)
-    ∙ ap₂ (λ (x : List (List ℕ)) (y : Reply). record {
+    ∙ ap₂ (λ (x : List (List ℕ)) (y : Result Reply Refusal). record {
       state = waited s;
       taken = o.taken + 1;
       sent = x;
@@ -271,19 +275,19 @@ put_in (x ∷ xs) bs o first bytes f e few =
 -- at the beginning
 module _ (c out : List ℕ) where
   abbrev Opens : Begun → Type 0
-  Opens x = is_over x.state.phase ≡ false → settled x.reply ≡ Go 0 (wait_for x.state.phase)
+  Opens x = is_over x.state.phase ≡ false → settled x.reply ≡ Ok (Go 0 (wait_for x.state.phase))
 
   as_opens : (sent : Sent) (size : ℕ) → Opens (begun_as sent size c out)
   unfolding begun_as begun nowhere settled wait_for is_over
   as_opens sent size = picked Opens (is_status (get_or c 1 0)) _ _ (λ e f. absurd (false≢true (sym f))) (λ e f. refl)
 
-  in_opens : (x : Case) → Opens (begun_in x c out)
+  in_opens : (x : Option Case) → Opens (begun_in x c out)
   unfolding begun_in nowhere is_over
-  in_opens NoCase = λ e. absurd (false≢true (sym e))
-  in_opens One = as_opens Case1 0
-  in_opens Two = as_opens Case2 (asked (length_byte c))
-  in_opens Three = as_opens Case3 (length_byte c)
-  in_opens Four = as_opens Case4 (length_byte c)
+  in_opens None = λ e. absurd (false≢true (sym e))
+  in_opens (Some One) = as_opens (Own One) 0
+  in_opens (Some Two) = as_opens (Own Two) (asked (length_byte c))
+  in_opens (Some Three) = as_opens (Own Three) (length_byte c)
+  in_opens (Some Four) = as_opens (Own Four) (length_byte c)
 
   first_says : Opens (begun_by c out)
   unfolding begun_by

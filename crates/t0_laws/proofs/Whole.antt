@@ -13,10 +13,10 @@ use Rattle.slices.proofs.Choice.{pick_yes, pick_no, picked}
 use Rattle.slices.proofs.Writing.{put_start, laid_fits, zeros_length}
 use Rattle.apdu.specs.Commands.{length_byte, case_of, data_of, asked}
 use Rattle.apdu.specs.declared.Case.{Case}
-use Rattle.apdu.specs.declared.Case.TheVariants.{One, Two, Three, Four, NoCase}
+use Rattle.apdu.specs.declared.Case.TheVariants.{One, Two, Three, Four}
 use Rattle.t0_state.specs.Bytes.{comes_in}
 use Rattle.t0_state.specs.declared.Sent.{Sent}
-use Rattle.t0_state.specs.declared.Sent.TheVariants.{Case1, Case2, Case3, Case4}
+use Rattle.t0_state.specs.declared.Sent.TheVariants.{Own}
 use Rattle.t0_state.specs.declared.State.{State}
 use Rattle.t0_state.specs.declared.Turn.{Turn}
 use Rattle.t0_begin.specs.Begin.{data_room, command_of, nowhere, begun, begun_in, begun_by}
@@ -26,10 +26,11 @@ use Rattle.t0_laws.specs.Moves.{data_sent_by, data_out, unsent}
 use Rattle.t0_laws.proofs.Ends.{closed_turn}
 use Rattle.t0_laws.proofs.Beginning.{byte_at, Started, as_begun, started_one, started_two, started_three, started_four}
 use Rattle.t0_laws.proofs.Given.{gives}
+use Rattle.std.specs.Prelude.{Option, None, Some}
 
 -- the case of a command, with what led to it
-module _ (c : List ℕ) (P : Case → Type 0) (none : P NoCase) (one : length c ≡ 4 → P One) (two : length c ≡ 5 → P Two)
-    (three : length c ≡ 5 + length_byte c → P Three) (four : length c ≡ 6 + length_byte c → P Four) where
+module _ (c : List ℕ) (P : Option Case → Type 0) (none : P None) (one : length c ≡ 4 → P (Some One)) (two : length c ≡ 5 → P (Some Two))
+    (three : length c ≡ 5 + length_byte c → P (Some Three)) (four : length c ≡ 6 + length_byte c → P (Some Four)) where
   every_case : P (case_of c)
   unfolding case_of
   every_case =
@@ -84,11 +85,11 @@ module _ (c out bs : List ℕ) (bytes : Bytes c) (card : Bytes bs) where
       → Prefix (data_out (begun sent size c) bs) (data_of c)
   given sent size ok left = let g = gives bs (begun sent size c) card ok.0 in (g.0, g.1 ∙ left)
 
-  no_unsent : unsent (begun Case1 0 c) ≡ []
+  no_unsent : unsent (begun (Own One) 0 c) ≡ []
   unfolding unsent begun comes_in
   no_unsent = pick_no _ _ _ refl
 
-  from_card_lem : unsent (begun Case2 (asked (length_byte c)) c) ≡ []
+  from_card_lem : unsent (begun (Own Two) (asked (length_byte c)) c) ≡ []
   unfolding unsent begun comes_in
   from_card_lem = pick_yes _ _ _ refl
 
@@ -99,11 +100,11 @@ module _ (c out bs : List ℕ) (bytes : Bytes c) (card : Bytes bs) where
   pub data_sent : Sends (begun_by c out).state
   unfolding begun_by begun_in comes_in
   data_sent =
-      every_case c (λ (x : Case). Sends (begun_in x c out).state) nothing
-      (λ h. as_begun c out Sends Case1 0 nothing (given Case1 0 (started_one c bytes) (no_unsent ∙ sym (no_data c (omega arith)))))
-      (λ h. as_begun c out Sends Case2 (asked (length_byte c)) nothing
-      (given Case2 (asked (length_byte c)) (started_two c bytes) (from_card_lem ∙ sym (no_data c (omega arith)))))
-      (λ h. as_begun c out Sends Case3 (length_byte c) nothing
-      (given Case3 (length_byte c) (started_three c bytes) (all_left c Case3 refl bytes (omega arith))))
-      (λ h. as_begun c out Sends Case4 (length_byte c) nothing
-      (given Case4 (length_byte c) (started_four c bytes) (all_left c Case4 refl bytes (omega arith))))
+      every_case c (λ (x : Option Case). Sends (begun_in x c out).state) nothing
+      (λ h. as_begun c out Sends (Own One) 0 nothing (given (Own One) 0 (started_one c bytes) (no_unsent ∙ sym (no_data c (omega arith)))))
+      (λ h. as_begun c out Sends (Own Two) (asked (length_byte c)) nothing
+      (given (Own Two) (asked (length_byte c)) (started_two c bytes) (from_card_lem ∙ sym (no_data c (omega arith)))))
+      (λ h. as_begun c out Sends (Own Three) (length_byte c) nothing
+      (given (Own Three) (length_byte c) (started_three c bytes) (all_left c (Own Three) refl bytes (omega arith))))
+      (λ h. as_begun c out Sends (Own Four) (length_byte c) nothing
+      (given (Own Four) (length_byte c) (started_four c bytes) (all_left c (Own Four) refl bytes (omega arith))))

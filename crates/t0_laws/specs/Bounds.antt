@@ -4,7 +4,7 @@ use Rattle.std.specs.Prelude.{◌≡◌, Bool, true, false, ℕ, ◌+◌, ◌*�
 use Rattle.slices.specs.Choice.{pick}
 use Rattle.t0_state.specs.Bytes.{may_repeat}
 use Rattle.t0_state.specs.declared.Sent.{Sent}
-use Rattle.t0_state.specs.declared.Sent.TheVariants.{Case1, Case2, Case3, Case4, GetResponse}
+use Rattle.t0_state.specs.declared.Sent.TheVariants.{Own, GetResponse}
 use Rattle.t0_state.specs.declared.Header.{Header}
 use Rattle.t0_state.specs.declared.Counts.{Counts}
 use Rattle.t0_state.specs.declared.Phase.{Phase}
@@ -12,6 +12,7 @@ use Rattle.t0_state.specs.declared.Phase.TheVariants.{Procedure, Length61, Lengt
 use Rattle.t0_state.specs.declared.State.{State}
 use Rattle.t0_procedure.specs.Procedure.{waits_most, gets_most}
 use Rattle.t0_turns.specs.Turns.{data_most}
+use Rattle.apdu.specs.declared.Case.TheVariants.{One, Two, Three, Four}
 
 -- the most bytes that the card sends in one exchange
 abbrev pub bytes_most : ℕ
@@ -34,19 +35,19 @@ moved h = h.size - h.left
 
 -- the most bytes that go with a header
 unfoldable pub size_most : Sent → ℕ
-size_most Case1 = 0
-size_most Case2 = 256
-size_most Case3 = 255
-size_most Case4 = 255
+size_most (Own One) = 0
+size_most (Own Two) = 256
+size_most (Own Three) = 255
+size_most (Own Four) = 255
 size_most GetResponse = 256
 
 -- what is still to come under a header of which so many bytes have been moved: a procedure byte before each byte; after case 4
 -- a warning and its GET RESPONSE
 unfoldable pub header_cost : Sent → ℕ → ℕ
-header_cost Case1 m = 0
-header_cost Case2 m = 2 * (256 - m)
-header_cost Case3 m = 255 - m
-header_cost Case4 m = 514 + (255 - m)
+header_cost (Own One) m = 0
+header_cost (Own Two) m = 2 * (256 - m)
+header_cost (Own Three) m = 255 - m
+header_cost (Own Four) m = 514 + (255 - m)
 header_cost GetResponse m = 2 * (256 - m)
 
 unfoldable pub phase_cost : Phase → ℕ
@@ -65,10 +66,10 @@ bytes_left s =
 
 -- the same for data alone
 unfoldable pub header_data : Sent → ℕ → ℕ
-header_data Case1 m = 0
-header_data Case2 m = 256 - m
-header_data Case3 m = 0
-header_data Case4 m = 256
+header_data (Own One) m = 0
+header_data (Own Two) m = 256 - m
+header_data (Own Three) m = 0
+header_data (Own Four) m = 256
 header_data GetResponse m = 256 - m
 
 unfoldable pub phase_data : Phase → ℕ

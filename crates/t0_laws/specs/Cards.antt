@@ -1,7 +1,7 @@
 -- What a right card says to one command, step by step: procedure bytes in any of the ways that 000 allows, '60' anywhere, '61' and '6C'
 -- where they have their place, and at the end the status. 000, Tables I-20 and I-21, I-5.3.1.
 -- Assumes nothing.
-use Rattle.std.specs.Prelude.{◌≡◌, Bool, true, false, List, [], ◌∷◌, ◌++◌, ℕ, ◌+◌, ◌-◌, ◌<◌, ◌≤◌, eqb, length}
+use Rattle.std.specs.Prelude.{Option, None, Some, ◌≡◌, Bool, true, false, List, [], ◌∷◌, ◌++◌, ℕ, ◌+◌, ◌-◌, ◌<◌, ◌≤◌, eqb, length}
 use Rattle.apdu.specs.Commands.{asked}
 use Rattle.apdu.specs.Answers.{is_status}
 use Rattle.t0_state.specs.Bytes.{ins_for, complement, comes_in, may_get, may_repeat, goes_on}
@@ -10,9 +10,9 @@ use Rattle.t0_state.specs.declared.Sent.TheVariants.{GetResponse}
 use Rattle.t0_state.specs.declared.Command.{Command}
 use Rattle.t0_state.specs.declared.Header.{Header}
 use Rattle.t0_state.specs.declared.Counts.{Counts}
-use Rattle.t0_state.specs.declared.Trailer.{Trailer}
-use Rattle.t0_state.specs.declared.Trailer.TheVariants.{Last, Kept}
+use Rattle.apdu.specs.declared.Trailer.{Trailer}
 use Rattle.t0_procedure.specs.Procedure.{waits_most, gets_most}
+use Rattle.apdu.specs.Answers.{trailer_of}
 
 -- '60'; INS and all bytes that are left, or its complement and the next one; INS for all of the command's data that is left, or its
 -- complement for the next byte; '61' and '6C' with a length; a warning before GET RESPONSE; the status
@@ -52,11 +52,11 @@ told (warns a b sc) = told sc
 told (ends a b) = []
 
 -- the status that the answer ends with: the warning before GET RESPONSE, or else the last one
-abbrev pub ending : Trailer → ℕ → ℕ → List ℕ
-ending Last a b = a ∷ b ∷ []
-ending (Kept x y) a b = x ∷ y ∷ []
+abbrev pub ending : Option Trailer → ℕ → ℕ → List ℕ
+ending None a b = a ∷ b ∷ []
+ending (Some t) a b = t.sw1 ∷ t.sw2 ∷ []
 
-unfoldable pub status_of : Script → Trailer → List ℕ
+unfoldable pub status_of : Script → Option Trailer → List ℕ
 status_of (waits sc) t = status_of sc t
 status_of (gives d sc) t = status_of sc t
 status_of (gives_one b sc) t = status_of sc t
@@ -64,7 +64,7 @@ status_of (takes sc) t = status_of sc t
 status_of (takes_one sc) t = status_of sc t
 status_of (fetches n sc) t = status_of sc t
 status_of (corrects n sc) t = status_of sc t
-status_of (warns a b sc) t = status_of sc (Kept a b)
+status_of (warns a b sc) t = status_of sc (Some (trailer_of a b))
 status_of (ends a b) t = ending t a b
 
 abbrev pub less : ℕ → Header → Header
@@ -94,5 +94,5 @@ Right (fetches n sc) h k =
     (k.gets < gets_most) × (may_get h ≡ true) × Right sc (header GetResponse (asked n)) (counts k.waits (k.gets + 1) k.repeated)
 Right (corrects n sc) h k =
     (k.repeated ≡ false) × (may_repeat h ≡ true) × Right sc (header h.sent (asked n)) (counts k.waits k.gets true)
-Right (warns a b sc) h k = First a × (goes_on h a b ≡ true) × Right sc (header GetResponse 256) k
-Right (ends a b) h k = First a × (goes_on h a b ≡ false)
+Right (warns a b sc) h k = First a × (goes_on h (trailer_of a b) ≡ true) × Right sc (header GetResponse 256) k
+Right (ends a b) h k = First a × (goes_on h (trailer_of a b) ≡ false)

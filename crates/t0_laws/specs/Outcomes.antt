@@ -1,35 +1,36 @@
 -- The outcome of a capture: byte by byte, in pieces, and by calls of `takes`.
 -- Assumes nothing.
-use Rattle.std.specs.Prelude.{List, [], ◌∷◌, ◌++◌, ℕ, ◌+◌, ◌<◌, eqb, take}
+use Rattle.std.specs.Prelude.{Result, Ok, Err, List, [], ◌∷◌, ◌++◌, ℕ, ◌+◌, ◌<◌, eqb, take}
 use Rattle.slices.specs.Choice.{pick}
 use Rattle.t0_state.specs.declared.State.{State}
 use Rattle.t0_begin.specs.declared.Reply.{Reply}
-use Rattle.t0_begin.specs.declared.Reply.TheVariants.{Go, Answer, Refused}
+use Rattle.t0_begin.specs.declared.Reply.TheVariants.{Go, Answer}
 use Rattle.t0_begin.specs.Begin.{begun_by}
 use Rattle.t0_turns.specs.Turns.{after_byte}
 use Rattle.t0.specs.Steps.{Stepped, step_of}
 use Rattle.t0_pieces.specs.Pieces.{is_closed, Took}
+use Rattle.t0_state.specs.declared.Refusal.{Refusal}
 
 -- where the exchange stands, how many bytes it took, what it has sent, each sending by itself, and what it says last
 pub record Outcome : Type 0 where
   pub state : State
   pub taken : ℕ
   pub sent : List (List ℕ)
-  pub said : Reply
+  pub said : Result Reply Refusal
   pub out : List ℕ
   pub answer : List ℕ
 
 -- what has been sent, with what a reply adds
-unfoldable pub logged : Reply → List ℕ → List (List ℕ) → List (List ℕ)
-logged (Go n w) out sent = pick (eqb n 0) sent (sent ++ (take n out ∷ []))
-logged (Answer n) out sent = sent
-logged (Refused why) out sent = sent
+unfoldable pub logged : Result Reply Refusal → List ℕ → List (List ℕ) → List (List ℕ)
+logged (Ok (Go n w)) out sent = pick (eqb n 0) sent (sent ++ (take n out ∷ []))
+logged (Ok (Answer n)) out sent = sent
+logged (Err why) out sent = sent
 
 -- a reply once its bytes are sent
-unfoldable pub settled : Reply → Reply
-settled (Go n w) = Go 0 w
-settled (Answer n) = Answer n
-settled (Refused why) = Refused why
+unfoldable pub settled : Result Reply Refusal → Result Reply Refusal
+settled (Ok (Go n w)) = Ok (Go 0 w)
+settled (Ok (Answer n)) = Ok (Answer n)
+settled (Err why) = Err why
 
 -- an exchange begins with a command, over two lent buffers
 unfoldable pub opened : List ℕ → List ℕ → List ℕ → Outcome

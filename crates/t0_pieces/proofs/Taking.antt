@@ -11,6 +11,8 @@ use Rattle.slices.proofs.Choice.{pick_yes, pick_no}
 use Rattle.t0.specs.Steps.{Stepped, step_of}
 use Rattle.t0_pieces.specs.Pieces.{is_closed, waiting_in, is_quiet, here, ends, takes_from}
 use Rattle.t0_state.specs.declared.State.{State}
+use Rattle.std.specs.Prelude.{Result}
+use Rattle.t0_state.specs.declared.Refusal.{Refusal}
 use Rattle.t0_begin.specs.declared.Reply.{Reply}
 
 module _ (s : State) (piece out answer : List ℕ) (i : ℕ) where
@@ -42,6 +44,6 @@ module _ (s : State) (piece out answer : List ℕ) (i : ℕ) where
           ∙ ap₂ (λ (x : Stepped) (n : ℕ). takes_from (i + 1) x.state (drop n piece) x.out x.answer) (sym e) (sym (add-one i))))
 
 -- an answer that says where the exchange stands
-pub stayed : {s s' : State} {n n' : ℕ} {y : Reply} (out answer : List ℕ) → s' ≡ s → n' ≡ n → y ≡ waiting_in s
+pub stayed : {s s' : State} {n n' : ℕ} {y : Result Reply Refusal} (out answer : List ℕ) → s' ≡ s → n' ≡ n → y ≡ waiting_in s
     → record { state = s'; taken = n'; reply = y; out = out; answer = answer } ≡ here n s out answer
 stayed out answer e f g = cc

@@ -1,14 +1,16 @@
 -- A piece of a capture, byte by byte.
 -- Assumes nothing.
-use Rattle.std.specs.Prelude.{Bool, true, false, List, [], ◌∷◌, ℕ, ◌+◌, eqb}
+use Rattle.std.specs.Prelude.{Result, Ok, Err, Bool, true, false, List, [], ◌∷◌, ℕ, ◌+◌, eqb}
 use Rattle.slices.specs.Choice.{pick}
 use Rattle.t0_state.specs.declared.State.{State}
+use Rattle.t0_state.specs.declared.Refusal.{Refusal}
 use Rattle.t0_state.specs.declared.Refusal.TheVariants.{Closed}
 use Rattle.t0_state.specs.declared.Phase.{Phase}
 use Rattle.t0_state.specs.declared.Phase.TheVariants.{Procedure, Length61, Length6C, Status, Data, Over}
 use Rattle.t0_begin.specs.declared.Reply.{Reply}
-use Rattle.t0_begin.specs.declared.Reply.TheVariants.{Go, Answer, Refused}
-use Rattle.t0.specs.Steps.{wait_for, Stepped, step_of}
+use Rattle.t0_begin.specs.declared.Reply.TheVariants.{Go, Answer}
+use Rattle.t0_begin.specs.Begin.{wait_for}
+use Rattle.t0.specs.Steps.{Stepped, step_of}
 use Rattle.t0_pieces.specs.declared.Taken.{Taken}
 
 unfoldable pub is_over : Phase → Bool
@@ -23,20 +25,20 @@ unfoldable pub is_closed : State → Bool
 is_closed s = is_over s.phase
 
 -- what is said where no byte is there
-unfoldable pub waiting_in : State → Reply
-waiting_in s = pick (is_closed s) (Refused Closed) (Go 0 (wait_for s.phase))
+unfoldable pub waiting_in : State → Result Reply Refusal
+waiting_in s = pick (is_closed s) (Err Closed) (Ok (Go 0 (wait_for s.phase)))
 
 -- nothing to send, and nothing has ended
-unfoldable pub is_quiet : Reply → Bool
-is_quiet (Go n w) = eqb n 0
-is_quiet (Answer n) = false
-is_quiet (Refused why) = false
+unfoldable pub is_quiet : Result Reply Refusal → Bool
+is_quiet (Ok (Go n w)) = eqb n 0
+is_quiet (Ok (Answer n)) = false
+is_quiet (Err why) = false
 
 -- the exchange, how many bytes it took, what it says, and the two buffers
 pub record Took : Type 0 where
   pub state : State
   pub taken : ℕ
-  pub reply : Reply
+  pub reply : Result Reply Refusal
   pub out : List ℕ
   pub answer : List ℕ
 

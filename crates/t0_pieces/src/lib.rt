@@ -2,11 +2,11 @@
 #![tactic(auto)]
 
 ghost use Rattle.std.specs.Prelude.{◌≡◌};
-ghost use Rattle.t0_pieces.specs.Pieces.{is_over, is_closed, waiting_in, is_quiet, took, takes_from};
+ghost use Rattle.t0_pieces.specs.Pieces.{is_closed, waiting_in, is_quiet, took, takes_from};
 
 use apdu::{ANSWER_MOST, DATA_MOST};
-use t0::{step, wait_for};
-use t0_begin::Reply;
+use t0::step;
+use t0_begin::{Reply, Wait};
 use t0_state::{Phase, Refusal, State};
 
 // The exchange afterwards, how many bytes of the piece it took, and what it then says.
@@ -14,7 +14,7 @@ use t0_state::{Phase, Refusal, State};
 pub struct Taken {
     pub state: State,
     pub taken: usize,
-    pub reply: Reply,
+    pub reply: Result<Reply, Refusal>,
 }
 
 // Takes bytes up to the first that brings something to send or ends the exchange. What is left of the piece is handed in again.
@@ -27,24 +27,22 @@ pub fn takes(
     ensures { took result out.new answer.new ≡ takes_from 0 s piece.now out.old answer.old }
 {
     let mut state = s;
-    let mut i = 0;
-    while i < piece.len() {
-        if is_closed(state) {
+    for (i, b) in piece.iter().enumerate() {
+        if is_closed(&state) {
             return stays(state, i);
         }
-        let t = step(state, piece[i], out, answer);
+        let t = step(state, *b, out, answer);
         state = t.state;
         let reply = t.reply;
-        i += 1;
         if !is_quiet(reply) {
             return Taken {
                 state,
-                taken: i,
+                taken: i + 1,
                 reply,
             };
         }
     }
-    stays(state, i)
+    stays(state, piece.len())
 }
 
 fn stays(s: State, i: usize) -> Taken
@@ -53,52 +51,36 @@ fn stays(s: State, i: usize) -> Taken
     Taken {
         state: s,
         taken: i,
-        reply: waiting(s),
+        reply: waiting(&s),
     }
 }
 
 // What the exchange says where no byte is there.
-pub fn waiting(s: State) -> Reply
-    ensures { result ≡ waiting_in s }
+#[tactic(auto, unfolding(slices::specs::Choice::pick, crate::specs::Pieces::waiting_in))]
+pub fn waiting(s: &State) -> Result<Reply, Refusal>
+    ensures { result ≡ waiting_in s.now }
 {
     if is_closed(s) {
-        return Reply::Refused(Refusal::Closed);
+        return Err(Refusal::Closed);
     }
-    let phase = s.phase;
-    Reply::Go {
+    Ok(Reply::Go {
         send: 0,
-        wait: wait_for(phase),
-    }
+        wait: Wait::from(s.phase),
+    })
 }
 
 // Whether the exchange is over.
-pub fn is_closed(s: State) -> bool
-    ensures { result ≡ is_closed s }
+#[tactic(auto, unfolding(crate::specs::Pieces::is_over, crate::specs::Pieces::is_closed))]
+pub fn is_closed(s: &State) -> bool
+    ensures { result ≡ is_closed s.now }
 {
-    let phase = s.phase;
-    is_over(phase)
-}
-
-fn is_over(phase: Phase) -> bool
-    ensures { result ≡ is_over phase }
-{
-    match phase {
-        Phase::Over => true,
-        Phase::Procedure => false,
-        Phase::Length61 => false,
-        Phase::Length6C => false,
-        Phase::Status(_) => false,
-        Phase::Data(_) => false,
-    }
+    matches!(s.phase, Phase::Over)
 }
 
 // Whether nothing is to be sent and nothing has ended.
-fn is_quiet(reply: Reply) -> bool
+#[tactic(auto, unfolding(crate::specs::Pieces::is_quiet))]
+fn is_quiet(reply: Result<Reply, Refusal>) -> bool
     ensures { result ≡ is_quiet reply }
 {
-    match reply {
-        Reply::Go { send, wait: _ } => send == 0,
-        Reply::Answer(_) => false,
-        Reply::Refused(_) => false,
-    }
+    matches!(reply, Ok(Reply::Go { send: 0, .. }))
 }

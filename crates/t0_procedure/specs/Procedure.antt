@@ -1,6 +1,6 @@
 -- A procedure byte, or the first byte of a status. 000, Tables I-20 and I-21.
 -- Assumes nothing.
-use Rattle.std.specs.Prelude.{true, ℕ, ◌+◌, ◌-◌, eqb, leb, ltb}
+use Rattle.std.specs.Prelude.{true, Ok, Err, ℕ, ◌+◌, ◌-◌, eqb, leb, ltb}
 use Rattle.slices.specs.Choice.{pick}
 use Rattle.t0_state.specs.Bytes.{ins_of, meaning_of, comes_in, may_get, may_repeat}
 use Rattle.t0_state.specs.Changes.{at_phase, with_header, with_counts}
@@ -11,7 +11,7 @@ use Rattle.t0_state.specs.declared.bytes.Meaning.{Meaning}
 use Rattle.t0_state.specs.declared.bytes.Meaning.TheVariants.{All, Next, Wait, Get, Repeat, Status, Strange}
 use Rattle.t0_state.specs.declared.Refusal.{Refusal}
 use Rattle.t0_state.specs.declared.Refusal.TheVariants.{Byte, Place, Many60, Many61, Many6C}
-use Rattle.t0_state.specs.declared.Act.TheVariants.{Nothing, Send, Refuse}
+use Rattle.t0_state.specs.declared.Act.TheVariants.{Nothing, Send}
 use Rattle.t0_state.specs.declared.Turn.{Turn}
 
 -- how many '60' and how many '61' one command takes (02, R-4)
@@ -23,11 +23,11 @@ gets_most = 16
 
 -- a refusal ends the exchange
 abbrev pub refused : Refusal → State → Turn
-refused why s = record { state = at_phase Over s; act = Refuse why }
+refused why s = record { state = at_phase Over s; act = Err why }
 
 -- something else is waited for
 abbrev pub onward : Phase → State → Turn
-onward p s = record { state = at_phase p s; act = Nothing }
+onward p s = record { state = at_phase p s; act = Ok Nothing }
 
 -- n more of the header's bytes no longer left
 abbrev pub less_left : ℕ → State → State
@@ -39,7 +39,7 @@ unfoldable pub moving : ℕ → State → Turn
 moving n s =
     pick (eqb n 0) (refused Place s)
     (pick (comes_in s.header.sent) (onward (Data n) (less_left n s))
-    (record { state = less_left n s; act = Send (s.header.size - s.header.left) n }))
+    (record { state = less_left n s; act = Ok (Send (s.header.size - s.header.left) n) }))
 
 -- INS: all that are left
 unfoldable pub on_all : State → Turn
@@ -54,7 +54,7 @@ abbrev pub waited : State → State
 waited s = with_counts (record { waits = s.counts.waits + 1; gets = s.counts.gets; repeated = s.counts.repeated }) s
 
 unfoldable pub on_wait : State → Turn
-on_wait s = pick (ltb s.counts.waits waits_most) (record { state = waited s; act = Nothing }) (refused Many60 s)
+on_wait s = pick (ltb s.counts.waits waits_most) (record { state = waited s; act = Ok Nothing }) (refused Many60 s)
 
 -- '61': a length follows
 abbrev pub got : State → State

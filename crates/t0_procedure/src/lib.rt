@@ -4,14 +4,14 @@
 ghost use Rattle.std.specs.Prelude.{◌≡◌, ◌-◌, ◌≤◌};
 ghost use Rattle.t0_procedure.specs.Procedure.{refused, onward, moving, on_all, on_next, on_wait, on_get, on_six_c, on_procedure};
 
-use t0_state::bytes::{Meaning, comes_in, ins_of, may_get, may_repeat, meaning_of};
-use t0_state::change::{at_phase, with_counts, with_header};
-use t0_state::{Act, Header, Phase, Refusal, State, Turn};
+use t0_state::bytes::{Meaning, meaning_of};
+use t0_state::{Act, Counts, Header, Phase, Refusal, State, Turn};
 
+#[tactic(auto, unfolding(crate::specs::Procedure::by_meaning, crate::specs::Procedure::on_procedure))]
 pub fn on_procedure(s: State, b: u8) -> Turn
     ensures { result ≡ on_procedure s b }
 {
-    match meaning_of(ins_of(s), b) {
+    match meaning_of(s.ins(), b) {
         Meaning::All => move_all(s),
         Meaning::Next => move_next(s),
         Meaning::Wait => on_wait(s),
@@ -26,8 +26,8 @@ fn refuse(s: State, why: Refusal) -> Turn
     ensures { result ≡ refused why s }
 {
     Turn {
-        state: at_phase(s, Phase::Over),
-        act: Act::Refuse(why),
+        state: s.at_phase(Phase::Over),
+        act: Err(why),
     }
 }
 
@@ -35,29 +35,30 @@ fn onward_to(s: State, phase: Phase) -> Turn
     ensures { result ≡ onward phase s }
 {
     Turn {
-        state: at_phase(s, phase),
-        act: Act::Nothing,
+        state: s.at_phase(phase),
+        act: Ok(Act::Nothing),
     }
 }
 
+#[tactic(auto, unfolding(crate::specs::Procedure::on_all))]
 fn move_all(s: State) -> Turn
     ensures { result ≡ on_all s }
 {
-    let header = s.header;
-    move_bytes(s, header.left)
+    move_bytes(s, s.header.left)
 }
 
+#[tactic(auto, unfolding(slices::specs::Choice::pick, crate::specs::Procedure::on_next))]
 fn move_next(s: State) -> Turn
     ensures { result ≡ on_next s }
 {
-    let header = s.header;
-    if header.left == 0 {
+    if s.header.left == 0 {
         return move_bytes(s, 0);
     }
     move_bytes(s, 1)
 }
 
 // So many of the header's bytes are moved.
+#[tactic(auto, unfolding(slices::specs::Choice::pick, crate::specs::Procedure::moving))]
 fn move_bytes(s: State, n: usize) -> Turn
     requires { n ≤ s.header.left }
     ensures { result ≡ moving n s }
@@ -66,75 +67,71 @@ fn move_bytes(s: State, n: usize) -> Turn
         return refuse(s, Refusal::Place);
     }
     let header = s.header;
-    let sent = header.sent;
-    let size = header.size;
-    let left = header.left;
-    let moved = with_header(
-        s,
-        Header {
-            sent,
-            size,
-            left: left - n,
-        },
-    );
-    if comes_in(sent) {
+    let moved = s.with_header(Header {
+        left: header.left - n,
+        ..header
+    });
+    if header.sent.comes_in() {
         return onward_to(moved, Phase::Data(n));
     }
     Turn {
         state: moved,
-        act: Act::Send(minus(size, left), n),
+        act: Ok(Act::Send(header.size.saturating_sub(header.left), n)),
     }
 }
 
-fn minus(a: usize, b: usize) -> usize
-    ensures { result ≡ a - b }
-{
-    if b <= a { a - b } else { 0 }
-}
-
 // '60'
+#[tactic(auto, unfolding(slices::specs::Choice::pick, crate::specs::Procedure::on_wait))]
 fn on_wait(s: State) -> Turn
     ensures { result ≡ on_wait s }
 {
-    let mut counts = s.counts;
-    let waits = counts.waits;
+    let waits = s.counts.waits;
     if waits < 255 {
-        counts.waits = waits + 1;
+        let counts = Counts {
+            waits: waits + 1,
+            ..s.counts
+        };
         return Turn {
-            state: with_counts(s, counts),
-            act: Act::Nothing,
+            state: s.with_counts(counts),
+            act: Ok(Act::Nothing),
         };
     }
     refuse(s, Refusal::Many60)
 }
 
 // '61'
+#[tactic(auto, unfolding(slices::specs::Choice::pick, crate::specs::Procedure::on_get))]
 fn on_get(s: State) -> Turn
     ensures { result ≡ on_get s }
 {
-    let mut counts = s.counts;
-    let gets = counts.gets;
+    let gets = s.counts.gets;
     if 16 <= gets {
         return refuse(s, Refusal::Many61);
     }
-    if may_get(s.header) {
-        counts.gets = gets + 1;
-        return onward_to(with_counts(s, counts), Phase::Length61);
+    if s.header.may_get() {
+        let counts = Counts {
+            gets: gets + 1,
+            ..s.counts
+        };
+        return onward_to(s.with_counts(counts), Phase::Length61);
     }
     refuse(s, Refusal::Place)
 }
 
 // '6C'
+#[tactic(auto, unfolding(slices::specs::Choice::pick, crate::specs::Procedure::on_six_c))]
 fn on_six_c(s: State) -> Turn
     ensures { result ≡ on_six_c s }
 {
-    let mut counts = s.counts;
-    if counts.repeated {
+    if s.counts.repeated {
         return refuse(s, Refusal::Many6C);
     }
-    if may_repeat(s.header) {
-        counts.repeated = true;
-        return onward_to(with_counts(s, counts), Phase::Length6C);
+    if s.header.may_repeat() {
+        let counts = Counts {
+            repeated: true,
+            ..s.counts
+        };
+        return onward_to(s.with_counts(counts), Phase::Length6C);
     }
     refuse(s, Refusal::Place)
 }

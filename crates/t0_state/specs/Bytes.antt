@@ -4,8 +4,10 @@
 use Rattle.std.specs.Prelude.{Bool, true, false, ℕ, ◌-◌, eqb}
 use Rattle.slices.specs.Choice.{pick}
 use Rattle.apdu.specs.Answers.{is_status, is_warning}
+use Rattle.apdu.specs.declared.Case.TheVariants.{One, Two, Three, Four}
+use Rattle.apdu.specs.declared.Trailer.{Trailer}
 use Rattle.t0_state.specs.declared.Sent.{Sent}
-use Rattle.t0_state.specs.declared.Sent.TheVariants.{Case1, Case2, Case3, Case4, GetResponse}
+use Rattle.t0_state.specs.declared.Sent.TheVariants.{Own, GetResponse}
 use Rattle.t0_state.specs.declared.Header.{Header}
 use Rattle.t0_state.specs.declared.Command.{Command}
 use Rattle.t0_state.specs.declared.State.{State}
@@ -17,10 +19,7 @@ abbrev pub get_response : ℕ
 get_response = 0xC0
 
 unfoldable pub ins_for : Sent → Command → ℕ
-ins_for Case1 c = c.ins
-ins_for Case2 c = c.ins
-ins_for Case3 c = c.ins
-ins_for Case4 c = c.ins
+ins_for (Own case) c = c.ins
 ins_for GetResponse c = get_response
 
 -- INS of the header that the card is answering
@@ -42,18 +41,18 @@ meaning_of ins b =
 
 -- case 2 and GET RESPONSE bring bytes from the card
 unfoldable pub comes_in : Sent → Bool
-comes_in Case1 = false
-comes_in Case2 = true
-comes_in Case3 = false
-comes_in Case4 = false
+comes_in (Own One) = false
+comes_in (Own Two) = true
+comes_in (Own Three) = false
+comes_in (Own Four) = false
 comes_in GetResponse = true
 
 -- '61' tells of data to fetch: for case 2 at any time, for case 4 once all its data went out (000, I-5.3.1.2)
 unfoldable pub may_get_after : Sent → ℕ → Bool
-may_get_after Case1 left = false
-may_get_after Case2 left = true
-may_get_after Case3 left = false
-may_get_after Case4 left = eqb left 0
+may_get_after (Own One) left = false
+may_get_after (Own Two) left = true
+may_get_after (Own Three) left = false
+may_get_after (Own Four) left = eqb left 0
 may_get_after GetResponse left = true
 
 unfoldable pub may_get : Header → Bool
@@ -64,12 +63,12 @@ unfoldable pub may_repeat : Header → Bool
 may_repeat h = pick (comes_in h.sent) (eqb h.left h.size) false
 
 -- a warning does not end case 4 once all its data went out (000, I-5.3.1.1.4, 4b)
-unfoldable pub goes_on_after : Sent → ℕ → ℕ → ℕ → Bool
-goes_on_after Case1 left a b = false
-goes_on_after Case2 left a b = false
-goes_on_after Case3 left a b = false
-goes_on_after Case4 left a b = pick (eqb left 0) (is_warning a b) false
-goes_on_after GetResponse left a b = false
+unfoldable pub goes_on_after : Sent → ℕ → Trailer → Bool
+goes_on_after (Own One) left t = false
+goes_on_after (Own Two) left t = false
+goes_on_after (Own Three) left t = false
+goes_on_after (Own Four) left t = pick (eqb left 0) (is_warning t) false
+goes_on_after GetResponse left t = false
 
-unfoldable pub goes_on : Header → ℕ → ℕ → Bool
-goes_on h a b = goes_on_after h.sent h.left a b
+unfoldable pub goes_on : Header → Trailer → Bool
+goes_on h t = goes_on_after h.sent h.left t

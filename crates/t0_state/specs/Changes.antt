@@ -1,10 +1,10 @@
 -- A state changed in one part, as a whole new state.
 -- Assumes nothing.
-use Rattle.std.specs.Prelude.{ℕ}
+use Rattle.std.specs.Prelude.{ℕ, Some}
+use Rattle.apdu.specs.declared.Trailer.{Trailer}
 use Rattle.t0_state.specs.declared.Sent.{Sent}
 use Rattle.t0_state.specs.declared.Header.{Header}
 use Rattle.t0_state.specs.declared.Counts.{Counts}
-use Rattle.t0_state.specs.declared.Trailer.TheVariants.{Kept}
 use Rattle.t0_state.specs.declared.Phase.{Phase}
 use Rattle.t0_state.specs.declared.Phase.TheVariants.{Procedure}
 use Rattle.t0_state.specs.declared.State.{State}
@@ -53,13 +53,13 @@ with_received n s =
       received = n;
     }
 
-abbrev pub with_trailer : ℕ → ℕ → State → State
-with_trailer a b s =
+abbrev pub with_trailer : Trailer → State → State
+with_trailer t s =
     record {
       command = s.command;
       header = s.header;
       counts = s.counts;
-      trailer = Kept a b;
+      trailer = Some t;
       phase = s.phase;
       received = s.received;
     }

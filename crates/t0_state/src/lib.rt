@@ -3,16 +3,14 @@
 
 pub mod bytes;
 pub mod change;
+mod names;
 
-// The header that the card is answering: that of a command of case 1 to 4, or GET RESPONSE.
-use apdu::DATA_MOST;
+use apdu::{Case, DATA_MOST, Trailer};
 
-#[derive(Clone, Copy)]
+// The header that the card is answering: the command's own, or GET RESPONSE.
+#[derive(Clone, Copy, PartialEq, Eq)]
 pub enum Sent {
-    Case1,
-    Case2,
-    Case3,
-    Case4,
+    Own(Case),
     GetResponse,
 }
 
@@ -42,13 +40,6 @@ pub struct Counts {
     pub repeated: bool,
 }
 
-// The status that ends the answer: the last one, or a warning that came before GET RESPONSE.
-#[derive(Clone, Copy)]
-pub enum Trailer {
-    Last,
-    Kept(u8, u8),
-}
-
 // What the next byte is: a procedure byte or the first of a status; the length behind '61' or '6C'; the second byte of a
 // status; data, of which so many bytes are due. Or the exchange is over.
 #[derive(Clone, Copy)]
@@ -66,14 +57,15 @@ pub struct State {
     pub command: Command,
     pub header: Header,
     pub counts: Counts,
-    pub trailer: Trailer,
+    // a warning that came before GET RESPONSE, which then ends the answer in place of the last status
+    pub trailer: Option<Trailer>,
     pub phase: Phase,
     // how many bytes of the answer's data have come
     pub received: usize,
 }
 
 // Why a command or a byte is turned away.
-#[derive(Clone, Copy)]
+#[derive(Clone, Copy, Debug, PartialEq, Eq)]
 pub enum Refusal {
     Command,
     Ins,
@@ -86,19 +78,19 @@ pub enum Refusal {
 }
 
 // Nothing; send the header with a length; send data of the command, from a place on, so many bytes; keep a byte of the
-// answer's; the answer is complete with these status bytes; or refuse.
+// answer's; or the answer is complete with this status.
 #[derive(Clone, Copy)]
 pub enum Act {
     Nothing,
     Header(u8),
     Send(usize, usize),
     Keep(u8),
-    Answer(u8, u8),
-    Refuse(Refusal),
+    Answer(Trailer),
 }
 
+// The exchange afterwards, and what is then to be done, or why the byte was turned away.
 #[derive(Clone, Copy)]
 pub struct Turn {
     pub state: State,
-    pub act: Act,
+    pub act: Result<Act, Refusal>,
 }
