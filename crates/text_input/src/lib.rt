@@ -3,10 +3,11 @@
 // no contract can speak.
 #![tactic(auto)]
 
-ghost use Rattle.std.specs.Prelude.{◌≤◌, length};
+ghost use Rattle.std.specs.Prelude.{◌≤◌, length, IfOk};
 
-use std::io;
-use std::io::Read;
+use std::io::{ErrorKind, Read};
+use std::rt::Files;
+use std::{fs, io};
 
 // A line of so many bytes, without its line feed; a line that has no room; or the input has ended. A last line needs no line
 // feed.
@@ -57,8 +58,18 @@ fn read_byte(input: &mut impl Read) -> Option<u8> {
     }
 }
 
+// The file of a name. A name that is no text names no file that can be opened.
+pub fn open<R: Files>(rt: &R, name: &[u8]) -> io::Result<R::File> {
+    match str::from_utf8(name) {
+        Ok(name) => fs::open(rt, name),
+        Err(_) => Err(io::Error::from(ErrorKind::InvalidFilename)),
+    }
+}
+
 // Reads until the buffer is full, or the file has ended, and answers how many bytes that gave; an error is one of reading.
-pub fn fill(file: &mut impl Read, buf: &mut [u8]) -> io::Result<usize> {
+pub fn fill(file: &mut impl Read, buf: &mut [u8]) -> io::Result<usize>
+    ensures { IfOk result (λ n. n ≤ length buf.new) }
+{
     let mut n = 0;
     read_on(file, buf, &mut n)?;
     Ok(n)
