@@ -22,32 +22,26 @@ const LONGEST: usize = 526336;
 
 fn main(rt: HostRuntime) -> io::Result<()> {
     let mut room = [0u8; RECORD];
-    let mut i = 0;
-    while i < RECORDS {
-        let n = read_full(&rt, &mut room);
-        if n != RECORD {
+    for _ in 0..RECORDS {
+        if read_full(&rt, &mut room) != RECORD {
             return Ok(());
         }
         show(&rt, &room)?;
-        i += 1;
     }
     Ok(())
 }
 
-fn show(rt: &impl Print, record: &[u8]) -> io::Result<()> {
+fn show(rt: &impl Print, record: &[u8; RECORD]) -> io::Result<()> {
     let mut t = [0u8; LONGEST];
     show_in(rt, record, &mut t)
 }
 
-fn show_in(rt: &impl Print, record: &[u8], t: &mut [u8]) -> io::Result<()> {
-    if record.len() < RECORD {
-        return Ok(());
-    }
+fn show_in(rt: &impl Print, record: &[u8; RECORD], t: &mut [u8; LONGEST]) -> io::Result<()> {
     let size = number(record, NAME) % 2049;
     let times = number(record, NAME + 2);
-    rt.write_all(&record[0..NAME])?;
+    rt.write_all(&record[..NAME])?;
     let n = repeat(t, &record[HEAD..HEAD + size], times);
-    read(rt, &t[0..n])
+    read(rt, &t[..n])
 }
 
 fn number(s: &[u8], at: usize) -> usize
@@ -61,14 +55,12 @@ fn repeat(t: &mut [u8], s: &[u8], times: usize) -> usize
     ensures { result ≤ length t.new }
 {
     let mut at = 0;
-    let mut i = 0;
-    while i < times {
+    for _ in 0..times {
         if t.len() - at < s.len() {
             return at;
         }
-        slices::lay(t, at, s);
+        t[at..at + s.len()].copy_from_slice(s);
         at += s.len();
-        i += 1;
     }
     at
 }
@@ -97,15 +89,8 @@ fn bad(rt: &impl Print, place: usize, code: u8) -> io::Result<()> {
 
 // How many blocks are good before the first that is not.
 fn good_blocks(t: &[u8], blocks: usize, session: u32) -> usize {
-    let mut n = 0;
-    while n < blocks {
-        let block = tape_read::block_at(t, n);
-        if tape_read::code(block, n, session) != 0 {
-            return n;
-        }
-        n += 1;
-    }
-    n
+    let is_bad = |n: &usize| tape_read::code(tape_read::block_at(t, *n), *n, session) != 0;
+    (0..blocks).find(is_bad).unwrap_or(blocks)
 }
 
 fn entries(rt: &impl Print, t: &[u8], blocks: usize, session: u32) -> io::Result<()> {
@@ -118,15 +103,12 @@ fn again(
     t: &[u8],
     blocks: usize,
     session: u32,
-    copy: &mut [u8],
+    copy: &mut [u8; LONGEST],
 ) -> io::Result<()> {
     let mut writer = Writer::new(session);
     println!(rt; " read")?;
-    let mut n = 0;
-    while n < blocks {
-        let block = tape_read::block_at(t, n);
-        writer = entry(rt, writer, block, copy)?;
-        n += 1;
+    for n in 0..blocks {
+        writer = entry(rt, writer, tape_read::block_at(t, n), copy)?;
     }
     written(rt, copy, writer)
 }
@@ -147,6 +129,6 @@ fn written(rt: &impl Print, copy: &[u8], writer: Writer) -> io::Result<()> {
     if copy.len() / tape_read::BLOCK < used {
         return Ok(());
     }
-    let check = tape_crc::whole(&copy[0..used * tape_read::BLOCK]);
+    let check = tape_crc::whole(&copy[..used * tape_read::BLOCK]);
     println!(rt; "written {check:08x}")
 }

@@ -6,7 +6,7 @@ use std::io::{ErrorKind, Read, Write};
 use std::rt::{Env, Files};
 use std::{fs, io};
 use tape_read::BLOCK;
-use text_input::{Filled, fill};
+use text_input::fill;
 use text_print::fail;
 
 // More bytes than the name of a file can have.
@@ -71,8 +71,8 @@ pub fn line(rt: &impl std::io::Input, buf: &mut [u8]) -> usize {
 
 fn read_all(file: &mut impl Read, buf: &mut [u8]) -> Input {
     match fill(file, buf) {
-        Filled::Bytes(n) => Input::Bytes(n),
-        Filled::Failed(e) => Input::Failed(e),
+        Ok(n) => Input::Bytes(n),
+        Err(e) => Input::Failed(e),
     }
 }
 

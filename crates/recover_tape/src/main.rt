@@ -15,7 +15,7 @@ use slices::part;
 use std::fs::File;
 use std::io;
 use tape_read::BLOCK;
-use text_input::{Filled, fill};
+use text_input::fill;
 use text_print::fail;
 
 // More steps than there can be: nothing says that the input ends.
@@ -37,7 +37,7 @@ fn list_all(rt: &(impl Input + Eprint), file: &mut File, block: &mut [u8]) -> bo
     let mut step = 0;
     while step < MOST {
         match fill(&mut input, block) {
-            Filled::Bytes(n) => {
+            Ok(n) => {
                 if n < BLOCK {
                     return is_kept(rt, line::end(file, step, tail(part(block, 0, n))));
                 }
@@ -45,7 +45,7 @@ fn list_all(rt: &(impl Input + Eprint), file: &mut File, block: &mut [u8]) -> bo
                     return false;
                 }
             }
-            Filled::Failed(e) => {
+            Err(e) => {
                 fail(rt, "recover_tape: standard input", &e);
                 return false;
             }

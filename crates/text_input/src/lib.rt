@@ -3,11 +3,11 @@
 // no contract can speak.
 #![tactic(auto)]
 
-ghost use Rattle.std.specs.Prelude.{◌≤◌, length};
+ghost use Rattle.std.specs.Prelude.{◌≤◌, length, IfOk};
 
-use slices::byte;
-use std::io;
-use std::io::Read;
+use std::io::{ErrorKind, Read};
+use std::rt::Files;
+use std::{fs, io};
 
 // A line of so many bytes, without its line feed; a line that has no room; or the input has ended. A last line needs no line
 // feed.
@@ -21,26 +21,16 @@ pub enum Line {
 // No line counts on beyond this.
 const MOST: usize = 0x7FFF_FFFF_FFFF_FFFF;
 
-const LINE_FEED: usize = 10;
-
-// No byte.
-const NONE: usize = 256;
-
 // Reads to the end of a line, and puts as much of it as there is room for at the start of a buffer.
 pub fn read_line(rt: &impl Input, line: &mut [u8]) -> Line {
     let mut input = rt.reader();
     let room = line.len();
-    let mut n = 0;
-    while n < MOST {
-        let b = read_byte(&mut input);
-        if b == LINE_FEED {
-            return line_of(n, room);
+    for n in 0..MOST {
+        match read_byte(&mut input) {
+            Some(b'\n') => return line_of(n, room),
+            Some(b) => keep(line, n, b),
+            None => return last_of(n, room),
         }
-        if b == NONE {
-            return last_of(n, room);
-        }
-        keep(line, n, (b % 256) as u8);
-        n += 1;
     }
     Line::Long
 }
@@ -59,38 +49,30 @@ fn last_of(n: usize, room: usize) -> Line {
     if n == 0 { Line::End } else { line_of(n, room) }
 }
 
-fn read_byte(input: &mut impl Read) -> usize
-    ensures { result ≤ 256 }
-{
+// The next byte; none where the input has ended, or a read failed.
+fn read_byte(input: &mut impl Read) -> Option<u8> {
     let mut one = [0u8; 1];
     match input.read(&mut one) {
-        Ok(1) => byte(&one, 0),
-        Ok(_) => NONE,
-        Err(_) => NONE,
+        Ok(1) => Some(one[0]),
+        _ => None,
     }
 }
 
-// So many bytes were read, fewer than there is room for where the file has ended; or a read failed, and why.
-#[derive(Clone, Copy)]
-pub enum Filled {
-    Bytes(usize),
-    Failed(io::Error),
+// The file of a name. A name that is no text names no file that can be opened.
+pub fn open<R: Files>(rt: &R, name: &[u8]) -> io::Result<R::File> {
+    match str::from_utf8(name) {
+        Ok(name) => fs::open(rt, name),
+        Err(_) => Err(io::Error::from(ErrorKind::InvalidFilename)),
+    }
 }
 
-// Reads until the buffer is full, or the file has ended.
-pub fn fill(file: &mut impl Read, buf: &mut [u8]) -> Filled {
+// Reads until the buffer is full, or the file has ended, and answers how many bytes that gave; an error is one of reading.
+pub fn fill(file: &mut impl Read, buf: &mut [u8]) -> io::Result<usize>
+    ensures { IfOk result (λ n. n ≤ length buf.new) }
+{
     let mut n = 0;
-    while n < buf.len() {
-        let more = match file.read(&mut buf[n..]) {
-            Ok(more) => more,
-            Err(e) => return Filled::Failed(e),
-        };
-        if more == 0 {
-            return Filled::Bytes(n);
-        }
-        n += more;
-    }
-    Filled::Bytes(n)
+    read_on(file, buf, &mut n)?;
+    Ok(n)
 }
 
 // Reads standard input until the buffer is full, or the input has ended, and answers how many bytes that gave; a read that fails counts as
@@ -98,17 +80,21 @@ pub fn fill(file: &mut impl Read, buf: &mut [u8]) -> Filled {
 pub fn read_full(rt: &impl Input, buf: &mut [u8]) -> usize
     ensures { result ≤ length buf.new }
 {
-    let mut input = rt.reader();
     let mut n = 0;
-    while n < buf.len() {
-        let more = match input.read(&mut buf[n..]) {
-            Ok(more) => more,
-            Err(_) => return n,
-        };
-        if more == 0 {
-            return n;
-        }
-        n += more;
-    }
+    let _ = read_on(&mut rt.reader(), buf, &mut n);
     n
+}
+
+// Reads behind the first n bytes until the buffer is full, or the file has ended, or a read fails; n then counts all that were read.
+fn read_on(file: &mut impl Read, buf: &mut [u8], n: &mut usize) -> io::Result<()>
+    ensures { n.old ≤ length buf.old → n.new ≤ length buf.new }
+{
+    while *n < buf.len() {
+        let more = file.read(&mut buf[*n..])?;
+        if more == 0 {
+            return Ok(());
+        }
+        *n += more;
+    }
+    Ok(())
 }

@@ -1,12 +1,13 @@
 // The words for the kinds of entries, for programs that say what is due.
 #![tactic(auto)]
 
-ghost use Rattle.std.specs.Prelude.{◌≡◌, length};
+ghost use Rattle.std.specs.Prelude.{◌≡◌, length, IfOk};
 ghost use Rattle.slices.specs.Writing.{laid};
 ghost use Rattle.text_kinds.specs.Kinds.{word_of, counts as is_counted};
 
 use numbers::{ANSWER, COMMAND, DECISION, HOST, RESULTS, SILENCE, START};
-use slices::lay;
+use slices::{lay, part};
+use std::io;
 
 // No word is longer.
 pub const LONGEST: usize = 8;
@@ -42,4 +43,17 @@ pub fn counts(kind: u8) -> bool
     ensures { result ≡ is_counted kind }
 {
     kind == RESULTS
+}
+
+// Prints the word, and how many are wanted where that is counted.
+pub fn print_due(rt: &impl Print, kind: u8, wanted: usize) -> io::Result<()>
+    ensures { IfOk result (λ r. r ≡ tt) }
+{
+    let mut name = [0u8; LONGEST];
+    let n = word(kind, &mut name);
+    rt.write_all(part(&name, 0, n))?;
+    if counts(kind) {
+        print!(rt; " {wanted}")?;
+    }
+    Ok(())
 }

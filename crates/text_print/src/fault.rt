@@ -1,7 +1,6 @@
 // What failed, said on standard error.
 ghost use Rattle.std.specs.Prelude.{◌≤◌};
 
-use slices::{alike, part};
 use std::io;
 use std::io::Write;
 
@@ -28,12 +27,10 @@ fn reason(error: &io::Error, text: &mut [u8; ROOM]) -> usize
 fn end_of(text: &[u8; ROOM]) -> usize
     ensures { result ≤ 256 }
 {
-    let mut n = 0;
-    while n < ROOM {
-        if text[n] == 0 || alike(part(text, n, 11), b" (os error ") {
+    for n in 0..ROOM {
+        if text[n] == 0 || text[n..].starts_with(b" (os error ") {
             return n;
         }
-        n += 1;
     }
-    n
+    ROOM
 }

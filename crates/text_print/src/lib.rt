@@ -28,14 +28,14 @@ pub fn bytes(rt: &impl Print, s: &[u8]) -> io::Result<()>
 {
     let mut out = [0u8; 10000];
     let n = hex(s, &mut out);
-    text(rt, &out[0..n])
+    text(rt, &out[..n])
 }
 
 // The same, and `-` for none.
 pub fn bytes_or_dash(rt: &impl Print, s: &[u8]) -> io::Result<()>
     ensures { IfOk result (λ r. r ≡ tt) }
 {
-    if s.len() == 0 {
+    if s.is_empty() {
         text(rt, b"-")
     } else {
         bytes(rt, s)
@@ -46,11 +46,11 @@ pub fn bytes_or_dash(rt: &impl Print, s: &[u8]) -> io::Result<()>
 pub fn tag(rt: &impl Print, t: usize) -> io::Result<()>
     ensures { IfOk result (λ r. r ≡ tt) }
 {
-    let both = [(t / 256 % 256) as u8, (t % 256) as u8];
+    let both = ((t % 65536) as u16).to_be_bytes();
     if t < 256 {
-        bytes(rt, &both[1..2])
+        bytes(rt, &both[1..])
     } else {
-        bytes(rt, &both[0..2])
+        bytes(rt, &both)
     }
 }
 
@@ -69,12 +69,5 @@ pub fn touched(rt: &impl Print, buf: &[u8], from: usize) -> io::Result<()>
 }
 
 fn is_touched(buf: &[u8], from: usize) -> bool {
-    let mut i = from;
-    while i < buf.len() {
-        if buf[i] != UNTOUCHED {
-            return true;
-        }
-        i += 1;
-    }
-    false
+    buf.iter().skip(from).any(|b| *b != UNTOUCHED)
 }
