@@ -5,7 +5,7 @@ ghost use Rattle.tape_write.specs.Appending.{refusal_of, tape_after};
 ghost use Rattle.recover.specs.Salvage.{next_from};
 ghost use Rattle.lab.specs.Tapes.{writer, is_block, laid_block};
 
-use recover::{Found, next};
+use recover::next;
 use tape_write::Writer;
 
 // One entry more on a tape that has so many blocks used, under a session number: 0, or the number under which it is turned away.
@@ -20,30 +20,21 @@ pub fn lab_append(used: usize, session: u32, kind: u8, payload: &[u8], tape: &mu
 
 // The next good block of any bytes at or after a step: the step it stands at, its number, session number and kind, and where its payload
 // starts and how long it is. False, and nothing changes, where there is none.
+#[tactic(auto, unfolding(crate::specs::Tapes::is_block, crate::specs::Tapes::laid_block))]
 pub fn lab_recover(bytes: &[u8], step: usize, block: &mut [u64; 6]) -> bool
     ensures value { result ≡ is_block (next_from bytes.now step) }
     ensures block_after { block.new ≡ laid_block (next_from bytes.now step) block.old }
 {
-    let found = next(bytes, step);
-    match found {
-        Found::Block {
-            step: at,
-            number,
-            session,
-            kind,
-            start,
-            size,
-        } => {
-            *block = [
-                at as u64,
-                number as u64,
-                session as u64,
-                kind as u64,
-                start as u64,
-                size as u64,
-            ];
-            true
-        }
-        Found::End => false,
-    }
+    let Some(found) = next(bytes, step) else {
+        return false;
+    };
+    *block = [
+        found.step as u64,
+        u64::from(found.number),
+        u64::from(found.session),
+        u64::from(found.kind),
+        found.start as u64,
+        found.size as u64,
+    ];
+    true
 }

@@ -4,6 +4,7 @@
 use mathlib.Core.Path.{◌≡◌, ap, ◌∙◌}
 use mathlib.Core.Bool.{true, false}
 use mathlib.Core.List.{List, [], ◌∷◌}
+use Rattle.std.proofs.Common.{None, Some}
 use Prim.Native.Nat.{ℕ, ◌+◌, ◌*◌, ◌/◌, ◌≤◌, ◌<◌}
 use native.Mathlib.Omega.{arith}
 use lib.ListN.{length, drop, length-drop}
@@ -12,7 +13,6 @@ use Rattle.tape_read.specs.Entries.{block_size}
 use Rattle.tape_read.specs.Tapes.{block_at, blocks_of}
 use Rattle.tape_read.proofs.Steps.{blocks_end, blocks_more, rest_next}
 use Rattle.recover.specs.Salvage.{is_good, told, first_good, next_from}
-use Rattle.recover.specs.declared.Found.TheVariants.{End}
 
 module _ (t : List ℕ) (k : ℕ) where
   -- the whole blocks from a step on
@@ -26,12 +26,12 @@ module _ (t : List ℕ) (k : ℕ) where
       blocks_more (drop (k * block_size) t) (omega (arith, length-drop (k * block_size) t))
       ∙ ap (λ (rest : List ℕ). block_at k t ∷ blocks_of rest) (rest_next k t)
 
-  pub next_end : length t / block_size ≤ k → next_from t k ≡ End
+  pub next_end : length t / block_size ≤ k → next_from t k ≡ None
   unfolding next_from first_good
   next_end past = ap (first_good k) (steps_end past)
 
   module _ (there : k < length t / block_size) where
-    pub next_here : is_good (block_at k t) ≡ true → next_from t k ≡ told k (block_at k t)
+    pub next_here : is_good (block_at k t) ≡ true → next_from t k ≡ Some (told k (block_at k t))
     unfolding next_from first_good
     next_here good = ap (first_good k) (steps_more there) ∙ pick_yes _ _ _ good
 

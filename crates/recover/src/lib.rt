@@ -10,49 +10,37 @@ ghost use Rattle.recover.specs.Salvage.{is_good, told, next_from, payload_of, ta
 use slices::part;
 use tape_read::{BLOCK, PAYLOAD_AT, block_at, code, kind, number, session};
 
-// A good block, with the step it stands at, what it says of itself, and where in the lent bytes its payload starts and how long it is;
-// or no further one.
+// A good block: the step it stands at, what it says of itself, and where in the lent bytes its payload starts and how long it is.
 #[derive(Clone, Copy)]
-pub enum Found {
-    Block {
-        step: usize,
-        number: u32,
-        session: u32,
-        kind: u8,
-        start: usize,
-        size: usize,
-    },
-    End,
+pub struct Block {
+    pub step: usize,
+    pub number: u32,
+    pub session: u32,
+    pub kind: u8,
+    pub start: usize,
+    pub size: usize,
 }
 
-// The next good block at or after a step.
-pub fn next(bytes: &[u8], step: usize) -> Found
+// The next good block at or after a step, where there is one.
+#[tactic(auto, using(crate::proofs::Walk::next_end, crate::proofs::Walk::next_here, crate::proofs::Walk::next_on))]
+pub fn next(bytes: &[u8], step: usize) -> Option<Block>
     ensures { result ≡ next_from bytes.now step }
 {
-    let mut k = step;
-    while k < bytes.len() / BLOCK {
+    for k in step..bytes.len() / BLOCK {
         if is_good(block_at(bytes, k)) {
-            return tell(bytes, k);
+            return Some(tell(bytes, k));
         }
-        k += 1;
     }
-    Found::End
+    None
 }
 
 // The payload of what was found, as that part of the lent bytes itself; nothing where nothing was found.
-pub fn payload(bytes: &[u8], found: Found) -> &[u8]
+pub fn payload(bytes: &[u8], found: Option<Block>) -> &[u8]
     ensures { result.now ≡ payload_of bytes.now found }
 {
     match found {
-        Found::Block {
-            step: _,
-            number: _,
-            session: _,
-            kind: _,
-            start,
-            size,
-        } => part(bytes, start, size),
-        Found::End => part(bytes, 0, 0),
+        Some(block) => part(bytes, block.start, block.size),
+        None => &bytes[..0],
     }
 }
 
@@ -63,18 +51,19 @@ pub fn tail(bytes: &[u8]) -> usize
     bytes.len() % BLOCK
 }
 
+#[tactic(auto, using(crate::proofs::Own::good_by_code))]
 fn is_good(block: &[u8]) -> bool
     ensures { result ≡ is_good block.now }
 {
     code(block, number(block) as usize, session(block)) == 0
 }
 
-fn tell(bytes: &[u8], step: usize) -> Found
+fn tell(bytes: &[u8], step: usize) -> Block
     requires { step < length bytes.now / block_size }
     ensures { result ≡ told step (block_at step bytes.now) }
 {
     let block = block_at(bytes, step);
-    Found::Block {
+    Block {
         step,
         number: number(block),
         session: session(block),

@@ -4,6 +4,7 @@
 use mathlib.Core.Path.{◌≡◌, sym, ap, ◌∙◌}
 use mathlib.Core.Bool.{true, false}
 use mathlib.Core.List.{List, ◌∷◌}
+use Rattle.std.proofs.Common.{Option, None, Some}
 use Prim.Native.Nat.{ℕ, zero, suc, ◌+◌, ◌*◌, ◌≤◌, ◌<◌}
 use native.Mathlib.Omega.{arith}
 use lib.ListN.{length, take, drop, length-drop, take-append-drop}
@@ -15,8 +16,7 @@ use Rattle.tape_read.specs.Entries.{block_size, payload_most}
 use Rattle.tape_read.specs.Blocks.{number_in, session_in, kind_in, payload_at, length_in, length_bad, payload_in}
 use Rattle.tape_read.specs.Tapes.{block_at, blocks_of}
 use Rattle.recover.specs.Salvage.{is_good, Salvaged, salvage, standing, told, next_from, payload_of, salvaged}
-use Rattle.recover.specs.declared.Found.{Found}
-use Rattle.recover.specs.declared.Found.TheVariants.{End}
+use Rattle.recover.specs.declared.Block.{Block}
 use Rattle.recover.proofs.Own.{good_passes}
 use Rattle.recover.proofs.Walk.{steps_end, steps_more, next_end, next_here, next_on}
 use Rattle.recover_laws.specs.Walking.{taken, walk, placed, by_block}
@@ -46,7 +46,7 @@ module _ (t : List ℕ) (k : ℕ) (there : k < steps t) (good : is_good (block_a
       ∙ length-take-le _ (drop payload_at (block_at k t))
       (omega (arith, sized, length-drop payload_at (block_at k t), step_whole t k there))
 
-  pub payload_there : payload_of t (told k (block_at k t)) ≡ payload_in (block_at k t)
+  pub payload_there : payload_of t (Some (told k (block_at k t))) ≡ payload_in (block_at k t)
   unfolding block_at
   payload_there =
       let n = length_in (block_at k t) in
@@ -59,7 +59,7 @@ module _ (t : List ℕ) (k : ℕ) (there : k < steps t) (good : is_good (block_a
   unfolding taken
   taken_here others =
       let b = block_at k t in
-      ap (λ (f : Found). taken t f others) (next_here t k there good)
+      ap (λ (f : Option Block). taken t f others) (next_here t k there good)
       ∙ ap (λ (p : List ℕ). salvage k (number_in b) (session_in b) (kind_in b) p ∷ others (k + 1)) payload_there
 
 module _ (t : List ℕ) where
@@ -68,27 +68,27 @@ module _ (t : List ℕ) where
   unfolding taken
   next_first =
       by_steps (steps t) (λ k. good_from t k ≡ taken t (next_from t k) (good_from t))
-      (λ k past. good_end t k past ∙ sym (ap (λ (f : Found). taken t f (good_from t)) (next_end t k past)))
+      (λ k past. good_end t k past ∙ sym (ap (λ (f : Option Block). taken t f (good_from t)) (next_end t k past)))
       (λ k there rest.
       either (is_good (block_at k t))
       (λ good. good_here t k there good ∙ sym (taken_here t k there good (good_from t)))
       (λ bad.
-      good_on t k there bad ∙ (rest ∙ sym (ap (λ (f : Found). taken t f (good_from t)) (next_on t k there bad)))))
+      good_on t k there bad ∙ (rest ∙ sym (ap (λ (f : Option Block). taken t f (good_from t)) (next_on t k there bad)))))
 
   -- and only what stands behind that step matters
   next_later : (f g : ℕ → List Salvaged) (k : ℕ) → ((j : ℕ) → k < j → f j ≡ g j) → taken t (next_from t k) f ≡ taken t (next_from t k) g
   unfolding taken
   next_later f g =
       by_steps (steps t) (λ k. ((j : ℕ) → k < j → f j ≡ g j) → taken t (next_from t k) f ≡ taken t (next_from t k) g)
-      (λ k past same. ap (λ (x : Found). taken t x f) (next_end t k past) ∙ sym (ap (λ (x : Found). taken t x g) (next_end t k past)))
+      (λ k past same. ap (λ (x : Option Block). taken t x f) (next_end t k past) ∙ sym (ap (λ (x : Option Block). taken t x g) (next_end t k past)))
       (λ k there rest same.
       either (is_good (block_at k t))
       (λ good.
       taken_here t k there good f
       ∙ (ap (λ (l : List Salvaged). standing k (block_at k t) ∷ l) (same (k + 1) (omega arith)) ∙ sym (taken_here t k there good g)))
       (λ bad.
-      ap (λ (x : Found). taken t x f) (next_on t k there bad)
-      ∙ (rest (λ j h. same j (omega arith)) ∙ sym (ap (λ (x : Found). taken t x g) (next_on t k there bad)))))
+      ap (λ (x : Option Block). taken t x f) (next_on t k there bad)
+      ∙ (rest (λ j h. same j (omega arith)) ∙ sym (ap (λ (x : Option Block). taken t x g) (next_on t k there bad)))))
 
   walk_from : (n k : ℕ) → steps t ≤ n + k → walk n t k ≡ good_from t k
   unfolding walk
@@ -107,15 +107,15 @@ module _ (b : List ℕ) (whole : length b ≡ block_size) where
   unfolding block_at
   alone = take_all block_size b (omega arith)
 
-  pub alone_good : is_good b ≡ true → next_from b 0 ≡ told 0 b
-  alone_good good = next_here b 0 (omega arith) (ap is_good alone ∙ good) ∙ ap (told 0) alone
+  pub alone_good : is_good b ≡ true → next_from b 0 ≡ Some (told 0 b)
+  alone_good good = next_here b 0 (omega arith) (ap is_good alone ∙ good) ∙ ap (λ (x : List ℕ). Some (told 0 x)) alone
 
-  pub alone_bad : is_good b ≡ false → next_from b 0 ≡ End
+  pub alone_bad : is_good b ≡ false → next_from b 0 ≡ None
   alone_bad bad = next_on b 0 (omega arith) (ap is_good alone ∙ bad) ∙ next_end b 1 (omega arith)
 
-  alone_payload : is_good b ≡ true → payload_of b (told 0 b) ≡ payload_in b
+  alone_payload : is_good b ≡ true → payload_of b (Some (told 0 b)) ≡ payload_in b
   alone_payload good =
-      ap (λ (x : List ℕ). payload_of b (told 0 x)) (sym alone)
+      ap (λ (x : List ℕ). payload_of b (Some (told 0 x))) (sym alone)
       ∙ (payload_there b 0 (omega arith) (ap is_good alone ∙ good) ∙ ap payload_in alone)
 
   placed_step : (n : ℕ) (others : List Salvaged) → placed n b (next_from b 0) others ≡ pick (is_good b) (standing n b ∷ others) others
@@ -123,10 +123,10 @@ module _ (b : List ℕ) (whole : length b ≡ block_size) where
   placed_step n others =
       either (is_good b)
       (λ good.
-      ap (λ (f : Found). placed n b f others) (alone_good good)
+      ap (λ (f : Option Block). placed n b f others) (alone_good good)
       ∙ (ap (λ (p : List ℕ). salvage n (number_in b) (session_in b) (kind_in b) p ∷ others) (alone_payload good)
       ∙ sym (pick_yes _ _ _ good)))
-      (λ bad. ap (λ (f : Found). placed n b f others) (alone_bad bad) ∙ sym (pick_no _ _ _ bad))
+      (λ bad. ap (λ (f : Option Block). placed n b f others) (alone_bad bad) ∙ sym (pick_no _ _ _ bad))
 
 module _ (t : List ℕ) where
   blocks_from : (k : ℕ) → by_block k (blocks_of (drop (k * block_size) t)) ≡ good_from t k

@@ -45,11 +45,8 @@ fn create(rt: &impl Files<File = File>) -> io::Result<File> {
     for n in 0..NAMES {
         match create_named(rt, n) {
             Ok(file) => return Ok(file),
-            Err(e) => {
-                if e.kind() != ErrorKind::AlreadyExists {
-                    return Err(e);
-                }
-            }
+            Err(e) if e.kind() == ErrorKind::AlreadyExists => {}
+            Err(e) => return Err(e),
         }
     }
     Err(io::Error::from_raw_os_error(TAKEN))
@@ -77,12 +74,10 @@ pub fn say(rt: &(impl Print + Eprint), file: &mut File, buf: &mut [u8]) {
         fail(rt, "recover_tape: the lines cannot be read back", &e);
         return;
     }
-    let mut left = MOST;
-    while 0 < left {
+    for _ in 0..MOST {
         if !say_some(rt, file, buf) {
             return;
         }
-        left -= 1;
     }
 }
 

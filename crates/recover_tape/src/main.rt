@@ -10,7 +10,7 @@
 mod kept;
 mod line;
 
-use recover::{Found, next, payload, tail};
+use recover::{next, payload, tail};
 use slices::part;
 use std::fs::File;
 use std::io;
@@ -34,23 +34,21 @@ fn main(rt: HostRuntime) {
 // Whether all of the input was read, and all of its lines are kept.
 fn list_all(rt: &(impl Input + Eprint), file: &mut File, block: &mut [u8]) -> bool {
     let mut input = rt.reader();
-    let mut step = 0;
-    while step < MOST {
+    for step in 0..MOST {
         match fill(&mut input, block) {
-            Ok(n) => {
-                if n < BLOCK {
-                    return is_kept(rt, line::end(file, step, tail(part(block, 0, n))));
-                }
+            Ok(BLOCK) => {
                 if !is_kept(rt, keep_block(file, step, block)) {
                     return false;
                 }
+            }
+            Ok(n) => {
+                return is_kept(rt, line::end(file, step, tail(part(block, 0, n))));
             }
             Err(e) => {
                 fail(rt, "recover_tape: standard input", &e);
                 return false;
             }
         }
-        step += 1;
     }
     false
 }
@@ -69,14 +67,7 @@ fn is_kept(rt: &impl Eprint, taken: io::Result<()>) -> bool {
 fn keep_block(file: &mut File, at: usize, block: &[u8]) -> io::Result<()> {
     let found = next(block, 0);
     match found {
-        Found::Block {
-            step: _,
-            number,
-            session,
-            kind,
-            start: _,
-            size: _,
-        } => line::block(file, at, number, session, kind, payload(block, found)),
-        Found::End => Ok(()),
+        Some(good) => line::block(file, at, good, payload(block, found)),
+        None => Ok(()),
     }
 }
