@@ -10,11 +10,11 @@ ghost use Rattle.quick_meet.specs.Meeting.{exchange_met};
 use commands::write;
 use commands::write::LONGEST;
 use decide_cryptogram::{Cryptogram, p1};
-use quick_meet::Met;
 use quick_meet::meet::exchange;
 use slices::part;
+use verdict::Ruling;
 
-pub fn select(tape: &[u8], k: usize, start: &[u8]) -> Met
+pub fn select(tape: &[u8], k: usize, start: &[u8]) -> Result<(), Ruling>
     ensures { result ≡ exchange_met (select_command (reading_of start.now).aid) k tape.now }
 {
     let mut buf = [0; LONGEST];
@@ -23,7 +23,7 @@ pub fn select(tape: &[u8], k: usize, start: &[u8]) -> Met
 }
 
 // GET PROCESSING OPTIONS, filled from an object list and the slots of what is known.
-pub fn options(tape: &[u8], k: usize, list: &[u8], start: &[u8], known: &[u8]) -> Met
+pub fn options(tape: &[u8], k: usize, list: &[u8], start: &[u8], known: &[u8]) -> Result<(), Ruling>
     ensures { result
         ≡ exchange_met (options_command (filling (reading_of start.now) (told_in known.now) list.now)) k
         tape.now }
@@ -34,7 +34,7 @@ pub fn options(tape: &[u8], k: usize, list: &[u8], start: &[u8], known: &[u8]) -
 }
 
 // READ RECORD.
-pub fn record(tape: &[u8], k: usize, number: u8, file: u8) -> Met
+pub fn record(tape: &[u8], k: usize, number: u8, file: u8) -> Result<(), Ruling>
     ensures { result ≡ exchange_met (record_command number file) k tape.now }
 {
     let mut buf = [0; 5];
@@ -50,7 +50,7 @@ pub fn cryptogram(
     list: &[u8],
     start: &[u8],
     known: &[u8],
-) -> Met
+) -> Result<(), Ruling>
     ensures { result
         ≡ exchange_met (cryptogram_command (p1_of request)
         (filling (reading_of start.now) (told_in known.now) list.now)) k tape.now }

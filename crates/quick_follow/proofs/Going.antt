@@ -21,11 +21,12 @@ use Rattle.rulebook.specs.Phase.{Asked, Heard, Phase, asks, hears, command_of, d
 use Rattle.rulebook.specs.Turn.{goes_on, turn, allowed, after}
 use Rattle.rulebook_zeros.specs.Zeros.{unsupplied_asking}
 use Rattle.verdict.specs.Saying.{says, finds}
+use Rattle.std.proofs.Common.{Err}
 use Rattle.verdict.specs.declared.Verdict.TheVariants.{Fail}
+use Rattle.verdict.specs.declared.Ruling.{Ruling}
 use Rattle.quick_said.specs.Said.{found_from}
-use Rattle.quick_meet.specs.declared.Met.{Met}
-use Rattle.quick_meet.specs.Meeting.{payload_at, word_met, exchange_met, decision_met}
-use Rattle.quick_meet.proofs.Tests.{as_going, as_stopped, word_inside, exchange_inside}
+use Rattle.quick_meet.specs.Meeting.{Met, payload_at, word_met, exchange_met, decision_met}
+use Rattle.quick_meet.proofs.Tests.{there, as_going, as_stopped, word_inside, exchange_inside}
 use Rattle.quick_meet.proofs.Found.{asks_found, hears_found, decides_found}
 
 -- ---- a list filled from what is known
@@ -50,32 +51,32 @@ module _ (t : List ℕ) (bytes : are_bytes t ≡ true) (k z : ℕ) (w : Asked) (
   filled_due : filled ≡ summed z (unsupplied_asking w)
   filled_due = sum ∙ ap (summed z) lacks
 
-  pub asked_stops : m.there ≡ false → finds m.said filled ≡ found_from (asks w) k z t
-  asked_stops f =
-      ap (finds m.said) filled_due ∙ (as_stopped m _ met_due _ _ f ∙ sym (asks_found t bytes k z w))
+  pub asked_stops : (said : Ruling) → m ≡ Err said → finds said filled ≡ found_from (asks w) k z t
+  asked_stops said f =
+      ap (finds said) filled_due ∙ (as_stopped m _ met_due _ _ said f ∙ sym (asks_found t bytes k z w))
 
-  pub asked_goes : (p : List ℕ) → p ≡ payload_at (k + 1) t → m.there ≡ true
+  pub asked_goes : (p : List ℕ) → p ≡ payload_at (k + 1) t → there m ≡ true
       → found_from (turn w p) (k + 2) filled t ≡ found_from (asks w) k z t
   asked_goes p e y =
       (λ i. found_from (turn w (e i)) (k + 2) (filled_due i) t) ∙ (as_going m _ met_due _ _ y ∙ sym (asks_found t bytes k z w))
 
-pub asked_inside : (t : List ℕ) (k : ℕ) (m : Met) (c : List ℕ) → m ≡ exchange_met c k t → m.there ≡ true → k + 2 ≤ length t / block_size
-asked_inside t k m c met y = exchange_inside t k c (ap (λ (x : Met). x.there) (sym met) ∙ y)
+pub asked_inside : (t : List ℕ) (k : ℕ) (m : Met) (c : List ℕ) → m ≡ exchange_met c k t → there m ≡ true → k + 2 ≤ length t / block_size
+asked_inside t k m c met y = exchange_inside t k c (ap there (sym met) ∙ y)
 
-pub heard_inside : (t : List ℕ) (k kind : ℕ) (m : Met) → m ≡ word_met kind k t → m.there ≡ true → k + 1 ≤ length t / block_size
-heard_inside t k kind m met y = word_inside t k kind (ap (λ (x : Met). x.there) (sym met) ∙ y)
+pub heard_inside : (t : List ℕ) (k kind : ℕ) (m : Met) → m ≡ word_met kind k t → there m ≡ true → k + 1 ≤ length t / block_size
+heard_inside t k kind m met y = word_inside t k kind (ap there (sym met) ∙ y)
 
 module _ (t : List ℕ) (bytes : are_bytes t ≡ true) (k z : ℕ) (small : z < 2 ^ 64) where
   -- ---- somebody else's word
 
   module _ (h : Heard) (m : Met) (met : m ≡ word_met (due_kind h) k t) where
-    pub heard_stops : m.there ≡ false → finds m.said z ≡ found_from (hears h) k z t
-    heard_stops f = as_stopped m _ met z _ f ∙ sym (hears_found t bytes k z small h)
+    pub heard_stops : (said : Ruling) → m ≡ Err said → finds said z ≡ found_from (hears h) k z t
+    heard_stops said f = as_stopped m _ met z _ said f ∙ sym (hears_found t bytes k z small h)
 
-    pub heard_fails : m.there ≡ true → allowed h (payload_at k t) ≡ false → finds (says Fail k 0) z ≡ found_from (hears h) k z t
+    pub heard_fails : there m ≡ true → allowed h (payload_at k t) ≡ false → finds (says Fail k 0) z ≡ found_from (hears h) k z t
     heard_fails y f = sym (pick_no _ _ _ f) ∙ (as_going m _ met z _ y ∙ sym (hears_found t bytes k z small h))
 
-    pub heard_goes : m.there ≡ true → allowed h (payload_at k t) ≡ true
+    pub heard_goes : there m ≡ true → allowed h (payload_at k t) ≡ true
         → found_from (after h (payload_at k t)) (k + 1) z t ≡ found_from (hears h) k z t
     heard_goes y f = sym (pick_yes _ _ _ f) ∙ (as_going m _ met z _ y ∙ sym (hears_found t bytes k z small h))
 

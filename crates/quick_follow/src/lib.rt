@@ -7,6 +7,7 @@ mod online;
 mod options;
 mod records;
 mod requests;
+mod standing;
 
 ghost use Rattle.std.specs.Prelude.{◌≡◌};
 ghost use Rattle.rulebook.specs.Phase.{opens};
@@ -14,7 +15,7 @@ ghost use Rattle.quick_said.specs.Said.{found_from};
 
 use numbers::START;
 use options::from_start;
-use quick_meet::meet::{fail, payload_at, stop, word};
+use quick_meet::meet::{fail, payload_at, word};
 use start_valid::valid_start;
 use verdict::Finding;
 
@@ -22,9 +23,8 @@ use verdict::Finding;
 pub fn follow(tape: &[u8]) -> Finding
     ensures { result ≡ found_from opens 0 0 tape.now }
 {
-    let m = word(tape, 0, START);
-    if !m.there {
-        return stop(m, 0);
+    if let Err(ruling) = word(tape, 0, START) {
+        return Finding { ruling, zeros: 0 };
     }
     let start = payload_at(tape, 0);
     if !valid_start(start) {

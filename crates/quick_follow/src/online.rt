@@ -1,15 +1,15 @@
 // From the first cryptogram on: decided, or the issuer is asked and then the card again.
-ghost use Rattle.std.specs.Prelude.{◌≡◌, length};
-ghost use Rattle.session_records.specs.Slots.{end as slots_end};
+ghost use Rattle.std.specs.Prelude.{◌≡◌};
 ghost use Rattle.rulebook.specs.Situation.{Situation};
 ghost use Rattle.rulebook.specs.Phase.{hears, says};
 ghost use Rattle.rulebook.specs.Turn.{reply_made, replied, by_second, second_answered, first_answered, by_first, online as online_turn};
 ghost use Rattle.decide_requests.specs.Replies.{reply_of};
 ghost use Rattle.words.specs.declared.Word.TheVariants.{Host};
 ghost use Rattle.quick_said.specs.Said.{found_from};
-ghost use Rattle.quick_ask.specs.Standing.{situation_in};
+ghost use Rattle.quick_follow.specs.Standing.{situation_of};
 
 use crate::ending::end;
+use crate::standing::{Place, Standing};
 use answer_cryptogram as cryptogram;
 use decide_cryptogram::{Cryptogram, Given, Request};
 use decide_requests::reply::{HostHeard, HostReply, code_in, reply_of, response_code};
@@ -17,94 +17,66 @@ use decide_requests::requests::second_request;
 use decide_tvr::results::tsi_after_first_answer;
 use dol_fill::count::{sum, unsupplied};
 use dol_wanted::is_fillable;
-use numbers::HOST;
+use numbers::{APPROVED, DECLINED, FOR_LIST, HOST};
 use quick_ask::ask;
 use quick_ask::known::at_second;
-use quick_meet::meet::{decided, fail, payload_at, stop, word};
+use quick_meet::meet::{decided, fail, payload_at, word};
 use session_records::slots::value;
 use start_fields::fields;
 use verdict::Finding;
 use words::{Word, is_allowed};
 
+#[tactic(auto, unfolding(rulebook::specs::Turn::by_second))]
 fn by_second(given: Given) -> u8
     ensures { result ≡ by_second given }
 {
     match given {
-        Given::Of(cryptogram) => match cryptogram {
-            Cryptogram::Tc => 1,
-            Cryptogram::Aac => 2,
-            Cryptogram::Arqc => 2,
-        },
-        Given::Reserved => 2,
+        Given::Of(Cryptogram::Tc) => APPROVED,
+        Given::Of(Cryptogram::Aac) => DECLINED,
+        Given::Of(Cryptogram::Arqc) => DECLINED,
+        Given::Reserved => DECLINED,
     }
 }
 
 // After the second answer.
 fn from_second(
     tape: &[u8],
-    k: usize,
+    at: Place,
     request: Cryptogram,
     a: &[u8],
     tvr: [u8; 5],
     tsi: [u8; 2],
-    zeros: usize,
 ) -> Finding
     ensures { (s : Situation) → s.tvr ≡ tvr → s.tsi ≡ tsi
-        → result ≡ found_from (second_answered s request a.now) k zeros tape.now }
+        → result ≡ found_from (second_answered s request a.now) at.k at.zeros tape.now }
 {
     let why = cryptogram::cryptogram_reason(Request::Second(request), a);
     if why != 0 {
-        return end(tape, k, why, tvr, tsi, zeros);
+        return end(tape, at, why, tvr, tsi);
     }
-    decided(
-        tape,
-        k,
-        by_second(cryptogram::cryptogram_read(a)),
-        0,
-        tvr,
-        tsi,
-        zeros,
-    )
+    let outcome = by_second(cryptogram::cryptogram_read(a));
+    decided(tape, at.k, outcome, 0, tvr, tsi, at.zeros)
 }
 
 // The second request, once the issuer's reply is in.
-fn second(
-    tape: &[u8],
-    k: usize,
-    start: &[u8],
-    told: &[u8],
-    profile: [u8; 2],
-    tvr: [u8; 5],
-    tsi: [u8; 2],
-    reply: HostReply,
-    code: [u8; 2],
-    zeros: usize,
-) -> Finding
-    requires { length told.now ≡ slots_end }
-    ensures { result
-        ≡ found_from (replied (situation_in start.now told.now profile tvr tsi) reply code) k zeros
-        tape.now }
+fn second(tape: &[u8], at: Place, s: Standing, reply: HostReply, code: [u8; 2]) -> Finding
+    ensures { result ≡ found_from (replied (situation_of s.entry) reply code) at.k at.zeros tape.now }
 {
+    let told = s.told;
     let list = value(told, 0x8D);
     if !is_fillable(list) {
-        return end(tape, k, 9, tvr, tsi, zeros);
+        return end(tape, at, FOR_LIST, s.tvr, s.tsi);
     }
-    let request = second_request(reply, start, told, tvr);
-    let known = at_second(told, profile, tvr, tsi, response_code(reply, request, code));
-    let filled = sum(zeros, unsupplied(list, start, &known));
-    let m = ask::cryptogram(tape, k, request, list, start, &known);
-    if !m.there {
-        return stop(m, filled);
+    let request = second_request(reply, s.start, told, s.tvr);
+    let response = response_code(reply, request, code);
+    let known = at_second(told, s.profile, s.tvr, s.tsi, response);
+    let zeros = sum(at.zeros, unsupplied(list, s.start, &known));
+    if let Err(ruling) = ask::cryptogram(tape, at.k, request, list, s.start, &known) {
+        return Finding { ruling, zeros };
     }
-    from_second(
-        tape,
-        k + 2,
-        request,
-        payload_at(tape, k + 1),
-        tvr,
-        tsi,
-        filled,
-    )
+    let a = payload_at(tape, at.k + 1);
+    let next = Place { k: at.k + 2, zeros };
+    from_second(tape, next, request, a, s.tvr, s.tsi)
 }
 
 // The issuer's reply; what is none counts as unable.
@@ -118,131 +90,62 @@ fn reply_made(h: &[u8]) -> HostReply
 }
 
 // Where the issuer's reply is due.
-fn host(
-    tape: &[u8],
-    k: usize,
-    start: &[u8],
-    told: &[u8],
-    profile: [u8; 2],
-    tvr: [u8; 5],
-    tsi: [u8; 2],
-    zeros: usize,
-) -> Finding
-    requires { length told.now ≡ slots_end }
-    ensures { result
-        ≡ found_from (hears (says Host (situation_in start.now told.now profile tvr tsi))) k zeros
-        tape.now }
+fn host(tape: &[u8], at: Place, s: Standing) -> Finding
+    ensures { result ≡ found_from (hears (says Host (situation_of s.entry))) at.k at.zeros tape.now }
 {
-    let m = word(tape, k, HOST);
-    if !m.there {
-        return stop(m, zeros);
+    if let Err(ruling) = word(tape, at.k, HOST) {
+        return Finding {
+            ruling,
+            zeros: at.zeros,
+        };
     }
-    let p = payload_at(tape, k);
+    let p = payload_at(tape, at.k);
     if !is_allowed(Word::Host, 0, p) {
-        return fail(k, zeros);
+        return fail(at.k, at.zeros);
     }
-    second(
-        tape,
-        k + 1,
-        start,
-        told,
-        profile,
-        tvr,
-        tsi,
-        reply_made(p),
-        code_in(p),
-        zeros,
-    )
+    let next = Place {
+        k: at.k + 1,
+        zeros: at.zeros,
+    };
+    second(tape, next, s, reply_made(p), code_in(p))
 }
 
 // A terminal of type 0 goes on as unable.
-fn online(
-    tape: &[u8],
-    k: usize,
-    start: &[u8],
-    told: &[u8],
-    profile: [u8; 2],
-    tvr: [u8; 5],
-    tsi: [u8; 2],
-    zeros: usize,
-) -> Finding
-    requires { length told.now ≡ slots_end }
-    ensures { result
-        ≡ found_from (online_turn (situation_in start.now told.now profile tvr tsi)) k zeros tape.now }
+fn online(tape: &[u8], at: Place, s: Standing) -> Finding
+    ensures { result ≡ found_from (online_turn (situation_of s.entry)) at.k at.zeros tape.now }
 {
-    if fields::kind(start) == 0 {
-        return second(
-            tape,
-            k,
-            start,
-            told,
-            profile,
-            tvr,
-            tsi,
-            HostReply::Unable,
-            [0, 0],
-            zeros,
-        );
+    if fields::kind(s.start) == 0 {
+        return second(tape, at, s, HostReply::Unable, [0, 0]);
     }
-    host(tape, k, start, told, profile, tvr, tsi, zeros)
+    host(tape, at, s)
 }
 
-fn by_first(
-    tape: &[u8],
-    k: usize,
-    given: Given,
-    start: &[u8],
-    told: &[u8],
-    profile: [u8; 2],
-    tvr: [u8; 5],
-    tsi: [u8; 2],
-    zeros: usize,
-) -> Finding
-    requires { length told.now ≡ slots_end }
-    ensures { result
-        ≡ found_from (by_first given (situation_in start.now told.now profile tvr tsi)) k zeros tape.now }
+fn by_first(tape: &[u8], at: Place, given: Given, s: Standing) -> Finding
+    ensures { result ≡ found_from (by_first given (situation_of s.entry)) at.k at.zeros tape.now }
 {
     match given {
         Given::Of(cryptogram) => match cryptogram {
-            Cryptogram::Tc => decided(tape, k, 1, 0, tvr, tsi, zeros),
-            Cryptogram::Aac => decided(tape, k, 2, 0, tvr, tsi, zeros),
-            Cryptogram::Arqc => online(tape, k, start, told, profile, tvr, tsi, zeros),
+            Cryptogram::Tc => decided(tape, at.k, APPROVED, 0, s.tvr, s.tsi, at.zeros),
+            Cryptogram::Aac => decided(tape, at.k, DECLINED, 0, s.tvr, s.tsi, at.zeros),
+            Cryptogram::Arqc => online(tape, at, s),
         },
-        Given::Reserved => decided(tape, k, 2, 0, tvr, tsi, zeros),
+        Given::Reserved => decided(tape, at.k, DECLINED, 0, s.tvr, s.tsi, at.zeros),
     }
 }
 
 // After the first answer.
-pub fn from_first(
-    tape: &[u8],
-    k: usize,
-    request: Cryptogram,
-    a: &[u8],
-    start: &[u8],
-    told: &[u8],
-    profile: [u8; 2],
-    tvr: [u8; 5],
-    tsi: [u8; 2],
-    zeros: usize,
-) -> Finding
-    requires { length told.now ≡ slots_end }
-    ensures { result
-        ≡ found_from (first_answered (situation_in start.now told.now profile tvr tsi) request a.now) k zeros
-        tape.now }
+pub fn from_first(tape: &[u8], at: Place, request: Cryptogram, a: &[u8], s: Standing) -> Finding
+    ensures { result ≡ found_from (first_answered (situation_of s.entry) request a.now) at.k at.zeros tape.now }
 {
     let why = cryptogram::cryptogram_reason(Request::First(request), a);
     if why != 0 {
-        return end(tape, k, why, tvr, tsi, zeros);
+        return end(tape, at, why, s.tvr, s.tsi);
     }
+    let tsi = tsi_after_first_answer(s.tsi);
     by_first(
         tape,
-        k,
+        at,
         cryptogram::cryptogram_read(a),
-        start,
-        told,
-        profile,
-        tvr,
-        tsi_after_first_answer(tsi),
-        zeros,
+        Standing { tsi, ..s },
     )
 }

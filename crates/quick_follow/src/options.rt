@@ -7,12 +7,13 @@ ghost use Rattle.quick_said.specs.Said.{found_from};
 
 use crate::ending::end;
 use crate::records::read_all;
+use crate::standing::Place;
 use answer_gpo::{locator_read, options_reason, profile_read};
 use answer_select::{pdol_read, select_reason};
 use dol_fill::count::{sum, unsupplied};
 use quick_ask::ask;
 use quick_ask::known::at_options;
-use quick_meet::meet::{payload_at, stop};
+use quick_meet::meet::payload_at;
 use session_records::END;
 use slices::lay;
 use verdict::Finding;
@@ -23,7 +24,7 @@ fn from_options(tape: &[u8], start: &[u8], a: &[u8], zeros: usize) -> Finding
 {
     let why = options_reason(a);
     if why != 0 {
-        return end(tape, 5, why, [0; 5], [0; 2], zeros);
+        return end(tape, Place { k: 5, zeros }, why, [0; 5], [0; 2]);
     }
     let mut aip = [0; 2];
     lay(&mut aip, 0, profile_read(a));
@@ -36,26 +37,24 @@ fn from_select(tape: &[u8], start: &[u8], a: &[u8]) -> Finding
 {
     let why = select_reason(start, a);
     if why != 0 {
-        return end(tape, 3, why, [0; 5], [0; 2], 0);
+        return end(tape, Place { k: 3, zeros: 0 }, why, [0; 5], [0; 2]);
     }
     let told = [0; END];
     let known = at_options(&told, [0; 5], [0; 2]);
     let list = pdol_read(a);
-    let filled = sum(0, unsupplied(list, start, &known));
-    let m = ask::options(tape, 3, list, start, &known);
-    if !m.there {
-        return stop(m, filled);
+    let zeros = sum(0, unsupplied(list, start, &known));
+    if let Err(ruling) = ask::options(tape, 3, list, start, &known) {
+        return Finding { ruling, zeros };
     }
-    from_options(tape, start, payload_at(tape, 4), filled)
+    from_options(tape, start, payload_at(tape, 4), zeros)
 }
 
 // After START.
 pub fn from_start(tape: &[u8], start: &[u8]) -> Finding
     ensures { result ≡ found_from (opened (reading_of start.now)) 1 0 tape.now }
 {
-    let m = ask::select(tape, 1, start);
-    if !m.there {
-        return stop(m, 0);
+    if let Err(ruling) = ask::select(tape, 1, start) {
+        return Finding { ruling, zeros: 0 };
     }
     from_select(tape, start, payload_at(tape, 2))
 }

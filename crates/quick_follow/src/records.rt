@@ -12,17 +12,17 @@ ghost use Rattle.quick_ask.specs.Standing.{situation_in};
 
 use crate::ending::end;
 use crate::requests::all_read;
+use crate::standing::Place;
 use answer_afl::cursor;
 use answer_afl::cursor::Cursor;
 use answer_common::content::{NAMES, names_for};
 use quick_ask::ask;
-use quick_meet::Met;
-use quick_meet::meet::{payload_at, stop};
+use quick_meet::meet::payload_at;
 use session_records::END;
-use verdict::Finding;
+use verdict::{Finding, Ruling};
 
 // READ RECORD of the record at the cursor.
-fn read(tape: &[u8], k: usize, afl: &[u8], c: Cursor) -> Met
+fn read(tape: &[u8], k: usize, afl: &[u8], c: Cursor) -> Result<(), Ruling>
     ensures { result
         ≡ exchange_met (record_command (record_at afl.now c).0 (record_at afl.now c).1) k tape.now }
 {
@@ -43,17 +43,16 @@ pub fn read_all(tape: &[u8], start: &[u8], profile: [u8; 2], afl: &[u8], zeros: 
     let mut k = 5;
     let mut c = cursor::start();
     while cursor::is_left(afl, c) {
-        let m = read(tape, k, afl, c);
-        if !m.there {
-            return stop(m, zeros);
+        if let Err(ruling) = read(tape, k, afl, c) {
+            return Finding { ruling, zeros };
         }
         let why = answer_record::take(&mut told, &names[..n], payload_at(tape, k + 1));
         if why != 0 {
-            return end(tape, k + 2, why, [0; 5], [0; 2], zeros);
+            return end(tape, Place { k: k + 2, zeros }, why, [0; 5], [0; 2]);
         }
         let next = cursor::step(afl, c);
         c = next;
         k += 2;
     }
-    all_read(tape, k, start, &told, profile, zeros)
+    all_read(tape, Place { k, zeros }, start, &told, profile)
 }

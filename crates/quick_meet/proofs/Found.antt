@@ -93,7 +93,7 @@ module _ (t : List ℕ) (bytes : are_bytes t ≡ true) (k z : ℕ) (small : z < 
       (read_one t bytes k (owes w) z (reached (at (turn w p)) (k + 1)) n
       (as_kind t bytes k answer (eqb-true (kind_at k t) answer y) (reached (owes w) k) ∙ reads_answer rules k w p (payload_there t bytes k))
       ∙ (ap (λ (x : ℕ). said_from (reached (at (turn w p)) (k + 1)) x (entries_from (k + 1) t)) (sum_none z small)
-      ∙ sym (at_stands t bytes k z small answered k))))
+      ∙ sym (at_stands t bytes k z small answered))))
       (λ a. met t bytes k z small answered (pick_no _ _ _ a) (silence_found n a))))
 
 -- ---- a command and its answer
@@ -198,7 +198,7 @@ module _ (t : List ℕ) (bytes : are_bytes t ≡ true) (k z : ℕ) (small : z < 
         (either (eqb (kind_at k t) (due_kind h))
         (λ y.
         met t bytes k z small said (pick_yes _ _ _ y)
-        (heard_said n (eqb-true (kind_at k t) (due_kind h) y) ∙ sym (at_stands t bytes k z small said k)))
+        (heard_said n (eqb-true (kind_at k t) (due_kind h) y) ∙ sym (at_stands t bytes k z small said)))
         (λ o.
         met t bytes k z small said (pick_no _ _ _ o)
         (heard_broken n (heard_missing rules k h (payload_at k t) (kind_at k t) (eqb-false (kind_at k t) (due_kind h) o))
@@ -265,7 +265,7 @@ module _ (t : List ℕ) (bytes : are_bytes t ≡ true) (k z : ℕ) (small : z < 
         (either (eqb (kind_at k t) decision)
         (λ y.
         met t bytes k z small right (pick_yes _ _ _ y)
-        (decided_said n (eqb-true (kind_at k t) decision y) ∙ sym (at_stands t bytes k z small right k)))
+        (decided_said n (eqb-true (kind_at k t) decision y) ∙ sym (at_stands t bytes k z small right)))
         (λ o.
         met t bytes k z small right (pick_no _ _ _ o)
         (decided_broken n (decision_missing rules k outcome reason s (payload_at k t) (kind_at k t) (eqb-false (kind_at k t) decision o))

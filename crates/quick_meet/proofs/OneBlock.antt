@@ -9,7 +9,6 @@ use native.Mathlib.Omega.{arith}
 use lib.ListN.{length, drop}
 use lib.Pow.{are_bytes}
 use borrow.Author.Tests.{leb-true, leb-false}
-use Rattle.slices.specs.Choice.{pick}
 use Rattle.slices.specs.Tests.{alike}
 use Rattle.slices.proofs.Choice.{pick_yes, pick_no, either}
 use Rattle.slices.proofs.Comparing.{same_alike}
@@ -29,8 +28,8 @@ use Rattle.verdict_under.proofs.Blockwise.{block_payload}
 use Rattle.quick_said.specs.Said.{entries_from, said_from}
 use Rattle.quick_said.proofs.Reading.{sum_none, sum_small, said_one, closed_end, closed_more, broken_on}
 use Rattle.quick_said.proofs.Blocks.{from_end, from_more}
-use Rattle.quick_meet.specs.declared.Met.{Met}
-use Rattle.quick_meet.specs.Meeting.{is_end, stands, ends, breaks, goes_on, kind_at, payload_at}
+use Rattle.std.proofs.Common.{Ok}
+use Rattle.quick_meet.specs.Meeting.{Met, is_end, ends, breaks, goes_on, kind_at, payload_at}
 use Rattle.quick_meet.specs.Meeting.{closed_met}
 
 pub different : (a b : List ℕ) → alike a b ≡ false → a ≡ b → ⊥
@@ -83,16 +82,16 @@ module _ (t : List ℕ) (bytes : are_bytes t ≡ true) (k : ℕ) where
     met e h = h ∙ ap (λ (m : Met). goes_on m z rest) (sym e)
 
     pub at_ends : (n : ℕ) → goes_on (ends n) z rest ≡ finds (says Inconclusive n 0) z
-    unfolding goes_on ends pick
+    unfolding goes_on ends
     at_ends n = refl
 
     pub at_breaks : (n : ℕ) → goes_on (breaks n) z rest ≡ finds (says Fail n 0) z
-    unfolding goes_on breaks pick
+    unfolding goes_on breaks
     at_breaks n = refl
 
-    pub at_stands : (n : ℕ) → goes_on (stands n) z rest ≡ rest
-    unfolding goes_on stands pick
-    at_stands n = refl
+    pub at_stands : goes_on (Ok tt) z rest ≡ rest
+    unfolding goes_on
+    at_stands = refl
 
     -- an entry that breaks the rules where nothing is counted
     pub broken_here : (σ : Machine) → new_in σ ≡ 0 → is_end t k ≡ false

@@ -1,44 +1,51 @@
 -- What stands at a block, test by test.
 -- Assumes nothing.
 use mathlib.Core.Path.{◌≡◌, refl, sym, ap, ◌∙◌}
-use mathlib.Core.Bool.{true, false, false≢true}
+use mathlib.Core.Bool.{Bool, true, false, false≢true}
 use mathlib.Core.List.{List}
+use Rattle.std.proofs.Common.{Ok, Err}
 use Prim.Native.Nat.{ℕ, ◌+◌, ◌/◌, ◌≤◌}
 use native.Mathlib.Omega.{arith}
 use lib.Dec.{eqb}
 use lib.ListN.{length}
 use borrow.Author.Tests.{leb-false}
 use Rattle.slices.specs.Tests.{alike}
-use Rattle.slices.proofs.Choice.{pick_yes, pick_no, picked}
+use Rattle.slices.proofs.Choice.{picked}
 use Rattle.numbers.specs.Tables.{command, answer, silence}
 use Rattle.tape_read.specs.Entries.{block_size}
 use Rattle.verdict.specs.Saying.{finds}
+use Rattle.verdict.specs.declared.Ruling.{Ruling}
 use Rattle.verdict.specs.declared.Finding.{Finding}
-use Rattle.quick_meet.specs.declared.Met.{Met}
-use Rattle.quick_meet.specs.Meeting.{is_end, ends, breaks, goes_on, kind_at, payload_at}
+use Rattle.quick_meet.specs.Meeting.{Met, is_end, ends, breaks, goes_on, kind_at, payload_at}
 use Rattle.quick_meet.specs.Meeting.{word_met, closed_met, silence_met, answer_met, exchange_met}
 
-module _ (m : Met) (zeros : ℕ) (rest : Finding) where
-  pub goes_on_lem : m.there ≡ true → goes_on m zeros rest ≡ rest
-  unfolding goes_on
-  goes_on_lem h = pick_yes _ _ _ h
+-- whether what is due stands there
+abbrev pub there : Met → Bool
+there (Ok x) = true
+there (Err said) = false
 
-  pub stops : m.there ≡ false → goes_on m zeros rest ≡ finds m.said zeros
-  unfolding goes_on
-  stops h = pick_no _ _ _ h
+-- what is found of it, where it goes on and where it does not
+pub goes_on_lem : (m : Met) (z : ℕ) (rest : Finding) → there m ≡ true → goes_on m z rest ≡ rest
+unfolding goes_on
+goes_on_lem (Ok x) z rest h = refl
+goes_on_lem (Err said) z rest h = absurd (false≢true h)
+
+pub stops : (m : Met) (z : ℕ) (rest : Finding) (said : Ruling) → m ≡ Err said → goes_on m z rest ≡ finds said z
+unfolding goes_on
+stops m z rest said e = ap (λ (x : Met). goes_on x z rest) e
 
 -- what was met goes on, or is said, as the definition has it
 module _ (m due : Met) (e : m ≡ due) (zeros : ℕ) (rest : Finding) where
-  pub as_going : m.there ≡ true → rest ≡ goes_on due zeros rest
+  pub as_going : there m ≡ true → rest ≡ goes_on due zeros rest
   as_going h = sym (goes_on_lem m zeros rest h) ∙ ap (λ (x : Met). goes_on x zeros rest) e
 
-  pub as_stopped : m.there ≡ false → finds m.said zeros ≡ goes_on due zeros rest
-  as_stopped h = sym (stops m zeros rest h) ∙ ap (λ (x : Met). goes_on x zeros rest) e
+  pub as_stopped : (said : Ruling) → m ≡ Err said → finds said zeros ≡ goes_on due zeros rest
+  as_stopped said f = sym (stops m zeros rest said f) ∙ ap (λ (x : Met). goes_on x zeros rest) e
 
 -- what is there is inside the tape
 module _ (t : List ℕ) (k : ℕ) where
   abbrev Inside : ℕ → Met → Type 0
-  Inside n m = m.there ≡ true → n ≤ length t / block_size
+  Inside n m = there m ≡ true → n ≤ length t / block_size
 
   inside_not : (n : ℕ) → is_end t k ≡ false → (k + 1 ≡ n) → n ≤ length t / block_size
   unfolding is_end
@@ -52,9 +59,9 @@ module _ (t : List ℕ) (k : ℕ) where
 
 module _ (t : List ℕ) (k : ℕ) where
   abbrev Within : Met → Type 0
-  Within m = m.there ≡ true → k + 1 ≤ length t / block_size
+  Within m = there m ≡ true → k + 1 ≤ length t / block_size
 
-  never : (m : Met) → m.there ≡ false → Within m
+  never : (m : Met) → there m ≡ false → Within m
   never m f h = absurd (false≢true (sym f ∙ h))
 
   silence_within : Within (silence_met k t)
@@ -75,10 +82,10 @@ module _ (t : List ℕ) (k : ℕ) where
       (λ n. silence_within))
 
 -- a command that was answered
-pub exchange_inside : (t : List ℕ) (k : ℕ) (c : List ℕ) → (exchange_met c k t).there ≡ true → k + 2 ≤ length t / block_size
+pub exchange_inside : (t : List ℕ) (k : ℕ) (c : List ℕ) → there (exchange_met c k t) ≡ true → k + 2 ≤ length t / block_size
 unfolding exchange_met ends breaks
 exchange_inside t k c =
-    let within : Met → Type 0 = λ m. m.there ≡ true → k + 2 ≤ length t / block_size in
+    let within : Met → Type 0 = λ m. there m ≡ true → k + 2 ≤ length t / block_size in
     picked within (is_end t k) _ _ (λ y h. absurd (false≢true h))
     (λ f.
     picked within (eqb (kind_at k t) command) _ _

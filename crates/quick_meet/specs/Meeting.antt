@@ -1,7 +1,7 @@
 -- What stands at a block of a tape beside what is due there: it stands there and the session goes on, or something is said of the tape.
 -- Nobody need believe it: that it is what the rules say is proved (proofs/Found). 01, "The tape"; demand 3.
 -- Assumes nothing.
-use Rattle.std.specs.Prelude.{Bool, true, false, List, ℕ, ◌+◌, ◌/◌, eqb, leb, length}
+use Rattle.std.specs.Prelude.{Bool, List, ℕ, ◌+◌, ◌/◌, eqb, leb, length, Result, Ok, Err}
 use Rattle.slices.specs.Choice.{pick}
 use Rattle.slices.specs.Tests.{alike}
 use Rattle.numbers.specs.Tables.{command, answer, silence, decision}
@@ -10,8 +10,8 @@ use Rattle.tape_read.specs.Blocks.{kind_in, payload_in}
 use Rattle.tape_read.specs.Tapes.{block_at}
 use Rattle.verdict.specs.Saying.{says, finds}
 use Rattle.verdict.specs.declared.Verdict.TheVariants.{Pass, Fail, Inconclusive}
+use Rattle.verdict.specs.declared.Ruling.{Ruling}
 use Rattle.verdict.specs.declared.Finding.{Finding}
-use Rattle.quick_meet.specs.declared.Met.{Met}
 
 abbrev pub kind_at : ℕ → List ℕ → ℕ
 kind_at k t = kind_in (block_at k t)
@@ -23,25 +23,26 @@ payload_at k t = payload_in (block_at k t)
 unfoldable pub is_end : List ℕ → ℕ → Bool
 is_end t k = leb (length t / block_size) k
 
--- what is due stands there
-unfoldable pub stands : ℕ → Met
-stands k = record { there = true; said = says Inconclusive k 0 }
+-- what is due stands there, or what is said of the tape
+abbrev pub Met : Type 0
+Met = Result Unit Ruling
 
 -- the tape ends, after so many entries
 unfoldable pub ends : ℕ → Met
-ends k = record { there = false; said = says Inconclusive k 0 }
+ends k = Err (says Inconclusive k 0)
 
 -- the rules are broken at an entry
 unfoldable pub breaks : ℕ → Met
-breaks k = record { there = false; said = says Fail k 0 }
+breaks k = Err (says Fail k 0)
 
 -- what is found, where so many list entries are zeros, and where it goes on this is found of the rest
 unfoldable pub goes_on : Met → ℕ → Finding → Finding
-goes_on m zeros rest = pick m.there rest (finds m.said zeros)
+goes_on (Ok there) filled rest = rest
+goes_on (Err said) filled rest = finds said filled
 
 -- an entry of a kind
 unfoldable pub word_met : ℕ → ℕ → List ℕ → Met
-word_met kind k t = pick (is_end t k) (ends k) (pick (eqb (kind_at k t) kind) (stands k) (breaks k))
+word_met kind k t = pick (is_end t k) (ends k) (pick (eqb (kind_at k t) kind) (Ok tt) (breaks k))
 
 -- nothing may follow a closing silence
 unfoldable pub closed_met : ℕ → List ℕ → Met
@@ -53,7 +54,7 @@ silence_met k t =
 
 -- the card's answer, or its silence
 unfoldable pub answer_met : ℕ → List ℕ → Met
-answer_met k t = pick (is_end t k) (ends k) (pick (eqb (kind_at k t) answer) (stands k) (silence_met k t))
+answer_met k t = pick (is_end t k) (ends k) (pick (eqb (kind_at k t) answer) (Ok tt) (silence_met k t))
 
 -- a command, and then the card's answer
 unfoldable pub exchange_met : List ℕ → ℕ → List ℕ → Met

@@ -2,12 +2,3 @@
 #![tactic(auto)]
 
 pub mod meet;
-
-use verdict::Ruling;
-
-// Whether what is due stands there; where it does not, what is said of the tape.
-#[derive(Clone, Copy)]
-pub struct Met {
-    pub there: bool,
-    pub said: Ruling,
-}

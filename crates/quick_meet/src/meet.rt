@@ -3,10 +3,9 @@ ghost use Rattle.std.specs.Prelude.{◌≡◌, ◌+◌, ◌/◌, ◌≤◌, ◌�
 ghost use Rattle.tape_read.specs.Entries.{block_size};
 ghost use Rattle.verdict.specs.Saying.{says, finds};
 ghost use Rattle.verdict.specs.declared.Verdict.{Verdict as Said};
-ghost use Rattle.quick_meet.specs.Meeting.{is_end, stands as stands_at, ends as ends_at, breaks as breaks_at, kind_at, payload_at};
+ghost use Rattle.quick_meet.specs.Meeting.{is_end, ends as ends_at, breaks as breaks_at, kind_at, payload_at};
 ghost use Rattle.quick_meet.specs.Meeting.{word_met, closed_met, silence_met, answer_met, exchange_met, last_met, decision_met};
 
-use crate::Met;
 use numbers::{ANSWER, COMMAND, DECISION, SILENCE};
 use slices::alike;
 use tape_read::{BLOCK, block_at, kind, payload};
@@ -22,39 +21,18 @@ fn said(verdict: Verdict, place: usize) -> Ruling
     }
 }
 
-fn stands(k: usize) -> Met
-    ensures { result ≡ stands_at k }
-{
-    Met {
-        there: true,
-        said: said(Verdict::Inconclusive, k),
-    }
-}
-
-fn ends(k: usize) -> Met
+#[tactic(auto, unfolding(crate::specs::Meeting::ends))]
+fn ends(k: usize) -> Result<(), Ruling>
     ensures { result ≡ ends_at k }
 {
-    Met {
-        there: false,
-        said: said(Verdict::Inconclusive, k),
-    }
+    Err(said(Verdict::Inconclusive, k))
 }
 
-fn breaks(k: usize) -> Met
+#[tactic(auto, unfolding(crate::specs::Meeting::breaks))]
+fn breaks(k: usize) -> Result<(), Ruling>
     ensures { result ≡ breaks_at k }
 {
-    Met {
-        there: false,
-        said: said(Verdict::Fail, k),
-    }
-}
-
-// What is said where it does not go on.
-pub fn stop(m: Met, zeros: usize) -> Finding
-    ensures { result ≡ finds m.said zeros }
-{
-    let ruling = m.said;
-    Finding { ruling, zeros }
+    Err(said(Verdict::Fail, k))
 }
 
 // The rules are broken at an entry.
@@ -67,6 +45,7 @@ pub fn fail(k: usize, zeros: usize) -> Finding
     }
 }
 
+#[tactic(auto, unfolding(crate::specs::Meeting::is_end))]
 fn is_end(tape: &[u8], k: usize) -> bool
     ensures { result ≡ is_end tape.now k }
 {
@@ -85,19 +64,21 @@ pub fn payload_at(tape: &[u8], k: usize) -> &[u8]
     payload(block_at(tape, k))
 }
 
-pub fn word(tape: &[u8], k: usize, due: u8) -> Met
+#[tactic(auto, unfolding(slices::specs::Choice::pick, crate::specs::Meeting::word_met))]
+pub fn word(tape: &[u8], k: usize, due: u8) -> Result<(), Ruling>
     ensures { result ≡ word_met due k tape.now }
 {
     if is_end(tape, k) {
         return ends(k);
     }
     if kind_at(tape, k) == due {
-        return stands(k);
+        return Ok(());
     }
     breaks(k)
 }
 
-fn closed(tape: &[u8], k: usize) -> Met
+#[tactic(auto, unfolding(slices::specs::Choice::pick, crate::specs::Meeting::closed_met))]
+fn closed(tape: &[u8], k: usize) -> Result<(), Ruling>
     ensures { result ≡ closed_met k tape.now }
 {
     if is_end(tape, k) {
@@ -106,7 +87,8 @@ fn closed(tape: &[u8], k: usize) -> Met
     breaks(k)
 }
 
-fn silence(tape: &[u8], k: usize) -> Met
+#[tactic(auto, unfolding(slices::specs::Choice::pick, crate::specs::Meeting::silence_met))]
+fn silence(tape: &[u8], k: usize) -> Result<(), Ruling>
     requires { k + 1 ≤ length tape.now / block_size }
     ensures { result ≡ silence_met k tape.now }
 {
@@ -119,20 +101,22 @@ fn silence(tape: &[u8], k: usize) -> Met
     closed(tape, k + 1)
 }
 
-fn answered(tape: &[u8], k: usize) -> Met
+#[tactic(auto, unfolding(slices::specs::Choice::pick, crate::specs::Meeting::answer_met, crate::specs::Meeting::is_end))]
+fn answered(tape: &[u8], k: usize) -> Result<(), Ruling>
     ensures { result ≡ answer_met k tape.now }
 {
     if tape.len() / BLOCK <= k {
         return ends(k);
     }
     if kind_at(tape, k) == ANSWER {
-        return stands(k);
+        return Ok(());
     }
     silence(tape, k)
 }
 
 // A command, and behind it the card's answer.
-pub fn exchange(tape: &[u8], k: usize, command: &[u8]) -> Met
+#[tactic(auto, unfolding(slices::specs::Choice::pick, crate::specs::Meeting::exchange_met, crate::specs::Meeting::is_end))]
+pub fn exchange(tape: &[u8], k: usize, command: &[u8]) -> Result<(), Ruling>
     ensures { result ≡ exchange_met command.now k tape.now }
 {
     if tape.len() / BLOCK <= k {
@@ -147,6 +131,7 @@ pub fn exchange(tape: &[u8], k: usize, command: &[u8]) -> Met
     breaks(k)
 }
 
+#[tactic(auto, unfolding(slices::specs::Choice::pick, crate::specs::Meeting::last_met))]
 fn last(tape: &[u8], k: usize, zeros: usize) -> Finding
     ensures { result ≡ last_met k zeros tape.now }
 {
@@ -171,9 +156,8 @@ pub fn decided(
 ) -> Finding
     ensures { result ≡ decision_met (outcome ∷ reason ∷ (tvr ++ tsi)) k zeros tape.now }
 {
-    let m = word(tape, k, DECISION);
-    if !m.there {
-        return stop(m, zeros);
+    if let Err(ruling) = word(tape, k, DECISION) {
+        return Finding { ruling, zeros };
     }
     let due = [
         outcome, reason, tvr[0], tvr[1], tvr[2], tvr[3], tvr[4], tsi[0], tsi[1],

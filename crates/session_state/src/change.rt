@@ -69,36 +69,13 @@ pub fn begun_listing(start: &[u8]) -> State
 pub fn with_stand(s: State, stand: Stand) -> State
     ensures { result ≡ with_stand stand s }
 {
-    let waiting = s.waiting;
-    let start = s.start;
-    let size = s.size;
-    let tvr = s.tvr;
-    let tsi = s.tsi;
-    let profile = s.profile;
-    let locator = s.locator;
-    let cursor = s.cursor;
-    let told = s.told;
-    let listing = s.listing;
-    State {
-        waiting,
-        start,
-        size,
-        tvr,
-        tsi,
-        profile,
-        locator,
-        cursor,
-        told,
-        listing,
-        stand,
-    }
+    State { stand, ..s }
 }
 
-pub fn with_told(mut s: State, told: Store) -> State
+pub fn with_told(s: State, told: Store) -> State
     ensures { result ≡ with_told told s }
 {
-    s.told = told;
-    s
+    State { told, ..s }
 }
 
 pub fn with_options(mut s: State, answer: &[u8]) -> State
@@ -115,24 +92,11 @@ pub fn with_options(mut s: State, answer: &[u8]) -> State
 pub fn change(s: State, waiting: Waiting, tvr: [u8; 5], tsi: [u8; 2], cursor: Cursor) -> State
     ensures { result ≡ changed waiting tvr tsi cursor s }
 {
-    let start = s.start;
-    let size = s.size;
-    let profile = s.profile;
-    let locator = s.locator;
-    let told = s.told;
-    let listing = s.listing;
-    let stand = s.stand;
     State {
         waiting,
-        start,
-        size,
         tvr,
         tsi,
-        profile,
-        locator,
         cursor,
-        told,
-        listing,
-        stand,
+        ..s
     }
 }

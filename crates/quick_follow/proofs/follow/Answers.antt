@@ -13,16 +13,16 @@ use Rattle.rulebook.specs.Turn.{opened, allowed, after}
 use Rattle.quick_said.specs.Said.{found_from}
 use Rattle.quick_follow.proofs.Going.{heard_stops, heard_fails, heard_goes}
 use mathlib.Core.Bool.{not}
+use Rattle.quick_meet.proofs.Tests.{there}
 use Rattle.quick_follow.proofs.follow.Goals as goal
 
-pub returns-then-not-m : goal.returns-then-not-m
+pub returns-in-Err : goal.returns-in-Err
 unfolding due_kind
-returns-then-not-m c =
+returns-in-Err c =
     let t = c.args.tape.now in
     let bytes = bytes_each t (λ i h. omega (arith, c.type_inv.tape i)) in
     let none_yet : 0 < 2 ^ 64 = omega arith in
-    c.stop.ensures
-    ∙ heard_stops t bytes 0 0 none_yet terminal c.word-m.result c.word-m.ensures (not-true _ c.if-not-m.true)
+    heard_stops t bytes 0 0 none_yet terminal c.word.result c.word.ensures _ c.in-Err.is
 
 pub returns-then-not-valid_start : goal.returns-then-not-valid_start
 unfolding due_kind allowed
@@ -32,7 +32,7 @@ returns-then-not-valid_start c =
     let none_yet : 0 < 2 ^ 64 = omega arith in
     let valid = c.valid_start.ensures ∙ ap valid_start c.payload_at-start.ensures in
     c.fail.ensures
-    ∙ heard_fails t bytes 0 0 none_yet terminal c.word-m.result c.word-m.ensures (not-false _ c.if-not-m.false)
+    ∙ heard_fails t bytes 0 0 none_yet terminal c.word.result c.word.ensures (ap there c.in_default.is)
     (sym valid ∙ not-true _ (ap not c.if-not-valid_start.true))
 
 pub returns : goal.returns
@@ -44,5 +44,5 @@ returns c =
     let valid = c.valid_start.ensures ∙ ap valid_start c.payload_at-start.ensures in
     c.from_start.ensures
     ∙ (ap (λ (x : List ℕ). found_from (opened (reading_of x)) 1 0 t) c.payload_at-start.ensures
-    ∙ heard_goes t bytes 0 0 none_yet terminal c.word-m.result c.word-m.ensures (not-false _ c.if-not-m.false)
+    ∙ heard_goes t bytes 0 0 none_yet terminal c.word.result c.word.ensures (ap there c.in_default.is)
     (sym valid ∙ not-false _ (ap not c.if-not-valid_start.false)))

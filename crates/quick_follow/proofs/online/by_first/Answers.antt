@@ -20,11 +20,11 @@ returns-in-Tc c =
     let args = c.args in
     let t = args.tape.now in
     let bytes = bytes_each t (λ i h. omega (arith, c.type_inv.tape i)) in
-    let small : args.zeros < 2 ^ 64 = omega (arith, c.well_formed) in
-    let s = situation_in args.start.now args.told.now args.profile args.tvr args.tsi in
+    let small : args.at.zeros < 2 ^ 64 = omega (arith, c.well_formed) in
+    let s = situation_in args.s.start.now args.s.told.now args.s.profile args.s.tvr args.s.tsi in
     c.decided.ensures
-    ∙ (decided_found t bytes args.k args.zeros small s approved
-    ∙ sym (ap (λ (g : Given). found_from (by_first g s) args.k args.zeros t) e))
+    ∙ (decided_found t bytes args.at.k args.at.zeros small s approved
+    ∙ sym (ap (λ (g : Given). found_from (by_first g s) args.at.k args.at.zeros t) e))
 
 pub returns-in-Aac : goal.returns-in-Aac
 unfolding by_first
@@ -33,19 +33,19 @@ returns-in-Aac c =
     let args = c.args in
     let t = args.tape.now in
     let bytes = bytes_each t (λ i h. omega (arith, c.type_inv.tape i)) in
-    let small : args.zeros < 2 ^ 64 = omega (arith, c.well_formed) in
-    let s = situation_in args.start.now args.told.now args.profile args.tvr args.tsi in
+    let small : args.at.zeros < 2 ^ 64 = omega (arith, c.well_formed) in
+    let s = situation_in args.s.start.now args.s.told.now args.s.profile args.s.tvr args.s.tsi in
     c.decided-in-Aac.ensures
-    ∙ (decided_found t bytes args.k args.zeros small s declined
-    ∙ sym (ap (λ (g : Given). found_from (by_first g s) args.k args.zeros t) e))
+    ∙ (decided_found t bytes args.at.k args.at.zeros small s declined
+    ∙ sym (ap (λ (g : Given). found_from (by_first g s) args.at.k args.at.zeros t) e))
 
 pub returns-in-Arqc : goal.returns-in-Arqc
 unfolding by_first
 returns-in-Arqc c =
     let e = c.in-Of.is ∙ ap Of c.in-Arqc.is in
     let args = c.args in
-    let s = situation_in args.start.now args.told.now args.profile args.tvr args.tsi in
-    c.online.ensures ∙ sym (ap (λ (g : Given). found_from (by_first g s) args.k args.zeros args.tape.now) e)
+    let s = situation_in args.s.start.now args.s.told.now args.s.profile args.s.tvr args.s.tsi in
+    c.online.ensures ∙ sym (ap (λ (g : Given). found_from (by_first g s) args.at.k args.at.zeros args.tape.now) e)
 
 pub returns-in-Reserved : goal.returns-in-Reserved
 unfolding by_first
@@ -53,8 +53,8 @@ returns-in-Reserved c =
     let args = c.args in
     let t = args.tape.now in
     let bytes = bytes_each t (λ i h. omega (arith, c.type_inv.tape i)) in
-    let small : args.zeros < 2 ^ 64 = omega (arith, c.well_formed) in
-    let s = situation_in args.start.now args.told.now args.profile args.tvr args.tsi in
+    let small : args.at.zeros < 2 ^ 64 = omega (arith, c.well_formed) in
+    let s = situation_in args.s.start.now args.s.told.now args.s.profile args.s.tvr args.s.tsi in
     c.decided-in-Reserved.ensures
-    ∙ (decided_found t bytes args.k args.zeros small s declined
-    ∙ sym (ap (λ (g : Given). found_from (by_first g s) args.k args.zeros t) c.in-Reserved.is))
+    ∙ (decided_found t bytes args.at.k args.at.zeros small s declined
+    ∙ sym (ap (λ (g : Given). found_from (by_first g s) args.at.k args.at.zeros t) c.in-Reserved.is))

@@ -21,10 +21,10 @@ returns-then-why-ne0 c =
     let args = c.args in
     let t = args.tape.now in
     let bytes = bytes_each t (λ i h. omega (arith, c.type_inv.tape i)) in
-    let small : args.zeros < 2 ^ 64 = omega (arith, c.well_formed) in
-    let s = situation_in args.start.now args.told.now args.profile args.tvr args.tsi in
+    let small : args.at.zeros < 2 ^ 64 = omega (arith, c.well_formed) in
+    let s = situation_in args.s.start.now args.s.told.now args.s.profile args.s.tvr args.s.tsi in
     c.end.ensures
-    ∙ reason_ends t bytes args.k args.zeros small s _ _ (by_first (cryptogram_of args.a.now) (answered s))
+    ∙ reason_ends t bytes args.at.k args.at.zeros small s _ _ (by_first (cryptogram_of args.a.now) (answered s))
     c.cryptogram_reason-why.ensures (cryptogram_small (allowed_by (First args.request)) args.a.now) c.if-why-ne0.true
 
 pub returns : goal.returns
@@ -33,8 +33,8 @@ returns c =
     let args = c.args in
     let t = args.tape.now in
     let bytes = bytes_each t (λ i h. omega (arith, c.type_inv.tape i)) in
-    let small : args.zeros < 2 ^ 64 = omega (arith, c.well_formed) in
-    let s = situation_in args.start.now args.told.now args.profile args.tvr args.tsi in
+    let small : args.at.zeros < 2 ^ 64 = omega (arith, c.well_formed) in
+    let s = situation_in args.s.start.now args.s.told.now args.s.profile args.s.tvr args.s.tsi in
     let allowed = allowed_by (First args.request) in
     let given =
     c.cryptogram_read.ensures
@@ -42,7 +42,7 @@ returns c =
     in
     c.by_first.ensures
     ∙ ((λ i. found_from (by_first (given i)
-    (situation_in args.start.now args.told.now args.profile args.tvr (c.tsi_after_first_answer.ensures i)))
-    args.k args.zeros t)
-    ∙ reason_goes t bytes args.k args.zeros small s _ (cryptogram_reason allowed args.a.now) _
+    (situation_in args.s.start.now args.s.told.now args.s.profile args.s.tvr (c.tsi_after_first_answer-tsi.ensures i)))
+    args.at.k args.at.zeros t)
+    ∙ reason_goes t bytes args.at.k args.at.zeros small s _ (cryptogram_reason allowed args.a.now) _
     c.cryptogram_reason-why.ensures c.if-why-ne0.false)

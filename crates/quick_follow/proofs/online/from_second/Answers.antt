@@ -23,12 +23,12 @@ returns-then-why-ne0 c s e f =
     let args = c.args in
     let t = args.tape.now in
     let bytes = bytes_each t (λ i h. omega (arith, c.type_inv.tape i)) in
-    let small : args.zeros < 2 ^ 64 = omega (arith, c.well_formed) in
+    let small : args.at.zeros < 2 ^ 64 = omega (arith, c.well_formed) in
     let allowed = allowed_by (Second args.request) in
     c.end.ensures
-    ∙ (ap (λ (x : List ℕ). decision_met (terminated ∷ c.cryptogram_reason-why.result % 256 ∷ x) args.k args.zeros t)
+    ∙ (ap (λ (x : List ℕ). decision_met (terminated ∷ c.cryptogram_reason-why.result % 256 ∷ x) args.at.k args.at.zeros t)
     (sym (ap₂ ◌++◌ e f))
-    ∙ reason_ends t bytes args.k args.zeros small s _ _ (decided (by_second (cryptogram_of args.a.now)) s)
+    ∙ reason_ends t bytes args.at.k args.at.zeros small s _ _ (decided (by_second (cryptogram_of args.a.now)) s)
     c.cryptogram_reason-why.ensures (cryptogram_small allowed args.a.now) c.if-why-ne0.true)
 
 pub returns : goal.returns
@@ -37,13 +37,13 @@ returns c s e f =
     let args = c.args in
     let t = args.tape.now in
     let bytes = bytes_each t (λ i h. omega (arith, c.type_inv.tape i)) in
-    let small : args.zeros < 2 ^ 64 = omega (arith, c.well_formed) in
+    let small : args.at.zeros < 2 ^ 64 = omega (arith, c.well_formed) in
     let allowed = allowed_by (Second args.request) in
     let good = sym c.cryptogram_reason-why.ensures ∙ c.if-why-ne0.false in
     let given = c.cryptogram_read.ensures ∙ cryptogram_good allowed args.a.now good in
-    let outcome = c.by_second.ensures ∙ ap by_second given in
+    let outcome = c.by_second-outcome.ensures ∙ ap by_second given in
     c.decided.ensures
-    ∙ ((λ i. decision_met (outcome i ∷ 0 ∷ (sym e i ++ sym f i)) args.k args.zeros t)
-    ∙ (decided_found t bytes args.k args.zeros small s (by_second (cryptogram_of args.a.now))
-    ∙ reason_goes t bytes args.k args.zeros small s _ (cryptogram_reason allowed args.a.now) _
+    ∙ ((λ i. decision_met (outcome i ∷ 0 ∷ (sym e i ++ sym f i)) args.at.k args.at.zeros t)
+    ∙ (decided_found t bytes args.at.k args.at.zeros small s (by_second (cryptogram_of args.a.now))
+    ∙ reason_goes t bytes args.at.k args.at.zeros small s _ (cryptogram_reason allowed args.a.now) _
     c.cryptogram_reason-why.ensures c.if-why-ne0.false))

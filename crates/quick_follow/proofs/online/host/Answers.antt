@@ -15,18 +15,18 @@ use Rattle.quick_said.specs.Said.{found_from}
 use Rattle.quick_ask.specs.Standing.{situation_in}
 use Rattle.quick_follow.proofs.Going.{heard_stops, heard_fails, heard_goes, heard_inside}
 use mathlib.Core.Bool.{not}
+use Rattle.quick_meet.proofs.Tests.{there}
 use Rattle.quick_follow.proofs.online.host.Goals as goal
 
-pub returns-then-not-m : goal.returns-then-not-m
+pub returns-in-Err : goal.returns-in-Err
 unfolding due_kind word_kind
-returns-then-not-m c =
+returns-in-Err c =
     let args = c.args in
     let t = args.tape.now in
     let bytes = bytes_each t (λ i h. omega (arith, c.type_inv.tape i)) in
-    let small : args.zeros < 2 ^ 64 = omega (arith, c.well_formed) in
-    let h = says Host (situation_in args.start.now args.told.now args.profile args.tvr args.tsi) in
-    c.stop.ensures
-    ∙ heard_stops t bytes args.k args.zeros small h c.word-m.result c.word-m.ensures (not-true _ c.if-not-m.true)
+    let small : args.at.zeros < 2 ^ 64 = omega (arith, c.well_formed) in
+    let h = says Host (situation_in args.s.start.now args.s.told.now args.s.profile args.s.tvr args.s.tsi) in
+    heard_stops t bytes args.at.k args.at.zeros small h c.word.result c.word.ensures _ c.in-Err.is
 
 pub returns-then-not-is_allowed : goal.returns-then-not-is_allowed
 unfolding due_kind word_kind allowed wanted_in
@@ -34,17 +34,17 @@ returns-then-not-is_allowed c =
     let args = c.args in
     let t = args.tape.now in
     let bytes = bytes_each t (λ i h. omega (arith, c.type_inv.tape i)) in
-    let small : args.zeros < 2 ^ 64 = omega (arith, c.well_formed) in
-    let h = says Host (situation_in args.start.now args.told.now args.profile args.tvr args.tsi) in
+    let small : args.at.zeros < 2 ^ 64 = omega (arith, c.well_formed) in
+    let h = says Host (situation_in args.s.start.now args.s.told.now args.s.profile args.s.tvr args.s.tsi) in
     let test = sym (c.is_allowed.ensures ∙ ap (word_allowed Host 0) c.payload_at-p.ensures)
     ∙ not-true _ (ap not c.if-not-is_allowed.true) in
     c.fail.ensures
-    ∙ heard_fails t bytes args.k args.zeros small h c.word-m.result c.word-m.ensures (not-false _ c.if-not-m.false) test
+    ∙ heard_fails t bytes args.at.k args.at.zeros small h c.word.result c.word.ensures (ap there c.in_default.is) test
 
-pub overflow_add-k : goal.overflow_add-k
-overflow_add-k c =
-    let inside = heard_inside c.args.tape.now c.args.k _ c.word-m.result c.word-m.ensures
-    (not-false _ c.if-not-m.false) in
+pub overflow_add-next : goal.overflow_add-next
+overflow_add-next c =
+    let inside = heard_inside c.args.tape.now c.args.at.k _ c.word.result c.word.ensures
+    (ap there c.in_default.is) in
     omega (arith, c.well_formed)
 
 pub returns : goal.returns
@@ -53,13 +53,13 @@ returns c =
     let args = c.args in
     let t = args.tape.now in
     let bytes = bytes_each t (λ i h. omega (arith, c.type_inv.tape i)) in
-    let small : args.zeros < 2 ^ 64 = omega (arith, c.well_formed) in
-    let s = situation_in args.start.now args.told.now args.profile args.tvr args.tsi in
+    let small : args.at.zeros < 2 ^ 64 = omega (arith, c.well_formed) in
+    let s = situation_in args.s.start.now args.s.told.now args.s.profile args.s.tvr args.s.tsi in
     let test = sym (c.is_allowed.ensures ∙ ap (word_allowed Host 0) c.payload_at-p.ensures)
     ∙ not-false _ (ap not c.if-not-is_allowed.false) in
     let reply = c.reply_made.ensures ∙ ap (λ (x : List ℕ). reply_made (reply_of x)) c.payload_at-p.ensures in
     let code = c.code_in.ensures ∙ ap code_in c.payload_at-p.ensures in
     c.second.ensures
-    ∙ ((λ i. found_from (replied s (reply i) (code i)) (args.k + 1) args.zeros t)
-    ∙ heard_goes t bytes args.k args.zeros small (says Host s) c.word-m.result c.word-m.ensures
-    (not-false _ c.if-not-m.false) test)
+    ∙ ((λ i. found_from (replied s (reply i) (code i)) (args.at.k + 1) args.at.zeros t)
+    ∙ heard_goes t bytes args.at.k args.at.zeros small (says Host s) c.word.result c.word.ensures
+    (ap there c.in_default.is) test)

@@ -23,11 +23,11 @@ pub returns-then-kind-eq0 : goal.returns-then-kind-eq0
 unfolding online replied
 returns-then-kind-eq0 c =
     let args = c.args in
-    let s = situation_in args.start.now args.told.now args.profile args.tvr args.tsi in
-    let q = second_request Unable (reading_of args.start.now) (told_in args.told.now) args.tvr in
+    let s = situation_in args.s.start.now args.s.told.now args.s.profile args.s.tvr args.s.tsi in
+    let q = second_request Unable (reading_of args.s.start.now) (told_in args.s.told.now) args.s.tvr in
     let same = ap (λ (x : List ℕ). pick (fillable (list_in s 0x8D)) (asks (second s q x)) (ended 9 s)) (unable_code q (0 ∷ 0 ∷ []) []) in
     c.second.ensures
-    ∙ ap (λ (p : Phase). found_from p args.k args.zeros args.tape.now)
+    ∙ ap (λ (p : Phase). found_from p args.at.k args.at.zeros args.tape.now)
     (same ∙ sym (pick_yes _ _ _ (eq-eqb _ 0 (sym c.kind.ensures ∙ c.if-kind-eq0.true))))
 
 pub returns : goal.returns
@@ -35,5 +35,5 @@ unfolding online
 returns c =
     let args = c.args in
     c.host.ensures
-    ∙ ap (λ (p : Phase). found_from p args.k args.zeros args.tape.now)
+    ∙ ap (λ (p : Phase). found_from p args.at.k args.at.zeros args.tape.now)
     (sym (pick_no _ _ _ (ne_eqb _ 0 (λ e. c.if-kind-eq0.false (c.kind.ensures ∙ e)))))

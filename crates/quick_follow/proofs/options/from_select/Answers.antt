@@ -4,7 +4,6 @@ use mathlib.Core.Path.{sym, ap, ◌∙◌}
 use Prim.Native.Nat.{◌^◌, ◌<◌}
 use native.Mathlib.Omega.{arith}
 use Rattle.tape_crc.proofs.Bytes.{bytes_each}
-use borrow.Author.Tests.{not-true, not-false}
 use Rattle.slices.specs.Writing.{zeros}
 use Rattle.start_fields.specs.Reading.{reading_of}
 use Rattle.session_records.specs.Slots.{told_in}
@@ -18,6 +17,7 @@ use Rattle.rulebook.specs.Turn.{selected, turn}
 use Rattle.rulebook_zeros.specs.Zeros.{unsupplied_asking}
 use Rattle.quick_follow.proofs.Going.{filled_as, lacks_as, asked_stops, asked_goes, reason_ends, reason_goes}
 use Rattle.quick_follow.proofs.Beginning.{begun_known}
+use Rattle.quick_meet.proofs.Tests.{there}
 use Rattle.quick_follow.proofs.options.from_select.Goals as goal
 
 pub returns-then-why-ne0 : goal.returns-then-why-ne0
@@ -34,9 +34,9 @@ returns-then-why-ne0 c =
     ∙ reason_ends t bytes 3 0 none_yet s _ _ (asks (optioning s (pdol_of a))) c.select_reason-why.ensures (select_small terminal a)
     c.if-why-ne0.true
 
-pub returns-then-not-m : goal.returns-then-not-m
+pub returns-in-Err : goal.returns-in-Err
 unfolding selected begun zeros command_of unsupplied_asking
-returns-then-not-m c =
+returns-in-Err c =
     let args = c.args in
     let t = args.tape.now in
     let a = args.a.now in
@@ -49,11 +49,10 @@ returns-then-not-m c =
     let list = c.pdol_read-list.ensures ∙ pdol_good terminal a good in
     let due = ap options_command (filled_as terminal known list) in
     let lacks = c.unsupplied.ensures ∙ lacks_as terminal known list in
-    let sum = c.sum-filled.ensures in
+    let sum = c.sum-zeros.ensures in
     let w = optioning s (pdol_of a) in
     let same = reason_goes t bytes 3 0 none_yet s _ (select_reason terminal a) (asks w) c.select_reason-why.ensures c.if-why-ne0.false in
-    c.stop.ensures
-    ∙ (asked_stops t bytes 3 0 w c.options-m.result _ _ _ c.options-m.ensures due sum lacks (not-true _ c.if-not-m.true)
+    (asked_stops t bytes 3 0 w c.options.result _ _ _ c.options.ensures due sum lacks _ c.in-Err.is
     ∙ same)
 
 pub returns : goal.returns
@@ -71,10 +70,10 @@ returns c =
     let list = c.pdol_read-list.ensures ∙ pdol_good terminal a good in
     let due = ap options_command (filled_as terminal known list) in
     let lacks = c.unsupplied.ensures ∙ lacks_as terminal known list in
-    let sum = c.sum-filled.ensures in
+    let sum = c.sum-zeros.ensures in
     let w = optioning s (pdol_of a) in
     let same = reason_goes t bytes 3 0 none_yet s _ (select_reason terminal a) (asks w) c.select_reason-why.ensures c.if-why-ne0.false in
     c.from_options.ensures
-    ∙ (asked_goes t bytes 3 0 w c.options-m.result _ _ _ c.options-m.ensures due sum lacks _ c.payload_at.ensures
-    (not-false _ c.if-not-m.false)
+    ∙ (asked_goes t bytes 3 0 w c.options.result _ _ _ c.options.ensures due sum lacks _ c.payload_at.ensures
+    (ap there c.in_default.is)
     ∙ same)

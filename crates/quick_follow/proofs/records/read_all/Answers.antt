@@ -8,7 +8,6 @@ use native.Mathlib.Omega.{arith}
 use Rattle.tape_crc.proofs.Bytes.{bytes_each}
 use lib.ListN.{length}
 use lib.Seq.{length-take-le}
-use borrow.Author.Tests.{not-true, not-false}
 use Rattle.slices.specs.Tests.{is_some}
 use Rattle.slices.specs.Writing.{zeros}
 use Rattle.start_fields.specs.Reading.{reading_of}
@@ -28,6 +27,7 @@ use Rattle.quick_ask.specs.Standing.{situation_in}
 use Rattle.quick_follow.proofs.Going.{asked_stops, asked_goes, asked_inside, reason_ends, reason_goes}
 use Rattle.quick_follow.proofs.Recording.{next_due, fewer_left, record_reason_lem, record_whole, record_after}
 use Rattle.quick_follow.proofs.records.read_all.Invariants.{from}
+use Rattle.quick_meet.proofs.Tests.{there}
 use Rattle.quick_follow.proofs.records.read_all.Goals as goal
 
 pub loop-names-init : goal.loop-names-init
@@ -40,9 +40,9 @@ loop-names-init c =
           (ap (remaining afl) c.start-c.ensures ∙ all_remain afl),
     )
 
-pub returns-then-not-m : goal.returns-then-not-m
+pub returns-in-Err : goal.returns-in-Err
 unfolding command_of unsupplied_asking
-returns-then-not-m c =
+returns-in-Err c =
     let l = c.loop-names in
     let args = c.args in
     let t = args.tape.now in
@@ -54,9 +54,8 @@ returns-then-not-m c =
     let rest = remaining afl (stepped afl l.c) in
     let w = reading s (record_at afl l.c).0 (record_at afl l.c).1 rest in
     let back = ap (λ (p : Phase). found_from p l.k args.zeros t) (sym (next_due s afl l.c left)) ∙ l.invariant.1 in
-    c.stop.ensures
-    ∙ (asked_stops t bytes l.k args.zeros w c.read-m.result _ 0 args.zeros c.read-m.ensures refl
-    (sym (sum_none args.zeros small)) refl (not-true _ c.if-not-m.true)
+    (asked_stops t bytes l.k args.zeros w c.read.result _ 0 args.zeros c.read.ensures refl
+    (sym (sum_none args.zeros small)) refl _ c.in-Err.is
     ∙ back)
 
 pub slice_bounds-take-end-in-loop-names : goal.slice_bounds-take-end-in-loop-names
@@ -67,15 +66,15 @@ slice_bounds-take-end-in-loop-names c =
 pub overflow_add-k : goal.overflow_add-k
 overflow_add-k c =
     let l = c.loop-names in
-    let inside = asked_inside c.args.tape.now l.k c.read-m.result _ c.read-m.ensures
-    (not-false _ c.if-not-m.false) in
+    let inside = asked_inside c.args.tape.now l.k c.read.result _ c.read.ensures
+    (ap there c.in_default.is) in
     omega (arith, c.well_formed)
 
 pub overflow_add-k-then-why-ne0 : goal.overflow_add-k-then-why-ne0
 overflow_add-k-then-why-ne0 c =
     let l = c.loop-names in
-    let inside = asked_inside c.args.tape.now l.k c.read-m.result _ c.read-m.ensures
-    (not-false _ c.if-not-m.false) in
+    let inside = asked_inside c.args.tape.now l.k c.read.result _ c.read.ensures
+    (ap there c.in_default.is) in
     omega (arith, c.well_formed)
 
 pub returns-then-why-ne0 : goal.returns-then-why-ne0
@@ -98,8 +97,8 @@ returns-then-why-ne0 c =
     let names = names_for (reading_of args.start.now) in
     let next = read_on (with_record s a) rest in
     let why = record_reason_lem args.start.now a _ l.told _ c.take-why.result l.invariant.0 counts c.take-why.ensures in
-    let there = not-false _ c.if-not-m.false in
-    let answered = asked_goes t bytes l.k args.zeros w c.read-m.result _ 0 args.zeros c.read-m.ensures refl
+    let there = ap there c.in_default.is in
+    let answered = asked_goes t bytes l.k args.zeros w c.read.result _ 0 args.zeros c.read.ensures refl
     (sym (sum_none args.zeros small)) refl a c.payload_at.ensures there in
     c.end.ensures
     ∙ (reason_ends t bytes (l.k + 2) args.zeros small s _ (record_reason names seen a) next why (record_small names seen a)
@@ -109,8 +108,8 @@ returns-then-why-ne0 c =
 pub overflow_add-k-in-loop-names : goal.overflow_add-k-in-loop-names
 overflow_add-k-in-loop-names c =
     let l = c.loop-names in
-    let inside = asked_inside c.args.tape.now l.k c.read-m.result _ c.read-m.ensures
-    (not-false _ c.if-not-m.false) in
+    let inside = asked_inside c.args.tape.now l.k c.read.result _ c.read.ensures
+    (ap there c.in_default.is) in
     omega (arith, c.well_formed)
 
 pub loop-names-smaller : goal.loop-names-smaller
@@ -143,8 +142,8 @@ loop-names-preserved c =
     let names = names_for (reading_of args.start.now) in
     let next = read_on (with_record s a) rest in
     let why = record_reason_lem args.start.now a _ l.told _ c.take-why.result l.invariant.0 counts c.take-why.ensures in
-    let there = not-false _ c.if-not-m.false in
-    let answered = asked_goes t bytes l.k args.zeros w c.read-m.result _ 0 args.zeros c.read-m.ensures refl
+    let there = ap there c.in_default.is in
+    let answered = asked_goes t bytes l.k args.zeros w c.read.result _ 0 args.zeros c.read.ensures refl
     (sym (sum_none args.zeros small)) refl a c.payload_at.ensures there in
     let good = c.if-why-ne0.false in
     let situation = record_after args.start.now a _ l.told _ c.take-why.result l.invariant.0 counts c.take-why.ensures good
@@ -154,9 +153,6 @@ loop-names-preserved c =
           ∙ (reason_goes t bytes (l.k + 2) args.zeros small s _ (record_reason names seen a) next why good
           ∙ (answered ∙ back)),
     )
-
-pub all_read-requires : goal.all_read-requires
-all_read-requires c = c.loop-names.invariant.0
 
 pub returns : goal.returns
 unfolding read_on

@@ -5,7 +5,6 @@ use Prim.Native.Nat.{◌^◌, ◌<◌}
 use native.Mathlib.Omega.{arith}
 use Rattle.tape_crc.proofs.Bytes.{bytes_each}
 use lib.ListN.{length}
-use borrow.Author.Tests.{not-true, not-false}
 use Rattle.start_fields.specs.Reading.{reading_of}
 use Rattle.session_records.specs.Slots.{told_in}
 use Rattle.decide_cryptogram.specs.Cryptograms.{p1_of}
@@ -21,6 +20,7 @@ use Rattle.quick_said.specs.Said.{found_from}
 use Rattle.quick_ask.specs.Standing.{situation_in}
 use Rattle.quick_ask.proofs.Knowing.{late_known}
 use Rattle.quick_follow.proofs.Going.{asked_as, lacks_as, asked_stops, asked_goes, asked_inside, reason_ends, reason_goes}
+use Rattle.quick_meet.proofs.Tests.{there}
 use Rattle.quick_follow.proofs.requests.first.Goals as goal
 
 pub returns-then-why-ne0 : goal.returns-then-why-ne0
@@ -29,57 +29,52 @@ returns-then-why-ne0 c =
     let args = c.args in
     let t = args.tape.now in
     let bytes = bytes_each t (λ i h. omega (arith, c.type_inv.tape i)) in
-    let small : args.zeros < 2 ^ 64 = omega (arith, c.well_formed) in
-    let told = args.told.now in
-    let s = situation_in args.start.now told args.profile args.tvr args.tsi in
+    let small : args.at.zeros < 2 ^ 64 = omega (arith, c.well_formed) in
+    let told = args.s.told.now in
+    let s = situation_in args.s.start.now told args.s.profile args.s.tvr args.s.tsi in
     c.end.ensures
-    ∙ reason_ends t bytes args.k args.zeros small s _ _
-    (asks (first s (first_request (reading_of args.start.now) (told_in told) args.tvr)))
+    ∙ reason_ends t bytes args.at.k args.at.zeros small s _ _
+    (asks (first s (first_request (reading_of args.s.start.now) (told_in told) args.s.tvr)))
     c.complete_reason-why.ensures (after_small (told_in told)) c.if-why-ne0.true
 
-pub returns-then-not-m : goal.returns-then-not-m
+pub returns-in-Err : goal.returns-in-Err
 unfolding requested list_in command_of unsupplied_asking
-returns-then-not-m c =
+returns-in-Err c =
     let args = c.args in
     let t = args.tape.now in
     let bytes = bytes_each t (λ i h. omega (arith, c.type_inv.tape i)) in
-    let small : args.zeros < 2 ^ 64 = omega (arith, c.well_formed) in
-    let told = args.told.now in
-    let s = situation_in args.start.now told args.profile args.tvr args.tsi in
-    let five : length args.tvr ≡ 5 = omega (arith, c.well_formed) in
-    let two : length args.tsi ≡ 2 = omega (arith, c.well_formed) in
-    let pair : length args.profile ≡ 2 = omega (arith, c.well_formed) in
+    let small : args.at.zeros < 2 ^ 64 = omega (arith, c.well_formed) in
+    let told = args.s.told.now in
+    let s = situation_in args.s.start.now told args.s.profile args.s.tvr args.s.tsi in
+    let five : length args.s.tvr ≡ 5 = omega (arith, c.well_formed) in
+    let two : length args.s.tsi ≡ 2 = omega (arith, c.well_formed) in
+    let pair : length args.s.profile ≡ 2 = omega (arith, c.well_formed) in
     let request = c.first_request-request.result in
     let known = ap told_in c.at_first-known.ensures
-    ∙ late_known args.start.now told args.tvr args.tsi c.requires five two args.profile pair in
+    ∙ late_known args.s.start.now told args.s.tvr args.s.tsi (omega (arith, c.well_formed)) five two args.s.profile pair in
     let list = c.value-list.ensures in
-    let due = asked_as (reading_of args.start.now) known list (p1_of request) in
-    let lacks = c.unsupplied.ensures ∙ lacks_as (reading_of args.start.now) known list in
-    let sum = c.sum-filled.ensures in
-    let same = ap (λ (x : Cryptogram). found_from (asks (first s x)) args.k args.zeros t) c.first_request-request.ensures
-    ∙ reason_goes t bytes args.k args.zeros small s _ (after_records (told_in told)) _ c.complete_reason-why.ensures
+    let due = asked_as (reading_of args.s.start.now) known list (p1_of request) in
+    let lacks = c.unsupplied.ensures ∙ lacks_as (reading_of args.s.start.now) known list in
+    let sum = c.sum-zeros.ensures in
+    let same = ap (λ (x : Cryptogram). found_from (asks (first s x)) args.at.k args.at.zeros t) c.first_request-request.ensures
+    ∙ reason_goes t bytes args.at.k args.at.zeros small s _ (after_records (told_in told)) _ c.complete_reason-why.ensures
     c.if-why-ne0.false in
-    c.stop.ensures
-    ∙ (asked_stops t bytes args.k args.zeros (first s request) c.cryptogram-m.result _ _ _ c.cryptogram-m.ensures due sum lacks
-    (not-true _ c.if-not-m.true)
+    (asked_stops t bytes args.at.k args.at.zeros (first s request) c.cryptogram.result _ _ _ c.cryptogram.ensures due sum lacks
+    _ c.in-Err.is
     ∙ same)
 
 -- what was met stands inside the tape
-pub overflow_add-k : goal.overflow_add-k
-overflow_add-k c =
-    let inside = asked_inside c.args.tape.now c.args.k c.cryptogram-m.result _ c.cryptogram-m.ensures
-    (not-false _ c.if-not-m.false) in
+pub overflow_add-at : goal.overflow_add-at
+overflow_add-at c =
+    let inside = asked_inside c.args.tape.now c.args.at.k c.cryptogram.result _ c.cryptogram.ensures
+    (ap there c.in_default.is) in
     omega (arith, c.well_formed)
 
-pub overflow_add-k-2 : goal.overflow_add-k-2
-overflow_add-k-2 c =
-    let inside = asked_inside c.args.tape.now c.args.k c.cryptogram-m.result _ c.cryptogram-m.ensures
-    (not-false _ c.if-not-m.false) in
+pub overflow_add-next : goal.overflow_add-next
+overflow_add-next c =
+    let inside = asked_inside c.args.tape.now c.args.at.k c.cryptogram.result _ c.cryptogram.ensures
+    (ap there c.in_default.is) in
     omega (arith, c.well_formed)
-
-pub from_first-requires : goal.from_first-requires
-from_first-requires c =
-    c.requires
 
 pub returns : goal.returns
 unfolding requested list_in command_of unsupplied_asking turn
@@ -87,23 +82,23 @@ returns c =
     let args = c.args in
     let t = args.tape.now in
     let bytes = bytes_each t (λ i h. omega (arith, c.type_inv.tape i)) in
-    let small : args.zeros < 2 ^ 64 = omega (arith, c.well_formed) in
-    let told = args.told.now in
-    let s = situation_in args.start.now told args.profile args.tvr args.tsi in
-    let five : length args.tvr ≡ 5 = omega (arith, c.well_formed) in
-    let two : length args.tsi ≡ 2 = omega (arith, c.well_formed) in
-    let pair : length args.profile ≡ 2 = omega (arith, c.well_formed) in
+    let small : args.at.zeros < 2 ^ 64 = omega (arith, c.well_formed) in
+    let told = args.s.told.now in
+    let s = situation_in args.s.start.now told args.s.profile args.s.tvr args.s.tsi in
+    let five : length args.s.tvr ≡ 5 = omega (arith, c.well_formed) in
+    let two : length args.s.tsi ≡ 2 = omega (arith, c.well_formed) in
+    let pair : length args.s.profile ≡ 2 = omega (arith, c.well_formed) in
     let request = c.first_request-request.result in
     let known = ap told_in c.at_first-known.ensures
-    ∙ late_known args.start.now told args.tvr args.tsi c.requires five two args.profile pair in
+    ∙ late_known args.s.start.now told args.s.tvr args.s.tsi (omega (arith, c.well_formed)) five two args.s.profile pair in
     let list = c.value-list.ensures in
-    let due = asked_as (reading_of args.start.now) known list (p1_of request) in
-    let lacks = c.unsupplied.ensures ∙ lacks_as (reading_of args.start.now) known list in
-    let sum = c.sum-filled.ensures in
-    let same = ap (λ (x : Cryptogram). found_from (asks (first s x)) args.k args.zeros t) c.first_request-request.ensures
-    ∙ reason_goes t bytes args.k args.zeros small s _ (after_records (told_in told)) _ c.complete_reason-why.ensures
+    let due = asked_as (reading_of args.s.start.now) known list (p1_of request) in
+    let lacks = c.unsupplied.ensures ∙ lacks_as (reading_of args.s.start.now) known list in
+    let sum = c.sum-zeros.ensures in
+    let same = ap (λ (x : Cryptogram). found_from (asks (first s x)) args.at.k args.at.zeros t) c.first_request-request.ensures
+    ∙ reason_goes t bytes args.at.k args.at.zeros small s _ (after_records (told_in told)) _ c.complete_reason-why.ensures
     c.if-why-ne0.false in
     c.from_first.ensures
-    ∙ (asked_goes t bytes args.k args.zeros (first s request) c.cryptogram-m.result _ _ _ c.cryptogram-m.ensures due sum lacks
-    _ c.payload_at.ensures (not-false _ c.if-not-m.false)
+    ∙ (asked_goes t bytes args.at.k args.at.zeros (first s request) c.cryptogram.result _ _ _ c.cryptogram.ensures due sum lacks
+    _ c.payload_at-a.ensures (ap there c.in_default.is)
     ∙ same)

@@ -18,20 +18,20 @@ use Rattle.quick_said.specs.Said.{found_from}
 use Rattle.quick_ask.specs.Standing.{situation_in}
 use Rattle.quick_follow.proofs.Going.{heard_stops, heard_fails, heard_goes, heard_inside}
 use mathlib.Core.Bool.{not}
+use Rattle.quick_meet.proofs.Tests.{there}
 use Rattle.quick_follow.proofs.requests.results.Goals as goal
 
-pub returns-then-not-m : goal.returns-then-not-m
+pub returns-in-Err : goal.returns-in-Err
 unfolding due_kind word_kind
-returns-then-not-m c =
+returns-in-Err c =
     let args = c.args in
     let t = args.tape.now in
     let bytes = bytes_each t (λ i h. omega (arith, c.type_inv.tape i)) in
-    let small : args.zeros < 2 ^ 64 = omega (arith, c.well_formed) in
-    let told = args.told.now in
-    let s = situation_in args.start.now told args.profile args.tvr args.tsi in
-    c.stop.ensures
-    ∙ heard_stops t bytes args.k args.zeros small (says Results s) c.word-m.result c.word-m.ensures
-    (not-true _ c.if-not-m.true)
+    let small : args.at.zeros < 2 ^ 64 = omega (arith, c.well_formed) in
+    let told = args.s.told.now in
+    let s = situation_in args.s.start.now told args.s.profile args.s.tvr args.s.tsi in
+    heard_stops t bytes args.at.k args.at.zeros small (says Results s) c.word.result c.word.ensures
+    _ c.in-Err.is
 
 pub returns-then-not-is_allowed : goal.returns-then-not-is_allowed
 unfolding due_kind word_kind allowed wanted_in
@@ -39,18 +39,18 @@ returns-then-not-is_allowed c =
     let args = c.args in
     let t = args.tape.now in
     let bytes = bytes_each t (λ i h. omega (arith, c.type_inv.tape i)) in
-    let small : args.zeros < 2 ^ 64 = omega (arith, c.well_formed) in
-    let told = args.told.now in
-    let s = situation_in args.start.now told args.profile args.tvr args.tsi in
+    let small : args.at.zeros < 2 ^ 64 = omega (arith, c.well_formed) in
+    let told = args.s.told.now in
+    let s = situation_in args.s.start.now told args.s.profile args.s.tvr args.s.tsi in
     let may = c.is_allowed.ensures ∙ (λ i. word_allowed Results (c.wanted.ensures i) (c.payload_at-p.ensures i)) in
     c.fail.ensures
-    ∙ heard_fails t bytes args.k args.zeros small (says Results s) c.word-m.result c.word-m.ensures
-    (not-false _ c.if-not-m.false) (sym may ∙ not-true _ (ap not c.if-not-is_allowed.true))
+    ∙ heard_fails t bytes args.at.k args.at.zeros small (says Results s) c.word.result c.word.ensures
+    (ap there c.in_default.is) (sym may ∙ not-true _ (ap not c.if-not-is_allowed.true))
 
-pub overflow_add-k : goal.overflow_add-k
-overflow_add-k c =
-    let inside = heard_inside c.args.tape.now c.args.k _ c.word-m.result c.word-m.ensures
-    (not-false _ c.if-not-m.false) in
+pub overflow_add-next : goal.overflow_add-next
+overflow_add-next c =
+    let inside = heard_inside c.args.tape.now c.args.at.k _ c.word.result c.word.ensures
+    (ap there c.in_default.is) in
     omega (arith, c.well_formed)
 
 pub returns : goal.returns
@@ -59,14 +59,14 @@ returns c =
     let args = c.args in
     let t = args.tape.now in
     let bytes = bytes_each t (λ i h. omega (arith, c.type_inv.tape i)) in
-    let small : args.zeros < 2 ^ 64 = omega (arith, c.well_formed) in
-    let told = args.told.now in
-    let s = situation_in args.start.now told args.profile args.tvr args.tsi in
+    let small : args.at.zeros < 2 ^ 64 = omega (arith, c.well_formed) in
+    let told = args.s.told.now in
+    let s = situation_in args.s.start.now told args.s.profile args.s.tvr args.s.tsi in
     let may = c.is_allowed.ensures ∙ (λ i. word_allowed Results (c.wanted.ensures i) (c.payload_at-p.ensures i)) in
-    let tvr = c.tvr_after_results-bits.ensures
-    ∙ ap (λ (x : List ℕ). tvr_after_results (reading_of args.start.now) (told_in told) x args.tvr) c.payload_at-p.ensures in
+    let tvr = c.tvr_after_results-tvr.ensures
+    ∙ ap (λ (x : List ℕ). tvr_after_results (reading_of args.s.start.now) (told_in told) x args.s.tvr) c.payload_at-p.ensures in
     c.first.ensures
     ∙ ((λ i. found_from (requested (after_records (told_in told))
-    (situation_in args.start.now told args.profile (tvr i) (c.tsi_after_results.ensures i))) (args.k + 1) args.zeros t)
-    ∙ heard_goes t bytes args.k args.zeros small (says Results s) c.word-m.result c.word-m.ensures
-    (not-false _ c.if-not-m.false) (sym may ∙ not-false _ (ap not c.if-not-is_allowed.false)))
+    (situation_in args.s.start.now told args.s.profile (tvr i) (c.tsi_after_results-tsi.ensures i))) (args.at.k + 1) args.at.zeros t)
+    ∙ heard_goes t bytes args.at.k args.at.zeros small (says Results s) c.word.result c.word.ensures
+    (ap there c.in_default.is) (sym may ∙ not-false _ (ap not c.if-not-is_allowed.false)))

@@ -13,7 +13,7 @@ returns-then-is_due c =
     let args = c.args in
     c.results.ensures
     ∙ sym
-    (ap (λ (p : Phase). found_from p args.k args.zeros args.tape.now)
+    (ap (λ (p : Phase). found_from p args.at.k args.at.zeros args.tape.now)
     (pick_yes _ _ _ (sym c.is_due.ensures ∙ c.if-is_due.true)))
 
 pub returns : goal.returns
@@ -22,5 +22,5 @@ returns c =
     let args = c.args in
     c.first.ensures
     ∙ sym
-    (ap (λ (p : Phase). found_from p args.k args.zeros args.tape.now)
+    (ap (λ (p : Phase). found_from p args.at.k args.at.zeros args.tape.now)
     (pick_no _ _ _ (sym c.is_due.ensures ∙ c.if-is_due.false)))

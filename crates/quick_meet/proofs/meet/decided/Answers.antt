@@ -5,14 +5,12 @@ use mathlib.Core.List.{List, [], ◌∷◌, ◌++◌}
 use Prim.Native.Nat.{ℕ}
 use native.Mathlib.Omega.{arith}
 use lib.ListN.{length, get_or}
-use borrow.Author.Tests.{not-true, not-false}
 use Rattle.slices.specs.Tests.{alike}
 use Rattle.slices.proofs.Choice.{pick_yes, pick_no}
 use Rattle.numbers.specs.Tables.{decision}
 use Rattle.session_state.proofs.Nine.{nine_bytes}
-use Rattle.quick_meet.specs.declared.Met.{Met}
 use Rattle.quick_meet.specs.Meeting.{decision_met}
-use Rattle.quick_meet.proofs.Tests.{as_going, as_stopped, word_inside}
+use Rattle.quick_meet.proofs.Tests.{there, as_going, as_stopped, word_inside}
 use Rattle.quick_meet.proofs.meet.decided.Goals as goal
 
 -- the bytes that are due, written out one by one
@@ -22,18 +20,17 @@ due_bytes : (outcome reason : ℕ) (tvr tsi : List ℕ) → length tvr ≡ 5 →
     ≡ outcome ∷ reason ∷ (tvr ++ tsi)
 due_bytes outcome reason tvr tsi five two = ap (λ (l : List ℕ). outcome ∷ reason ∷ l) (nine_bytes tvr tsi five two)
 
-pub returns-then-not-m : goal.returns-then-not-m
+pub returns-in-Err : goal.returns-in-Err
 unfolding decision_met
-returns-then-not-m c =
-    let m = c.word-m in
-    c.stop.ensures ∙ as_stopped m.result _ m.ensures _ _ (not-true _ c.if-not-m.true)
+returns-in-Err c =
+    as_stopped c.word.result _ c.word.ensures _ _ _ c.in-Err.is
 
 -- one block further
 pub overflow_add-k : goal.overflow_add-k
 overflow_add-k c =
     let args = c.args in
-    let there = sym (ap (λ (x : Met). x.there) c.word-m.ensures) ∙ not-false _ c.if-not-m.false in
-    let inside = word_inside args.tape.now args.k decision there in
+    let stands = sym (ap there c.word.ensures) ∙ ap there c.in_default.is in
+    let inside = word_inside args.tape.now args.k decision stands in
     omega (arith, c.well_formed)
 
 pub returns-then-alike : goal.returns-then-alike
@@ -46,7 +43,7 @@ returns-then-alike c =
     ∙ ap₂ alike c.payload_at.ensures (due_bytes args.outcome args.reason args.tvr args.tsi five two) in
     c.last.ensures
     ∙ (sym (pick_yes _ _ _ (sym test ∙ c.if-alike.true))
-    ∙ as_going c.word-m.result _ c.word-m.ensures _ _ (not-false _ c.if-not-m.false))
+    ∙ as_going c.word.result _ c.word.ensures _ _ (ap there c.in_default.is))
 
 pub returns : goal.returns
 unfolding decision_met
@@ -58,4 +55,4 @@ returns c =
     ∙ ap₂ alike c.payload_at.ensures (due_bytes args.outcome args.reason args.tvr args.tsi five two) in
     c.fail.ensures
     ∙ (sym (pick_no _ _ _ (sym test ∙ c.if-alike.false))
-    ∙ as_going c.word-m.result _ c.word-m.ensures _ _ (not-false _ c.if-not-m.false))
+    ∙ as_going c.word.result _ c.word.ensures _ _ (ap there c.in_default.is))
