@@ -6,10 +6,10 @@ mod table_after_one;
 mod table_after_three;
 mod table_after_two;
 
-ghost use Rattle.std.specs.Prelude.{◌≡◌, [], ◌∷◌, ◌++◌, ℕ, ◌+◌, ◌*◌, ◌/◌, ◌≤◌, length, get_or, drop};
+ghost use Rattle.std.specs.Prelude.{◌≡◌, ◌++◌, ℕ, ◌+◌, ◌*◌, ◌/◌, ◌≤◌, length, get_or, drop};
 ghost use Rattle.tape_crc.specs.Check.{shifted, divided, running_of, check_of, block_check_of};
 ghost use Rattle.tape_crc.specs.Parts.{part, pair as pair_of};
-ghost use Rattle.tape_crc.specs.Tables.{Remainders, Tables};
+ghost use Rattle.tape_crc.specs.Tables.{Remainders, Follows};
 
 use table::REMAINDERS;
 use table_after_one::AFTER_ONE;
@@ -32,6 +32,19 @@ const ABOVE_LEAVES: u32 = 0xE95C_1271;
 
 const DIVISOR: u32 = 0xEDB8_8320;
 
+// The stored tables, lent: what a byte leaves, and what it leaves behind one, two and three bytes of zeros.
+#[derive(Clone, Copy)]
+struct Stored<'a> {
+    none: &'a [u32; 256],
+    one: &'a [u32; 256],
+    two: &'a [u32; 256],
+    three: &'a [u32; 256],
+    ghost leaves: { Remainders none.now },
+    ghost one_on: { Follows none.now none.now one.now },
+    ghost two_on: { Follows none.now one.now two.now },
+    ghost three_on: { Follows none.now two.now three.now },
+}
+
 // The register one slice further.
 pub fn running(register: u32, s: &[u8]) -> u32
     ensures { result ≡ running_of register s.now }
@@ -41,75 +54,52 @@ pub fn running(register: u32, s: &[u8]) -> u32
     let one = AFTER_ONE;
     let two = AFTER_TWO;
     let three = AFTER_THREE;
-    by_tables(register, s, &none, &one, &two, &three)
+    by_tables(
+        register,
+        s,
+        Stored {
+            none: &none,
+            one: &one,
+            two: &two,
+            three: &three,
+        },
+    )
 }
 
 // By pairs of parts, then by fours, and then the one to three bytes that are left.
-fn by_tables(
-    register: u32,
-    s: &[u8],
-    none: &[u32; 256],
-    one: &[u32; 256],
-    two: &[u32; 256],
-    three: &[u32; 256],
-) -> u32
-    requires { Tables none.now (one.now ∷ two.now ∷ three.now ∷ []) }
+fn by_tables(register: u32, s: &[u8], t: Stored<'_>) -> u32
     ensures { result ≡ running_of register s.now }
 {
-    let p = by_pairs(register, s, none, one, two, three);
+    let p = by_pairs(register, s, t);
     let rest = &s[s.len() / PAIR * PAIR..];
-    let r = by_fours(p, rest, none, one, two, three);
-    by_bytes(r, &rest[rest.len() / 4 * 4..], none)
+    let r = by_fours(p, rest, t);
+    by_bytes(r, &rest[rest.len() / 4 * 4..], t.none)
 }
 
 // The register after as many pairs of parts as there are: the bytes that are left take it to where the slice ends.
-fn by_pairs(
-    register: u32,
-    s: &[u8],
-    none: &[u32; 256],
-    one: &[u32; 256],
-    two: &[u32; 256],
-    three: &[u32; 256],
-) -> u32
-    requires { Tables none.now (one.now ∷ two.now ∷ three.now ∷ []) }
+fn by_pairs(register: u32, s: &[u8], t: Stored<'_>) -> u32
     ensures { running_of result (drop (length s.now / pair_of * pair_of) s.now)
         ≡ running_of register s.now }
 {
     let mut r = register;
     for k in 0..s.len() / PAIR {
         let i = k * PAIR;
-        r = pair(
-            r,
-            &s[i..i + PART],
-            &s[i + PART..i + PAIR],
-            none,
-            one,
-            two,
-            three,
-        );
+        r = pair(r, &s[i..i + PART], &s[i + PART..i + PAIR], t);
     }
     r
 }
 
 // The register after two parts, one behind the other. The turns of one part wait for each other, so the second is taken in beside
 // the first, from nothing; then what the first left goes past as many zeros as the second has bytes, and the two are joined.
-fn pair(
-    register: u32,
-    first: &[u8],
-    second: &[u8],
-    none: &[u32; 256],
-    one: &[u32; 256],
-    two: &[u32; 256],
-    three: &[u32; 256],
-) -> u32
-    requires { Tables none.now (one.now ∷ two.now ∷ three.now ∷ []) × (length first.now ≡ part) × (length second.now ≡ part) }
+fn pair(register: u32, first: &[u8], second: &[u8], t: Stored<'_>) -> u32
+    requires { (length first.now ≡ part) × (length second.now ≡ part) }
     ensures { result ≡ running_of register (first.now ++ second.now) }
 {
     let mut r = register;
     let mut q = 0;
     for k in 0..PART / 4 {
-        r = turn(r ^ word(first, 4 * k), none, one, two, three);
-        q = turn(q ^ word(second, 4 * k), none, one, two, three);
+        r = turn(r ^ word(first, 4 * k), t);
+        q = turn(q ^ word(second, 4 * k), t);
     }
     past_part(r) ^ q
 }
@@ -135,34 +125,25 @@ fn shift(r: u32) -> u32
 }
 
 // The register after as many fours as there are: the bytes that are left take it to where the slice ends.
-fn by_fours(
-    register: u32,
-    s: &[u8],
-    none: &[u32; 256],
-    one: &[u32; 256],
-    two: &[u32; 256],
-    three: &[u32; 256],
-) -> u32
-    requires { Tables none.now (one.now ∷ two.now ∷ three.now ∷ []) }
+fn by_fours(register: u32, s: &[u8], t: Stored<'_>) -> u32
     ensures { running_of result (drop (length s.now / 4 * 4) s.now) ≡ running_of register s.now }
 {
     let mut r = register;
     for k in 0..s.len() / 4 {
-        r = turn(r ^ word(s, 4 * k), none, one, two, three);
+        r = turn(r ^ word(s, 4 * k), t);
     }
     r
 }
 
 // Four bytes, which stand in the register already, shifted out.
-fn turn(x: u32, none: &[u32; 256], one: &[u32; 256], two: &[u32; 256], three: &[u32; 256]) -> u32
-    requires { Tables none.now (one.now ∷ two.now ∷ three.now ∷ []) }
+fn turn(x: u32, t: Stored<'_>) -> u32
     ensures { result ≡ divided 32 x }
 {
     // A place that takes longer to find is looked up later, so that the joins do not wait for it.
-    let first = three[(x % 256) as usize];
-    let fourth = none[(x / 0x100_0000) as usize];
-    let third = one[(x / 0x1_0000 % 256) as usize];
-    let second = two[(x / 0x100 % 256) as usize];
+    let first = t.three[(x % 256) as usize];
+    let fourth = t.none[(x / 0x100_0000) as usize];
+    let third = t.one[(x / 0x1_0000 % 256) as usize];
+    let second = t.two[(x / 0x100 % 256) as usize];
     first ^ fourth ^ third ^ second
 }
 

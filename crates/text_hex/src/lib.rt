@@ -39,16 +39,14 @@ pub fn unhex(src: &[u8], dst: &mut [u8]) -> usize
     ensures size { (result ≡ length (unhexed_for (length dst.old) src.now)) × (result ≤ length dst.old) }
     ensures bytes { dst.new ≡ put (unhexed_for (length dst.old) src.now) 0 dst.old }
 {
-    let mut n = 0;
-    while n < dst.len() {
+    for n in 0..dst.len() {
         let value = pair_of(byte(src, 2 * n), byte(src, 2 * n + 1));
         if value == 256 {
             return n;
         }
         dst[n] = value as u8;
-        n += 1;
     }
-    n
+    dst.len()
 }
 
 fn digit_for(d: usize) -> u8
@@ -68,15 +66,12 @@ pub fn hex(src: &[u8], dst: &mut [u8]) -> usize
     ensures size { (result ≡ length (hexed_for (length dst.old) src.now)) × (result ≤ length dst.old) }
     ensures text { dst.new ≡ put (hexed_for (length dst.old) src.now) 0 dst.old }
 {
-    let mut i = 0;
-    while i < src.len() {
+    for (i, b) in src.iter().enumerate() {
         if dst.len() < 2 * i + 2 {
             return 2 * i;
         }
-        let b = byte(src, i);
-        dst[2 * i] = digit_for(b / 16);
-        dst[2 * i + 1] = digit_for(b % 16);
-        i += 1;
+        dst[2 * i] = digit_for((b / 16) as usize);
+        dst[2 * i + 1] = digit_for((b % 16) as usize);
     }
-    2 * i
+    2 * src.len()
 }

@@ -2,7 +2,6 @@
 ghost use Rattle.std.specs.Prelude.{◌≡◌, ◌≤◌};
 ghost use Rattle.text_lines.specs.Decimal.{number_in};
 
-use slices::byte;
 use text_hex::digit_of;
 
 // What is no number of four bytes.
@@ -12,13 +11,12 @@ pub const NO_NUMBER: usize = 0x1_0000_0000;
 pub fn decimal(s: &[u8]) -> usize
     ensures { (result ≡ number_in s.now) × (result ≤ 0x100000000) }
 {
-    if s.len() == 0 {
+    if s.is_empty() {
         return NO_NUMBER;
     }
     let mut n = 0;
-    let mut i = 0;
-    while i < s.len() {
-        let d = digit_of(byte(s, i));
+    for b in s {
+        let d = digit_of(*b as usize);
         if 10 <= d {
             return NO_NUMBER;
         }
@@ -27,7 +25,6 @@ pub fn decimal(s: &[u8]) -> usize
             return NO_NUMBER;
         }
         n = more;
-        i += 1;
     }
     n
 }

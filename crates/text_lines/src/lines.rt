@@ -30,15 +30,10 @@ pub fn after_word(s: &[u8]) -> &[u8]
 fn first_either(a: u8, b: u8, s: &[u8], at: usize) -> usize
     ensures { (result ≡ first_either a b s.now at) × Onward s.now at result }
 {
-    let mut i = at;
-    while i < s.len() {
-        if s[i] == a {
+    for i in at..s.len() {
+        if s[i] == a || s[i] == b {
             return i;
         }
-        if s[i] == b {
-            return i;
-        }
-        i += 1;
     }
-    i
+    at.max(s.len())
 }

@@ -2,7 +2,6 @@
 ghost use Rattle.std.specs.Prelude.{◌≡◌, ◌≤◌, ◌<◌};
 ghost use Rattle.text_lines.specs.Numbers.{continued, decimal_number, hex_number};
 
-use slices::byte;
 use text_hex::digit_of;
 
 // A decimal number, at most 1,000,000,000.
@@ -24,9 +23,8 @@ fn number_in(base: usize, most: usize, s: &[u8]) -> usize
     ensures { (result ≡ continued base most 0 s.now) × (result ≤ most) }
 {
     let mut n = 0;
-    let mut i = 0;
-    while i < s.len() {
-        let d = digit_of(byte(s, i));
+    for b in s {
+        let d = digit_of(*b as usize);
         if base <= d {
             return n;
         }
@@ -35,7 +33,6 @@ fn number_in(base: usize, most: usize, s: &[u8]) -> usize
             return n;
         }
         n = more;
-        i += 1;
     }
     n
 }

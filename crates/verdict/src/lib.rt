@@ -2,7 +2,7 @@
 // filled with zeros for want of a value (02, R-6).
 #![tactic(auto)]
 
-#[derive(Clone, Copy)]
+#[derive(Clone, Copy, PartialEq, Eq)]
 pub enum Verdict {
     Pass,
     Fail,
@@ -10,14 +10,14 @@ pub enum Verdict {
     Unreadable,
 }
 
-#[derive(Clone, Copy)]
+#[derive(Clone, Copy, PartialEq, Eq)]
 pub struct Ruling {
     pub verdict: Verdict,
     pub place: usize,
     pub code: usize,
 }
 
-#[derive(Clone, Copy)]
+#[derive(Clone, Copy, PartialEq, Eq)]
 pub struct Finding {
     pub ruling: Ruling,
     pub zeros: usize,

@@ -37,5 +37,5 @@ returns c =
     let bytes : are_bytes second ≡ true = bytes_each second (λ j h. (c.type_inv.second j).fits) in
     let r = taken_all_lem l.r (4 * l.k) first (omega (arith, c.requires)) l.invariant.0 in
     let q = taken_all_lem l.q (4 * l.k) second (omega (arith, c.requires)) l.invariant.1 in
-    ap₂ bit_xor (c.past_part.ensures ∙ ap₂ (λ (n x : ℕ). divided (8 * n) x) (sym c.requires.2) r) q
+    ap₂ bit_xor (c.past_part.ensures ∙ ap₂ (λ (n x : ℕ). divided (8 * n) x) (sym c.requires.1) r) q
     ∙ sym (in_parts c.args.register first second bytes)

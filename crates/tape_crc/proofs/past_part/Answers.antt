@@ -7,7 +7,7 @@ use lib.Bits.{bit_xor}
 use Rattle.slices.specs.Choice.{pick}
 use Rattle.tape_crc.specs.Check.{divisor, shifted, divided}
 use Rattle.tape_crc.specs.Parts.{part}
-use Rattle.tape_crc.proofs.Parts.{nothing_left, bit_below, bit_below_32, bit_more}
+use Rattle.tape_crc.proofs.Parts.{nothing_left, bit_below, bit_more}
 use Rattle.tape_crc.proofs.past_part.Goals as goal
 
 above : 0xE95C_1271 ≡ divided (8 * part) (2 ^ 32)

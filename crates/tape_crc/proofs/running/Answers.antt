@@ -3,12 +3,13 @@
 use mathlib.Core.Path.{refl}
 use Rattle.slices.specs.Choice.{pick}
 use Rattle.tape_crc.specs.Check.{divisor, shifted, divided}
-use Rattle.tape_crc.specs.Tables.{InTurn}
 use Rattle.tape_crc.proofs.running.Goals as goal
 
-pub by_tables-requires : goal.by_tables-requires
-unfolding divided shifted divisor pick InTurn
-by_tables-requires c = record {
-  remainders = record { size = refl; rule = refl };
-  further = (record { size = refl; rule = refl }, (record { size = refl; rule = refl }, (record { size = refl; rule = refl }, tt)));
+pub invariant_of-by_tables : goal.invariant_of-by_tables
+unfolding divided shifted divisor pick
+invariant_of-by_tables c = record {
+  leaves = record { size = refl; rule = refl };
+  one_on = record { size = refl; rule = refl };
+  two_on = record { size = refl; rule = refl };
+  three_on = record { size = refl; rule = refl };
 }

@@ -14,7 +14,7 @@ use Rattle.text_hex.proofs.unhex.Goals as goal
 pub loop-n-init : goal.loop-n-init
 loop-n-init c =
     let a = c.args in
-    (zero-le, zero-le, refl, refl, paste-zero a.dst.now 0 (unhexed a.src.now))
+    (zero-le, refl, refl, paste-zero a.dst.now 0 (unhexed a.src.now))
 
 pub returns-then-value-eq256 : goal.returns-then-value-eq256
 unfolding unhexed_for
@@ -24,10 +24,10 @@ returns-then-value-eq256 c =
     in
     let a = c.args in
     let l = c.loop-n in
-    let rest = l.invariant.3 ∙ pair_missing a.src.now l.n c.pair_of-value.result (told) c.if-value-eq256.true in
+    let rest = l.invariant.2 ∙ pair_missing a.src.now l.n c.pair_of-value.result (told) c.if-value-eq256.true in
     let long = sym (length-drop l.n (unhexed a.src.now)) ∙ ap length rest in
     let all = copied (unhexed a.src.now) a.dst.now l.n (omega arith) in
-    record { size = (all.0, omega arith); bytes = l.invariant.4 ∙ all.1 }
+    record { size = (all.0, omega arith); bytes = l.invariant.3 ∙ all.1 }
 
 pub loop-n-preserved : goal.loop-n-preserved
 loop-n-preserved c =
@@ -39,13 +39,12 @@ loop-n-preserved c =
     let v = c.pair_of-value.result in
     let u = unhexed a.src.now in
     let r = unhexed (drop (2 * (l.n + 1)) a.src.now) in
-    let rest : drop l.n u ≡ v ∷ r = l.invariant.3 ∙ pair_read a.src.now l.n v (told) (omega arith) in
+    let rest : drop l.n u ≡ v ∷ r = l.invariant.2 ∙ pair_read a.src.now l.n v (told) (omega arith) in
     let within = next_within u l.n v r rest in (
-      omega arith,
       omega arith,
       simp length-set (omega arith),
       next_rest u l.n v r rest,
-      ap₂ (λ (d : List ℕ) (x : ℕ). set d l.n x) l.invariant.4 (sym (next_value u l.n v r rest))
+      ap₂ (λ (d : List ℕ) (x : ℕ). set d l.n x) l.invariant.3 (sym (next_value u l.n v r rest))
           ∙ one_copied u a.dst.now l.n (omega arith) within,
     )
 
@@ -55,4 +54,4 @@ returns c =
     let a = c.args in
     let l = c.loop-n in
     let all = copied (unhexed a.src.now) a.dst.now l.n (omega arith) in
-    record { size = (all.0, omega arith); bytes = l.invariant.4 ∙ all.1 }
+    record { size = (omega (arith, all.0), omega arith); bytes = l.invariant.3 ∙ all.1 }
