@@ -27,45 +27,53 @@ here : (a d s : List ℕ) (start end : ℕ) → d ≡ data_field a → s ≡ bet
 here a d s start end e f = f ∙ ap (λ (x : List ℕ). between x start end) e
 
 -- from reason 4 on, and the test of each line as the code found it
-lines : (c : Else-not-m) → first_of (frame both_forms c.args.answer.now ++ options_lines c.args.answer.now) ≡ first_of (options_lines c.args.answer.now)
+lines : (c : Else-not-m) → first_of (frame both_forms c.args.answer.now ++ options_lines c.args.answer.now)
+    ≡ first_of (options_lines c.args.answer.now)
 lines c =
-    on_lines c.args.answer.now c.args.start c.args.end c.requires (here _ _ _ _ _ c.data_field.ensures c.value-s.ensures) c.members-m.ensures
+    on_lines c.args.answer.now c.args.start c.args.end c.requires
+    (here _ _ _ _ _ c.data_field.ensures c.value-s.ensures) c.members-m.ensures
     (not-false _ c.if-not-m.false)
 
 twice : (c : After-any_times) → c.any_times.result ≡ any_times 2 option_names (direct template c.args.answer.now)
 twice c =
     c.any_times.ensures
-    ∙ times_so c.args.answer.now c.args.start c.args.end c.requires (here _ _ _ _ _ c.data_field.ensures c.value-s.ensures) c.members-m.ensures
+    ∙ times_so c.args.answer.now c.args.start c.args.end c.requires
+    (here _ _ _ _ _ c.data_field.ensures c.value-s.ensures) c.members-m.ensures
     (not-false _ c.if-not-m.false) 2
 
 wrong_first : (c : Then-is_wrong) → true ≡ options_wrong c.args.answer.now
 wrong_first c =
     sym
-    (wrong_so c.args.answer.now c.args.start c.args.end c.requires (here _ _ _ _ _ c.data_field.ensures c.value-s.ensures) c.members-m.ensures
+    (wrong_so c.args.answer.now c.args.start c.args.end c.requires
+    (here _ _ _ _ _ c.data_field.ensures c.value-s.ensures) c.members-m.ensures
     (not-false _ c.if-not-m.false) ∙ any_yes c.is_wrong.ensures _ c.if-is_wrong.true)
 
 wrong_second : (c : After-is_wrong-2) → c.is_wrong-2.result ≡ options_wrong c.args.answer.now
 wrong_second c =
     sym
-    (wrong_so c.args.answer.now c.args.start c.args.end c.requires (here _ _ _ _ _ c.data_field.ensures c.value-s.ensures) c.members-m.ensures
+    (wrong_so c.args.answer.now c.args.start c.args.end c.requires
+    (here _ _ _ _ _ c.data_field.ensures c.value-s.ensures) c.members-m.ensures
     (not-false _ c.if-not-m.false) ∙ (any_no c.is_wrong.ensures _ c.if-is_wrong.false ∙ any_last c.is_wrong-2.ensures))
 
 afl : (c : After-value_of-afl) → c.value_of-afl.result.now ≡ locator_of c.args.answer.now
 afl c =
     c.value_of-afl.ensures
-    ∙ locator_so c.args.answer.now c.args.start c.args.end c.requires (here _ _ _ _ _ c.data_field.ensures c.value-s.ensures) c.members-m.ensures
+    ∙ locator_so c.args.answer.now c.args.start c.args.end c.requires
+    (here _ _ _ _ _ c.data_field.ensures c.value-s.ensures) c.members-m.ensures
     (not-false _ c.if-not-m.false)
 
 missing : (c : After-any_times-2) → c.any_times-2.result ≡ lacks option_names c.args.answer.now
 missing c =
     c.any_times-2.ensures
-    ∙ missing_so c.args.answer.now c.args.start c.args.end c.requires (here _ _ _ _ _ c.data_field.ensures c.value-s.ensures) c.members-m.ensures
+    ∙ missing_so c.args.answer.now c.args.start c.args.end c.requires
+    (here _ _ _ _ _ c.data_field.ensures c.value-s.ensures) c.members-m.ensures
     (not-false _ c.if-not-m.false)
 
 pub returns-then-not-m : goal.returns-then-not-m
 returns-then-not-m c =
     sym
-    (no_list c.args.answer.now c.args.start c.args.end c.requires (here _ _ _ _ _ c.data_field.ensures c.value-s.ensures) c.members-m.ensures
+    (no_list c.args.answer.now c.args.start c.args.end c.requires
+    (here _ _ _ _ _ c.data_field.ensures c.value-s.ensures) c.members-m.ensures
     (not-true _ c.if-not-m.true))
 
 pub returns-then-any_times : goal.returns-then-any_times

@@ -34,13 +34,14 @@ record Seen (a s p : List ℕ) (name in-a5 list : Found) : Type 0 where
 seen : (c : After-members-n) → Seen c.args.answer.now c.value-s.result.now c.value_of-p.result.now c.members-m.result.first
     c.members-m.result.second c.members-n.result.first
 seen c = record {
-      one = name_found c.args.answer.now c.args.aid.now c.args.start c.args.end c.requires
-    (here _ _ _ _ _ c.data_field.ensures c.value-s.ensures) c.members-m.ensures (not-false _ c.if-not-m.false);
-      two = a5_found c.args.answer.now c.args.aid.now c.args.start c.args.end c.requires
-    (here _ _ _ _ _ c.data_field.ensures c.value-s.ensures) c.members-m.ensures (not-false _ c.if-not-m.false);
-      three = list_found c.args.answer.now c.args.aid.now c.args.start c.args.end c.requires
-    (here _ _ _ _ _ c.data_field.ensures c.value-s.ensures) c.members-m.ensures (not-false _ c.if-not-m.false) c.value_of-p.ensures c.members-n.ensures;
-    }
+  one = name_found c.args.answer.now c.args.aid.now c.args.start c.args.end c.requires
+      (here _ _ _ _ _ c.data_field.ensures c.value-s.ensures) c.members-m.ensures (not-false _ c.if-not-m.false);
+  two = a5_found c.args.answer.now c.args.aid.now c.args.start c.args.end c.requires
+      (here _ _ _ _ _ c.data_field.ensures c.value-s.ensures) c.members-m.ensures (not-false _ c.if-not-m.false);
+  three = list_found c.args.answer.now c.args.aid.now c.args.start c.args.end c.requires
+      (here _ _ _ _ _ c.data_field.ensures c.value-s.ensures) c.members-m.ensures (not-false _ c.if-not-m.false)
+      c.value_of-p.ensures c.members-n.ensures;
+}
 
 -- from reason 4 on
 lines : (c : After-members-n) → first_of (frame (0x6F ∷ []) c.args.answer.now ++ select_lines c.args.aid.now c.args.answer.now)
@@ -92,7 +93,9 @@ returns-then-is_fillable c =
     ∙ (line_no (c.any_times.ensures ∙ twice_so _ c.args.aid.now _ _ _ _ _ f.one f.two f.three) 4 _ c.if-any_times.false
     ∙ (line_no (c.is_wrong.ensures ∙ wrong_so _ c.args.aid.now _ _ _ _ _ f.one f.two f.three) 5 _ c.if-is_wrong.false
     ∙ (line_no (c.any_times-2.ensures ∙ missing_so _ c.args.aid.now _ _ _ _ _ f.one f.two f.three) 8 _ c.if-any_times-2.false
-    ∙ last_no (ap not (c.is_fillable.ensures ∙ ap fillable (c.value_of.ensures ∙ pdol_so _ c.args.aid.now _ _ _ _ _ f.one f.two f.three))) 9 (ap not c.if-is_fillable.true)))))
+    ∙ last_no
+    (ap not (c.is_fillable.ensures ∙ ap fillable (c.value_of.ensures ∙ pdol_so _ c.args.aid.now _ _ _ _ _ f.one f.two f.three)))
+    9 (ap not c.if-is_fillable.true)))))
 
 pub returns-else-is_fillable : goal.returns-else-is_fillable
 unfolding select_lines
@@ -104,4 +107,6 @@ returns-else-is_fillable c =
     ∙ (line_no (c.any_times.ensures ∙ twice_so _ c.args.aid.now _ _ _ _ _ f.one f.two f.three) 4 _ c.if-any_times.false
     ∙ (line_no (c.is_wrong.ensures ∙ wrong_so _ c.args.aid.now _ _ _ _ _ f.one f.two f.three) 5 _ c.if-is_wrong.false
     ∙ (line_no (c.any_times-2.ensures ∙ missing_so _ c.args.aid.now _ _ _ _ _ f.one f.two f.three) 8 _ c.if-any_times-2.false
-    ∙ line_yes (ap not (c.is_fillable.ensures ∙ ap fillable (c.value_of.ensures ∙ pdol_so _ c.args.aid.now _ _ _ _ _ f.one f.two f.three))) 9 _ (ap not c.if-is_fillable.false)))))
+    ∙ line_yes
+    (ap not (c.is_fillable.ensures ∙ ap fillable (c.value_of.ensures ∙ pdol_so _ c.args.aid.now _ _ _ _ _ f.one f.two f.three)))
+    9 _ (ap not c.if-is_fillable.false)))))
