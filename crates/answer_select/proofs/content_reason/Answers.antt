@@ -5,7 +5,6 @@ use mathlib.Core.Path.{◌≡◌, sym, ap, ◌∙◌}
 use mathlib.Core.Bool.{not}
 use mathlib.Core.List.{List, [], ◌∷◌, ◌++◌}
 use Prim.Native.Nat.{ℕ}
-use lib.ListN.{drop}
 use borrow.Author.Tests.{not-true, not-false}
 use Rattle.slices.specs.Choice.{first_of}
 use Rattle.slices.proofs.Lines.{line_yes, line_no, last_no}
@@ -15,8 +14,8 @@ use Rattle.tlv_list.specs.Lookup.{found_value}
 use Rattle.tlv_list.specs.declared.Found.{Found}
 use Rattle.dol_wanted.specs.Wanted.{fillable}
 use Rattle.answer_common.specs.Answer.{frame}
-use Rattle.answer_common.specs.Named.{direct, any_times}
-use Rattle.answer_select.specs.Select.{select_tag, select_names, inner, pdol_of, select_twice, select_wrong, select_lines}
+use Rattle.answer_common.specs.Named.{direct}
+use Rattle.answer_select.specs.Select.{select_tag, inner, select_lines}
 use Rattle.answer_select.proofs.Found.{twice_so, wrong_so, missing_so, pdol_so, no_list, on_lines, name_found, a5_found, list_found}
 use Rattle.answer_select.proofs.content_reason.Goals as goal
 use Rattle.answer_select.proofs.content_reason.Goals.{After-members-n}
