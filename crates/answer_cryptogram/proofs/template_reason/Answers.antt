@@ -2,17 +2,14 @@
 -- test fails.
 -- Assumes nothing.
 use mathlib.Core.Path.{◌≡◌, sym, ap, ◌∙◌}
-use mathlib.Core.Bool.{Bool}
 use mathlib.Core.List.{List, ◌++◌}
 use Prim.Native.Nat.{ℕ}
-use lib.ListN.{drop}
 use borrow.Author.Tests.{not-true, not-false}
 use Rattle.slices.specs.Choice.{first_of}
 use Rattle.slices.proofs.Lines.{line_yes, line_no}
 use Rattle.tlv_list.specs.Objects.{between}
 use Rattle.tlv_list.specs.Place.{data_field}
 use Rattle.decide_cryptogram.specs.Cryptograms.{allowed_by}
-use Rattle.decide_cryptogram.specs.declared.Given.{Given}
 use Rattle.answer_common.specs.Answer.{frame}
 use Rattle.answer_common.specs.Forms.{template, both_forms, lacks}
 use Rattle.answer_common.specs.Named.{direct, any_times}
