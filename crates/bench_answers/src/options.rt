@@ -24,11 +24,12 @@ fn print_answer(rt: &impl Print, answer: &[u8]) -> io::Result<()> {
 // The records are at most 500, so that the bound on their number is never met.
 fn print_records(rt: &impl Print, afl: &[u8]) -> io::Result<()> {
     let mut at = cursor::start();
-    let mut n: usize = 0;
-    while n < 600 && cursor::is_left(afl, at) {
+    for _ in 0..600 {
+        if !cursor::is_left(afl, at) {
+            break;
+        }
         print_record(rt, cursor::record(afl, at), cursor::file(afl, at))?;
         at = cursor::step(afl, at);
-        n += 1;
     }
     Ok(())
 }

@@ -26,8 +26,7 @@ fn answer_each(rt: &impl Print, names: &[usize], words: &[u8]) -> io::Result<()>
         if take_word(rt, &mut told, names, left)? != 0 {
             return Ok(());
         }
-        let others = after_word(left);
-        left = others;
+        left = after_word(left);
     }
     text_print::number(rt, complete_reason(&told))
 }
@@ -48,10 +47,8 @@ fn take_word(rt: &impl Print, told: &mut [u8], names: &[usize], word: &[u8]) -> 
 }
 
 fn print_values(rt: &impl Print, before: &[u8], told: &[u8], names: &[usize]) -> io::Result<()> {
-    let mut i = 0;
-    while i < names.len() {
-        print_value(rt, before, told, names[i])?;
-        i += 1;
+    for name in names {
+        print_value(rt, before, told, *name)?;
     }
     Ok(())
 }

@@ -31,15 +31,9 @@ pub fn record(rt: &impl Print, answer: &[u8]) -> io::Result<()> {
 
 fn entries(rt: &impl Print, s: &[u8]) -> io::Result<()> {
     let mut p = 0;
-    while p < s.len() {
-        match next(s, p) {
-            Next::End => return Ok(()),
-            Next::Broken => return Ok(()),
-            Next::Member { tag, start, end } => {
-                member(rt, tag, value(s, start, end))?;
-                p = end;
-            }
-        }
+    while let Next::Member { tag, start, end } = next(s, p) {
+        member(rt, tag, value(s, start, end))?;
+        p = end;
     }
     Ok(())
 }

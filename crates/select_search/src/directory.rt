@@ -90,19 +90,14 @@ fn join_all(start: &[u8], s: &[u8], list: &mut [u8; SIZE])
         (map (object_at s.now) (places_from s.now 0)) (list_in list.old) }
 {
     let mut p = 0;
-    while p < s.len() {
-        match next(s, p) {
-            Next::End => return,
-            Next::Broken => return,
-            Next::Member {
-                tag,
-                start: at,
-                end,
-            } => {
-                join_member(start, tag, value(s, at, end), list);
-                p = end;
-            }
-        }
+    while let Next::Member {
+        tag,
+        start: at,
+        end,
+    } = next(s, p)
+    {
+        join_member(start, tag, value(s, at, end), list);
+        p = end;
     }
 }
 

@@ -19,7 +19,7 @@ pub fn is_size_bad(answer: &[u8]) -> bool
 fn back(n: usize, k: usize) -> usize
     ensures { result ≡ n - k }
 {
-    if n < k { 0 } else { n - k }
+    n.saturating_sub(k)
 }
 
 pub fn has_status(answer: &[u8], status: usize) -> bool

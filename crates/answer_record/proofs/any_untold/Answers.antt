@@ -15,5 +15,6 @@ pub returns : goal.returns
 unfolding untold
 returns c =
     let a = c.args in
-    any_from_yields_List (untold a.told.now) _ _ _ c.any.ensures.ran (YieldsList-from_slice a.names.now (cc)) (λ x b q k. search (rules, tests))
+    any_from_yields_List (untold a.told.now) _ _ _ c.any.ensures.ran (YieldsList-from_slice a.names.now (cc))
+    (λ x b q k. search (rules, tests))
     ∙ any_list (untold a.told.now) (untold a.told.now) (λ name. refl) a.names.now

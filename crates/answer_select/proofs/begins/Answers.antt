@@ -1,6 +1,6 @@
 -- `answer_select::begins` meets its contract: the library's test, said as the definition says it.
 -- Assumes nothing.
-use Rattle.std.proofs.Common.{◌≡◌, refl, sym, ap, ◌∙◌, Bool, ◌&&◌, List, [], ◌∷◌, ℕ, eqb}
+use Rattle.std.proofs.Common.{◌≡◌, refl, ap, ◌∙◌, Bool, ◌&&◌, List, [], ◌∷◌, ℕ, eqb}
 use Rattle.std.specs.List.{starts_with}
 use Rattle.answer_select.specs.Select.{begins}
 use Rattle.answer_select.proofs.begins.Goals as goal

@@ -2,5 +2,5 @@
 use Rattle.std.proofs.Common.{length, ◌-◌}
 use Rattle.bench_select.proofs.read.entries.Given as goal
 
-abbrev pub decreases-loop-p : goal.decreases-loop-p
-decreases-loop-p g l = length l.s - l.p
+abbrev pub decreases-loop-tag : goal.decreases-loop-tag
+decreases-loop-tag g l = length l.s - l.p

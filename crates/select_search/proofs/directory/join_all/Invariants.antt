@@ -14,8 +14,8 @@ use Rattle.select_search.proofs.directory.join_all.Given as goal
 abbrev pub from : Applications → List ℕ → ℕ → List Candidate → List Candidate
 from t s p l = members_joined t (map (object_at s) (places_from s p)) l
 
-abbrev pub invariant-loop-p : goal.invariant-loop-p
-invariant-loop-p l = from (applications_in l.start) l.s l.p (list_in l.list) ≡ from (applications_in l.start) l.s 0 (list_in l.initial.list)
+abbrev pub invariant-loop-tag : goal.invariant-loop-tag
+invariant-loop-tag l = from (applications_in l.start) l.s l.p (list_in l.list) ≡ from (applications_in l.start) l.s 0 (list_in l.initial.list)
 
-abbrev pub decreases-loop-p : goal.decreases-loop-p
-decreases-loop-p l = length l.s - l.p
+abbrev pub decreases-loop-tag : goal.decreases-loop-tag
+decreases-loop-tag l = length l.s - l.p
