@@ -13,7 +13,7 @@
 mod call;
 
 use kernel::Session;
-use slices::{byte, part};
+use slices::part;
 use std::io;
 use text_input::{Line, read_line};
 use text_lines::{after_word, number};
@@ -21,17 +21,18 @@ use text_lines::{after_word, number};
 // A line of the longest payload.
 const LONGEST: usize = 8200;
 
+// More lines than there can be: nothing says that the input ends.
+const MOST: usize = 1_000_000;
+
 fn main(rt: HostRuntime) -> io::Result<()> {
     let mut line = [0u8; LONGEST];
     play_all(&rt, &mut line)
 }
 
-// Lines are counted down from more than there can be, since nothing says that the input ends.
 fn play_all(rt: &(impl Input + Print), line: &mut [u8]) -> io::Result<()> {
     let mut session = Session::fresh();
     let mut room = 0;
-    let mut left: usize = 1_000_000;
-    while 0 < left {
+    for _ in 0..MOST {
         match read_line(rt, line) {
             Line::Whole(n) => {
                 let asked = part(line, 0, n);
@@ -41,25 +42,24 @@ fn play_all(rt: &(impl Input + Print), line: &mut [u8]) -> io::Result<()> {
             Line::Long => text_print::text(rt, b"too long\n")?,
             Line::End => return Ok(()),
         }
-        left -= 1;
     }
     Ok(())
 }
 
 // The fourth letter tells the line.
 fn room_after(room: usize, line: &[u8]) -> usize {
-    match byte(line, 3) as u8 {
-        b'M' => number(after_word(line)),
+    match line.get(3) {
+        Some(b'M') => number(after_word(line)),
         _ => room,
     }
 }
 
 fn session_after(rt: &impl Print, s: Session, room: usize, line: &[u8]) -> io::Result<Session> {
-    match byte(line, 3) as u8 {
-        b'S' => Ok(Session::fresh()),
-        b'M' => Ok(s),
-        b'O' => tell_zeros(rt, s),
-        event => call::play(rt, s, event, after_word(line), room),
+    match line.get(3) {
+        Some(b'S') => Ok(Session::fresh()),
+        Some(b'M') => Ok(s),
+        Some(b'O') => tell_zeros(rt, s),
+        event => call::play(rt, s, event.copied(), after_word(line), room),
     }
 }
 

@@ -9,7 +9,6 @@ ghost use Rattle.verdict_judged.specs.Zeroed.{Zeroed};
 
 use judge_follow::Judgement;
 use tape_feed::Reader;
-use tape_read::{BLOCK, block_at};
 use verdict::Finding;
 
 // A judgement under way: what is known of the blocks so far, and how far their entries were followed.
@@ -24,12 +23,5 @@ pub fn judge(tape: &[u8]) -> Finding
     ensures verdict { Judged tape.now result.ruling }
     ensures zeros { Zeroed tape.now result.zeros }
 {
-    let mut u = pieces::begin();
-    let mut k = 0;
-    while k <= tape.len() / BLOCK {
-        let next = pieces::feed(u, block_at(tape, k));
-        u = next;
-        k += 1;
-    }
-    pieces::close(u)
+    pieces::close(pieces::feed_all(tape))
 }

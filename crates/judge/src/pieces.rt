@@ -2,13 +2,14 @@
 ghost use Rattle.std.specs.Prelude.{◌≡◌};
 ghost use Rattle.verdict.specs.Saying.{says, finds};
 ghost use Rattle.verdict.specs.declared.Verdict.{Verdict as Said};
-ghost use Rattle.judge.specs.Feeding.{begun, fed, closed};
+ghost use Rattle.tape_feed.specs.Feeding.{pieces_of};
+ghost use Rattle.judge.specs.Feeding.{begun, fed, fed_all, closed};
 
 use crate::UnderWay;
 use judge_follow::follow;
 use judge_stages::{conclude, unreadable};
 use tape_feed::{found, next};
-use tape_read::{kind, payload};
+use tape_read::{BLOCK, block_at, kind, payload};
 use verdict::Finding;
 
 pub fn begin() -> UnderWay
@@ -31,6 +32,18 @@ pub fn feed(u: UnderWay, piece: &[u8]) -> UnderWay
     let before = u.dialogue;
     let dialogue = follow::feed(before, taken.good, index, kind(piece), payload(piece));
     UnderWay { reader, dialogue }
+}
+
+// The whole tape, piece by piece.
+#[tactic(auto, using(crate::proofs::Fed::rest_begun, crate::proofs::Fed::rest_turn, crate::proofs::Fed::rest_over))]
+pub fn feed_all(tape: &[u8]) -> UnderWay
+    ensures { result ≡ fed_all begun (pieces_of tape.now) }
+{
+    let mut u = begin();
+    for k in 0..tape.len() / BLOCK + 1 {
+        u = feed(u, block_at(tape, k));
+    }
+    u
 }
 
 // Of an unreadable tape nothing is counted.

@@ -4,44 +4,25 @@
 #![tactic(auto)]
 
 use judge::pieces;
-use slices::part;
 use std::io;
 use std::io::{ErrorKind, Read};
 use tape_read::BLOCK;
-use text_input::{Filled, fill};
+use text_input::fill;
 use verdict::Finding;
-
-#[derive(Clone, Copy)]
-pub enum Judged {
-    Found(Finding),
-    Failed(io::Error),
-}
 
 // More blocks than there can be: nothing says that the file ends.
 const MOST: usize = 0x7FFF_FFFF_FFFF_FFFF;
 
-pub fn judge_file(file: &mut impl Read) -> Judged {
+// An error is one of reading the file.
+pub fn judge_file(file: &mut impl Read) -> io::Result<Finding> {
     let mut block = [0u8; BLOCK];
-    judge_blocks(file, &mut block)
-}
-
-fn judge_blocks(file: &mut impl Read, block: &mut [u8]) -> Judged {
     let mut u = pieces::begin();
-    let mut left: usize = MOST;
-    while 0 < left {
-        match fill(file, block) {
-            Filled::Bytes(n) => {
-                let next = pieces::feed(u, part(block, 0, n));
-                u = next;
-                if n < BLOCK {
-                    return Judged::Found(pieces::close(u));
-                }
-            }
-            Filled::Failed(e) => {
-                return Judged::Failed(e);
-            }
+    for _ in 0..MOST {
+        let n = fill(file, &mut block)?;
+        u = pieces::feed(u, &block[..n]);
+        if n < BLOCK {
+            return Ok(pieces::close(u));
         }
-        left -= 1;
     }
-    Judged::Failed(io::Error::from(ErrorKind::FileTooLarge))
+    Err(io::Error::from(ErrorKind::FileTooLarge))
 }

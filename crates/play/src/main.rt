@@ -28,7 +28,7 @@ mod tape;
 ghost use Rattle.std.specs.Prelude.{◌≤◌};
 
 use kernel::Session;
-use playing::next;
+use playing::{Played, next};
 use slices::part;
 use std::env::FillError;
 use std::fs::{File, OpenFile};
@@ -40,6 +40,9 @@ use text_lines::decimal::{NO_NUMBER, decimal};
 
 // A line of the longest word and the longest payload: eight bytes, and the digits of 4,096.
 const LONGEST: usize = 8200;
+
+// More lines than there can be: nothing says that the input ends.
+const MOST: usize = 0x7FFF_FFFF_FFFF_FFFF;
 
 fn main(rt: HostRuntime) {
     if !streams::are_open(&rt, &rt.stderr()) {
@@ -94,24 +97,21 @@ fn play<F: Write + OpenFile>(
     play_lines(rt, file, number, &mut line, &mut tape);
 }
 
-// Lines are counted down from more than there can be, since nothing says that the input ends.
 fn play_lines<F: Write + OpenFile>(
     rt: &(impl Input + Print + Eprint),
     file: &mut Option<F>,
     number: u32,
-    line: &mut [u8],
-    tape: &mut [u8],
+    line: &mut [u8; LONGEST],
+    tape: &mut [u8; TAPE],
 ) {
-    let mut session = Session::fresh();
-    let mut writer = Writer::new(number);
-    let mut left: usize = 0x7FFF_FFFF_FFFF_FFFF;
-    while 0 < left {
-        let t = next(rt, session, writer, file, line, tape);
-        if !t.goes_on {
+    let mut played = Played {
+        session: Session::fresh(),
+        writer: Writer::new(number),
+    };
+    for _ in 0..MOST {
+        let Some(then) = next(rt, played, file, line, tape) else {
             return;
-        }
-        session = t.session;
-        writer = t.writer;
-        left -= 1;
+        };
+        played = then;
     }
 }

@@ -1,7 +1,7 @@
 // One line: a call of the kernel, its entries on the tape, and its reply printed.
-use crate::line::{NO_DIGITS, ODD, TEXT_AFTER, UNKNOWN, fault_of, kind_of};
-use crate::say;
-use crate::store::{full, store};
+use crate::line::{Fault, asked, kind_of};
+use crate::stop::Stop;
+use crate::store::store;
 use commands::write::LONGEST;
 use kernel::{Session, Step};
 use kernel_record::{has_room, record};
@@ -10,125 +10,131 @@ use session_phase::{Reply, awaits};
 use session_state::result::decision;
 use slices::part;
 use std::fs::OpenFile;
+use std::io;
 use std::io::Write;
 use tape_write::Writer;
 use text_hex::unhex;
 use text_input::{Line, read_line};
 use text_lines::after_word;
+use text_print::{bytes, text};
 
-// The session and the writer after a line, and whether there is a next one: not at the end of the input, and not where a line or
-// a block was not written.
-#[derive(Drop)]
-pub struct Turn {
+// A session, and the writer of its tape.
+#[derive(Clone, Copy)]
+pub struct Played {
     pub session: Session,
     pub writer: Writer,
-    pub goes_on: bool,
 }
 
-// Reads a line into the lent buffer and answers it.
+// Reads a line into the lent buffer and answers it. What is played then; none where there is no next line: at the end of the input, and
+// where a line or a block was not written, of which standard error says why.
 pub fn next<F: Write + OpenFile>(
     rt: &(impl Input + Print + Eprint),
-    s: Session,
-    writer: Writer,
+    played: Played,
     file: &mut Option<F>,
     line: &mut [u8],
     tape: &mut [u8],
-) -> Turn {
+) -> Option<Played> {
     match read_line(rt, line) {
-        Line::Whole(n) => answer(rt, s, writer, file, part(line, 0, n), tape),
-        Line::Long => unchanged(s, writer, say::text(rt, b"ERROR line too long\n")),
-        Line::End => unchanged(s, writer, false),
+        Line::Whole(n) => answer(rt, played, file, part(line, 0, n), tape),
+        Line::Long => told(rt, too_long(rt, played)),
+        Line::End => None,
     }
 }
 
-fn unchanged(session: Session, writer: Writer, goes_on: bool) -> Turn {
-    Turn {
-        session,
-        writer,
-        goes_on,
-    }
-}
-
-// Answers a line.
+// Answers a line, with the same result.
 pub fn answer<F: Write + OpenFile>(
     rt: &(impl Print + Eprint),
-    s: Session,
-    writer: Writer,
+    played: Played,
     file: &mut Option<F>,
     line: &[u8],
     tape: &mut [u8],
-) -> Turn {
-    let kind = kind_of(line);
-    let rest = after_word(line);
-    let fault = fault_of(kind, rest);
-    if fault == 0 {
-        return call(rt, s, writer, file, kind, rest, tape);
-    }
-    unchanged(s, writer, print_fault(rt, fault))
+) -> Option<Played> {
+    told(rt, answered(rt, played, file, line, tape))
 }
 
-fn print_fault(rt: &(impl Print + Eprint), fault: u8) -> bool {
+fn told(rt: &impl Eprint, played: Result<Played, Stop>) -> Option<Played> {
+    match played {
+        Ok(played) => Some(played),
+        Err(stop) => {
+            stop.tell(rt);
+            None
+        }
+    }
+}
+
+fn too_long(rt: &impl Print, played: Played) -> Result<Played, Stop> {
+    text(rt, b"ERROR line too long\n")?;
+    Ok(played)
+}
+
+fn answered<F: Write + OpenFile>(
+    rt: &impl Print,
+    played: Played,
+    file: &mut Option<F>,
+    line: &[u8],
+    tape: &mut [u8],
+) -> Result<Played, Stop> {
+    let rest = after_word(line);
+    match asked(kind_of(line), rest) {
+        Ok(kind) => call(rt, played, file, kind, rest, tape),
+        Err(fault) => {
+            text(rt, told_of(fault))?;
+            Ok(played)
+        }
+    }
+}
+
+fn told_of(fault: Fault) -> &'static [u8] {
     match fault {
-        UNKNOWN => say::text(rt, b"ERROR unknown word\n"),
-        TEXT_AFTER => say::text(rt, b"ERROR text after SILENCE\n"),
-        NO_DIGITS => say::text(rt, b"ERROR not hexadecimal\n"),
-        ODD => say::text(rt, b"ERROR odd number of digits\n"),
-        _ => say::text(rt, b"ERROR\n"),
+        Fault::Unknown => b"ERROR unknown word\n",
+        Fault::TextAfter => b"ERROR text after SILENCE\n",
+        Fault::NoDigits => b"ERROR not hexadecimal\n",
+        Fault::Odd => b"ERROR odd number of digits\n",
     }
 }
 
 fn call<F: Write + OpenFile>(
-    rt: &(impl Print + Eprint),
-    s: Session,
-    writer: Writer,
+    rt: &impl Print,
+    played: Played,
     file: &mut Option<F>,
     kind: u8,
     digits: &[u8],
     tape: &mut [u8],
-) -> Turn {
+) -> Result<Played, Stop> {
     let mut payload = [0u8; 4096];
     let n = unhex(digits, &mut payload);
-    if is_room(s, writer, tape) {
-        return play(rt, s, writer, file, kind, &payload[0..n], tape);
+    if !is_room(played, tape) {
+        return Err(Stop::Full);
     }
-    unchanged(s, writer, full(rt))
+    play(rt, played, file, kind, &payload[..n], tape)
 }
 
 // Room for all that a call can lead to, so that no session gets ahead of its tape. One that is over leads to no block.
-fn is_room(s: Session, writer: Writer, tape: &[u8]) -> bool {
-    if has_room(writer, tape) {
-        return true;
-    }
-    let state = s.state;
-    let waiting = state.waiting;
-    awaits(waiting) == 0
+fn is_room(played: Played, tape: &[u8]) -> bool {
+    has_room(played.writer, tape) || awaits(played.session.state.waiting) == 0
 }
 
 // The reply is printed once its entries are stored.
 fn play<F: Write + OpenFile>(
-    rt: &(impl Print + Eprint),
-    s: Session,
-    writer: Writer,
+    rt: &impl Print,
+    played: Played,
     file: &mut Option<F>,
     kind: u8,
     payload: &[u8],
     tape: &mut [u8],
-) -> Turn {
+) -> Result<Played, Stop> {
     let mut command = [0u8; LONGEST];
-    let step = stepped(s, kind, payload, &mut command);
+    let step = stepped(played.session, kind, payload, &mut command);
     let session = step.session;
     let reply = step.reply;
-    let kept = record(writer, kind, payload, reply, &command, session, tape);
-    let next = kept.writer;
-    if store(rt, file, tape, writer.used, kept) {
-        let goes_on = print_reply(rt, session, reply, &command);
-        return Turn {
-            session,
-            writer: next,
-            goes_on,
-        };
-    }
-    unchanged(session, next, false)
+    let before = played.writer;
+    let kept = record(before, kind, payload, reply, &command, session, tape);
+    store(file, tape, before.used, kept)?;
+    print_reply(rt, session, reply, &command)?;
+    Ok(Played {
+        session,
+        writer: kept.writer,
+    })
 }
 
 fn stepped(s: Session, kind: u8, payload: &[u8], command: &mut [u8]) -> Step {
@@ -141,30 +147,19 @@ fn stepped(s: Session, kind: u8, payload: &[u8], command: &mut [u8]) -> Step {
     }
 }
 
-fn decision_in(s: Session) -> [u8; 9] {
-    let state = s.state;
-    decision(state)
-}
-
-// Whose word is due, and how many are wanted where that is counted.
-fn print_due(rt: &(impl Print + Eprint), s: Session, kind: u8) -> bool {
-    let mut name = [0u8; text_kinds::LONGEST];
-    let n = text_kinds::word(kind, &mut name);
-    if !say::text(rt, part(&name, 0, n)) {
-        return false;
-    }
-    if text_kinds::counts(kind) {
-        return say::with_number(rt, b" ", s.count_due());
-    }
-    say::text(rt, b"\n")
-}
-
-fn print_reply(rt: &(impl Print + Eprint), s: Session, reply: Reply, command: &[u8]) -> bool {
+fn print_reply(rt: &impl Print, s: Session, reply: Reply, command: &[u8]) -> io::Result<()> {
     match reply {
-        Reply::Command(n) => say::with_bytes(rt, b"COMMAND ", part(command, 0, n)),
-        Reply::Due(kind) => print_due(rt, s, kind),
-        Reply::Decided => say::with_bytes(rt, b"DECISION ", &decision_in(s)),
-        Reply::Closed => say::text(rt, b"CLOSED\n"),
-        Reply::Refused(n) => say::with_number(rt, b"REFUSED ", n),
+        Reply::Command(n) => {
+            text(rt, b"COMMAND ")?;
+            bytes(rt, part(command, 0, n))?;
+        }
+        Reply::Due(kind) => text_kinds::print_due(rt, kind, s.count_due())?,
+        Reply::Decided => {
+            text(rt, b"DECISION ")?;
+            bytes(rt, &decision(s.state))?;
+        }
+        Reply::Closed => text(rt, b"CLOSED")?,
+        Reply::Refused(n) => print!(rt; "REFUSED {n}")?,
     }
+    text(rt, b"\n")
 }

@@ -4,7 +4,7 @@
 
 mod call;
 mod line;
-mod say;
+mod stop;
 mod store;
 
-pub use call::{Turn, answer, next};
+pub use call::{Played, answer, next};

@@ -1,94 +1,85 @@
 // What a line asks, and what is wrong with one that asks nothing.
 ghost use Rattle.std.specs.Prelude.{◌≡◌};
-ghost use Rattle.playing.specs.Lines.{named, kind_of, all_digits, fault_of};
+ghost use Rattle.playing.specs.Lines.{named, kind_of, all_digits, asked};
 
 use numbers::{ANSWER, HOST, RESULTS, SILENCE, START};
-use slices::byte;
 use text_hex::digit_of;
 
 // What can be wrong.
-pub const UNKNOWN: u8 = 1;
+#[derive(Clone, Copy)]
+pub enum Fault {
+    Unknown,
+    TextAfter,
+    NoDigits,
+    Odd,
+}
 
-pub const TEXT_AFTER: u8 = 2;
-
-pub const NO_DIGITS: u8 = 3;
-
-pub const ODD: u8 = 4;
-
-const SPACE: usize = 0x20;
-
-// The kind of the event that the first word names; 0 for any other word.
-pub fn kind_of(line: &[u8]) -> u8
+// The kind of the event that the first word names, as the tape counts it; none for any other word.
+#[tactic(auto, unfolding(crate::specs::Lines::kind_of, slices::specs::Choice::pick))]
+pub fn kind_of(line: &[u8]) -> Option<u8>
     ensures { result ≡ kind_of line.now }
 {
     if is_named(line, b"START") {
-        return START;
+        return Some(START);
     }
     if is_named(line, b"ANSWER") {
-        return ANSWER;
+        return Some(ANSWER);
     }
     if is_named(line, b"SILENCE") {
-        return SILENCE;
+        return Some(SILENCE);
     }
     if is_named(line, b"HOST") {
-        return HOST;
+        return Some(HOST);
     }
     if is_named(line, b"RESULTS") {
-        RESULTS
-    } else {
-        0
+        return Some(RESULTS);
     }
+    None
 }
 
 // Whether this is a line's first word.
+#[tactic(auto, using(crate::proofs::Reading::named_not, crate::proofs::Reading::named_end, crate::proofs::Reading::named_more))]
 fn is_named(line: &[u8], word: &[u8]) -> bool
     ensures { result ≡ named word.now line.now }
 {
-    let mut i = 0;
-    while i < word.len() {
-        if line.len() <= i {
-            return false;
-        }
-        if line[i] != word[i] {
-            return false;
-        }
-        i += 1;
+    if !line.starts_with(word) {
+        return false;
     }
-    if line.len() == i {
-        true
-    } else {
-        byte(line, i) == SPACE
+    match line.get(word.len()) {
+        Some(b) => *b == b' ',
+        None => true,
     }
 }
 
-// What is wrong with the text behind the word of an event; 0 for nothing.
-pub fn fault_of(kind: u8, rest: &[u8]) -> u8
-    ensures { result ≡ fault_of kind rest.now }
+// The kind of the event that is asked for, where its word and the text behind it are in order.
+#[tactic(auto, unfolding(crate::specs::Lines::asked, slices::specs::Choice::pick))]
+pub fn asked(kind: Option<u8>, rest: &[u8]) -> Result<u8, Fault>
+    ensures { result ≡ asked kind rest.now }
 {
-    if kind == 0 {
-        return UNKNOWN;
-    }
-    if rest.len() == 0 {
-        return 0;
+    let kind = kind.ok_or(Fault::Unknown)?;
+    if rest.is_empty() {
+        return Ok(kind);
     }
     if kind == SILENCE {
-        return TEXT_AFTER;
+        return Err(Fault::TextAfter);
     }
-    if all_digits(rest) {
-        return if rest.len() % 2 == 0 { 0 } else { ODD };
+    if !all_digits(rest) {
+        return Err(Fault::NoDigits);
     }
-    NO_DIGITS
+    if rest.len() % 2 != 0 {
+        return Err(Fault::Odd);
+    }
+    Ok(kind)
 }
 
+#[tactic(auto, using(crate::proofs::Reading::digits_next, crate::proofs::Reading::digits_stop, crate::proofs::Reading::digits_end))]
 fn all_digits(s: &[u8]) -> bool
     ensures { result ≡ all_digits s.now }
 {
-    let mut i = 0;
-    while i < s.len() {
-        if 16 <= digit_of(byte(s, i)) {
+    for b in s {
+        if 16 <= digit_of(*b as usize) {
             return false;
         }
-        i += 1;
     }
     true
 }
