@@ -29,19 +29,16 @@ mod asked;
 mod blocks;
 mod events;
 mod say;
-mod words;
 
 use apdu::ANSWER_MOST;
-use asked::{CUT, TEST, asked_by, digits_in};
-use events::{stepped, told};
+use asked::{Asked, MOST, asked_by};
+use events::told;
 use slices::part;
 use std::io;
 use t1::fresh;
 use t1_block::LONGEST;
 use t1_state::{Role, State};
-use text_hex::unhex;
 use text_input::{Line, read_line};
-use text_lines::after_word;
 
 // A line with 8,192 bytes.
 const LINE: usize = 16_500;
@@ -53,7 +50,7 @@ fn main(rt: HostRuntime) -> io::Result<()> {
     exchange(&rt, &mut line, &mut out, &mut message)
 }
 
-// Lines are counted down from more than there can be, since nothing says that the input ends.
+// There are fewer lines than the count, but nothing says that the input ends.
 fn exchange(
     rt: &(impl Input + Print),
     line: &mut [u8],
@@ -61,14 +58,12 @@ fn exchange(
     message: &mut [u8; ANSWER_MOST],
 ) -> io::Result<()> {
     let mut state = fresh(Role::Terminal, 254, 254);
-    let mut left: usize = 0x7FFF_FFFF_FFFF_FFFF;
-    while 0 < left {
+    for _ in 0..u64::MAX {
         match read_line(rt, line) {
             Line::Whole(n) => state = said(rt, state, part(line, 0, n), out, message)?,
-            Line::Long => text_print::text(rt, b"ERROR line too long\n")?,
+            Line::Long => println!(rt; "ERROR line too long")?,
             Line::End => return Ok(()),
         }
-        left -= 1;
     }
     Ok(())
 }
@@ -80,48 +75,18 @@ fn said(
     out: &mut [u8; LONGEST],
     message: &mut [u8; ANSWER_MOST],
 ) -> io::Result<State> {
-    let digits = digits_in(line);
-    let mut bytes = [0u8; 8192];
-    let n = unhex(digits, &mut bytes);
-    let asked = asked_by(line, digits.len() == 2 * n);
-    answered(
-        rt,
-        s,
-        asked,
-        after_word(line),
-        part(&bytes, 0, n),
-        out,
-        message,
-    )
-}
-
-fn answered(
-    rt: &impl Print,
-    s: State,
-    asked: usize,
-    rest: &[u8],
-    given: &[u8],
-    out: &mut [u8; LONGEST],
-    message: &mut [u8; ANSWER_MOST],
-) -> io::Result<State> {
-    if asked < TEST {
-        let step = stepped(s, asked, rest, given, out, message);
-        return told(rt, step, out, message);
+    let mut bytes = [0u8; MOST];
+    match asked_by(line, &mut bytes) {
+        Ok(Asked::Happens(event)) => return told(rt, s, event, out, message),
+        Ok(Asked::Test { most, block }) => blocks::test(rt, block, most)?,
+        Ok(
+            Asked::Cut {
+                theirs,
+                second,
+                message,
+            },
+        ) => blocks::cut(rt, theirs, second, message, out)?,
+        Err(why) => println!(rt; "ERROR {why}")?,
     }
-    other(rt, asked, rest, given, out)?;
     Ok(s)
-}
-
-fn other(
-    rt: &impl Print,
-    asked: usize,
-    rest: &[u8],
-    given: &[u8],
-    out: &mut [u8; LONGEST],
-) -> io::Result<()> {
-    match asked {
-        TEST => blocks::test(rt, given, rest),
-        CUT => blocks::cut(rt, given, rest, out),
-        _ => say::error(rt, asked),
-    }
 }

@@ -14,19 +14,21 @@ pub use pieces::sends_piece;
 pub use requests::is_ifs;
 use requests::on_request;
 use t1_again::wrong;
-use t1_block::{Heard, Kind};
+use t1_block::Kind;
 use t1_state::{State, Turn};
 
 // Beside the block, the first byte of its field and the field's length.
-pub fn on_line(s: State, block: Heard, value: u8, n: u8) -> Turn
+#[tactic(auto, unfolding(crate::specs::Line::on_line))]
+pub fn on_line(s: State, block: Result<Kind, u8>, value: u8, n: u8) -> Turn
     ensures { result ≡ on_line block value n s }
 {
     match block {
-        Heard::Valid(kind) => on_kind(s, kind, value, n),
-        Heard::Bad(code) => wrong(s, code),
+        Ok(kind) => on_kind(s, kind, value, n),
+        Err(code) => wrong(s, code),
     }
 }
 
+#[tactic(auto, unfolding(crate::specs::Line::on_kind))]
 fn on_kind(s: State, kind: Kind, value: u8, n: u8) -> Turn
     ensures { result ≡ on_kind kind value n s }
 {
@@ -35,6 +37,5 @@ fn on_kind(s: State, kind: Kind, value: u8, n: u8) -> Turn
         Kind::Ready(number) => on_ready(s, number),
         Kind::Request(w) => on_request(s, w, value),
         Kind::Response(_) => wrong(s, 2),
-        Kind::NoKind => wrong(s, 2),
     }
 }
