@@ -12,15 +12,16 @@ pub const MOST: usize = 8192;
 #[derive(Clone, Copy)]
 pub enum Asked<'a> {
     Happens(Event<'a>),
-    Test {
-        most: u8,
-        block: &'a [u8],
-    },
-    Cut {
-        theirs: u8,
-        second: bool,
-        message: &'a [u8],
-    },
+    Test { most: u8, block: &'a [u8] },
+    Cut(Cut<'a>),
+}
+
+// A message for an end that takes fields of so many bytes, from number 0 on or from 1.
+#[derive(Clone, Copy)]
+pub struct Cut<'a> {
+    pub theirs: u8,
+    pub second: bool,
+    pub message: &'a [u8],
 }
 
 // What happens at an end: it begins, with the longest fields that the other end takes and that it takes itself; a block came; a message
@@ -83,11 +84,11 @@ fn other<'a>(line: &[u8], bytes: &'a mut [u8; MOST]) -> Result<Asked<'a>, Error>
             most: small(rest),
             block: unhexed(after_word(rest), bytes)?,
         }),
-        b"CUT" => Ok(Asked::Cut {
+        b"CUT" => Ok(Asked::Cut(Cut {
             theirs: small(rest),
             second: 0 < number(after_word(rest)),
             message: unhexed(after_word(after_word(rest)), bytes)?,
-        }),
+        })),
         _ => Err(Error::Unknown),
     }
 }

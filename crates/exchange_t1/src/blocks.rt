@@ -1,4 +1,5 @@
 // A block tested, and a message cut into blocks.
+use crate::asked::Cut;
 use crate::say;
 use apdu::ANSWER_MOST;
 use slices::byte;
@@ -41,20 +42,11 @@ fn valid(rt: &impl Print, block: &[u8], kind: Kind) -> io::Result<()> {
 
 // The blocks of a terminal that sends the message to a card that acknowledges each, by R-blocks for the next number, until the last
 // piece is out.
-pub fn cut(
-    rt: &impl Print,
-    theirs: u8,
-    second: bool,
-    message: &[u8],
-    out: &mut [u8; LONGEST],
-) -> io::Result<()> {
+pub fn cut(rt: &impl Print, asked: &Cut<'_>, out: &mut [u8; LONGEST]) -> io::Result<()> {
     let none = [0u8; ANSWER_MOST];
-    let s = fresh(Role::Terminal, theirs, 254);
-    let mut step = send(
-        s.at_phase(Phase::Due).with_numbers(second, false),
-        message,
-        out,
-    );
+    let s = fresh(Role::Terminal, asked.theirs, 254);
+    let s = s.at_phase(Phase::Due).with_numbers(asked.second, false);
+    let mut step = send(s, asked.message, out);
     for _ in 0..BLOCKS {
         say::reply(rt, step.reply, out, &none)?;
         if !step.state.message.has_more() {

@@ -30,37 +30,22 @@ mod blocks;
 mod events;
 mod say;
 
-use apdu::ANSWER_MOST;
 use asked::{Asked, MOST, asked_by};
-use events::told;
+use events::Exchange;
 use slices::part;
 use std::io;
-use t1::fresh;
-use t1_block::LONGEST;
-use t1_state::{Role, State};
 use text_input::{Line, read_line};
 
 // A line with 8,192 bytes.
 const LINE: usize = 16_500;
 
+// There are fewer lines than the count, but nothing says that the input ends.
 fn main(rt: HostRuntime) -> io::Result<()> {
     let mut line = [0u8; LINE];
-    let mut out = [0u8; LONGEST];
-    let mut message = [0u8; ANSWER_MOST];
-    exchange(&rt, &mut line, &mut out, &mut message)
-}
-
-// There are fewer lines than the count, but nothing says that the input ends.
-fn exchange(
-    rt: &(impl Input + Print),
-    line: &mut [u8],
-    out: &mut [u8; LONGEST],
-    message: &mut [u8; ANSWER_MOST],
-) -> io::Result<()> {
-    let mut state = fresh(Role::Terminal, 254, 254);
+    let mut exchange = Exchange::begun();
     for _ in 0..u64::MAX {
-        match read_line(rt, line) {
-            Line::Whole(n) => state = said(rt, state, part(line, 0, n), out, message)?,
+        match read_line(&rt, &mut line) {
+            Line::Whole(n) => said(&rt, &mut exchange, part(&line, 0, n))?,
             Line::Long => println!(rt; "ERROR line too long")?,
             Line::End => return Ok(()),
         }
@@ -68,25 +53,12 @@ fn exchange(
     Ok(())
 }
 
-fn said(
-    rt: &impl Print,
-    s: State,
-    line: &[u8],
-    out: &mut [u8; LONGEST],
-    message: &mut [u8; ANSWER_MOST],
-) -> io::Result<State> {
+fn said(rt: &impl Print, exchange: &mut Exchange, line: &[u8]) -> io::Result<()> {
     let mut bytes = [0u8; MOST];
     match asked_by(line, &mut bytes) {
-        Ok(Asked::Happens(event)) => return told(rt, s, event, out, message),
-        Ok(Asked::Test { most, block }) => blocks::test(rt, block, most)?,
-        Ok(
-            Asked::Cut {
-                theirs,
-                second,
-                message,
-            },
-        ) => blocks::cut(rt, theirs, second, message, out)?,
-        Err(why) => println!(rt; "ERROR {why}")?,
+        Ok(Asked::Happens(event)) => exchange.told(rt, event),
+        Ok(Asked::Test { most, block }) => blocks::test(rt, block, most),
+        Ok(Asked::Cut(cut)) => blocks::cut(rt, &cut, &mut exchange.out),
+        Err(why) => println!(rt; "ERROR {why}"),
     }
-    Ok(s)
 }

@@ -38,6 +38,7 @@ fn bit_of(b: bool, n: u8) -> u8
     if b { n } else { 0 }
 }
 
+// Not a conversion of a kind: an R-block carries a code besides.
 pub fn pcb_of_i(number: bool, more: bool) -> u8
     ensures { result ≡ pcb_of_i number more }
 {

@@ -3,8 +3,9 @@ ghost use Rattle.std.specs.Prelude.{◌≡◌, ◌+◌, ◌≤◌};
 ghost use Rattle.t1_state.specs.Limits.{message_most};
 ghost use Rattle.t1_line.specs.Line.{takes_fields, keeps, on_information};
 
+use crate::not_allowed;
 use apdu::ANSWER_MOST;
-use t1_again::{ended_by, ready_for, wrong};
+use t1_again::{ended_by, ready_for};
 use t1_state::{Act, End, Phase, State, Turn};
 
 #[tactic(auto, unfolding(crate::specs::Line::on_information, crate::specs::Line::equal, slices::specs::Choice::pick))]
@@ -12,10 +13,10 @@ pub fn on_information(s: State, number: bool, more: bool, n: u8) -> Turn
     ensures { result ≡ on_information number more n s }
 {
     if !takes_fields(s.phase, s.message.has_more()) {
-        return wrong(s, 2);
+        return not_allowed(s);
     }
     if number != s.numbers.expected {
-        return wrong(s, 2);
+        return not_allowed(s);
     }
     if ANSWER_MOST - (n as usize) < s.received {
         return ended_by(s, End::Limit);

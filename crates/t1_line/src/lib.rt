@@ -6,6 +6,7 @@ mod pieces;
 mod requests;
 
 ghost use Rattle.std.specs.Prelude.{◌≡◌};
+ghost use Rattle.t1_again.specs.Again.{wrong};
 ghost use Rattle.t1_line.specs.Line.{on_kind, on_line};
 
 use fields::on_information;
@@ -36,6 +37,13 @@ fn on_kind(s: State, kind: Kind, value: u8, n: u8) -> Turn
         Kind::Information(number, more) => on_information(s, number, more, n),
         Kind::Ready(number) => on_ready(s, number),
         Kind::Request(w) => on_request(s, w, value),
-        Kind::Response(_) => wrong(s, 2),
+        Kind::Response(_) => not_allowed(s),
     }
+}
+
+// A valid block that the state does not allow counts as invalid.
+fn not_allowed(s: State) -> Turn
+    ensures { result ≡ wrong 2 s }
+{
+    wrong(s, 2)
 }

@@ -3,7 +3,8 @@ ghost use Rattle.std.specs.Prelude.{◌≡◌, true};
 ghost use Rattle.t1_state.specs.Limits.{more_of};
 ghost use Rattle.t1_line.specs.Line.{sends_piece, sends_next, on_ready};
 
-use t1_again::{goes_out, information_again, wrong};
+use crate::not_allowed;
+use t1_again::{goes_out, information_again};
 use t1_state::{Counts, Last, Message, Phase, State, Turn};
 
 // A piece goes out for the first time, under our next number.
@@ -38,7 +39,7 @@ pub fn on_ready(s: State, number: bool) -> Turn
     ensures { result ≡ on_ready number s }
 {
     if !matches!(s.phase, Phase::Sent) {
-        return wrong(s, 2);
+        return not_allowed(s);
     }
     if number != s.numbers.next {
         return information_again(s);
@@ -46,5 +47,5 @@ pub fn on_ready(s: State, number: bool) -> Turn
     if s.message.has_more() {
         return goes_out(sends_next(s));
     }
-    wrong(s, 2)
+    not_allowed(s)
 }

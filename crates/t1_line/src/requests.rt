@@ -2,7 +2,8 @@
 ghost use Rattle.std.specs.Prelude.{◌≡◌};
 ghost use Rattle.t1_line.specs.Line.{is_ifs, answers, on_request};
 
-use t1_again::{ended_by, wrong};
+use crate::not_allowed;
+use t1_again::ended_by;
 use t1_block::What;
 use t1_state::{Act, End, Last, Role, State, Turn};
 
@@ -23,7 +24,7 @@ pub fn on_request(s: State, w: What, v: u8) -> Turn
         (What::Ifs, _) if is_ifs(v) => answer(s.with_sizes(v, s.sizes.ours), w, v),
         (What::Wtx, Role::Terminal) => answer(s, w, v),
         (What::Abort, Role::Terminal) => ended_by(s, End::Abort),
-        _ => wrong(s, 2),
+        _ => not_allowed(s),
     }
 }
 
