@@ -1,64 +1,48 @@
 // One event, with its reply printed.
-use crate::asked::{ASK, BLOCK, CARD, HELLO, SEND, SILENCE, small, what_of};
+use crate::asked::Event;
 use crate::say;
 use apdu::ANSWER_MOST;
 use std::io;
 use t1::{Reply, Step, ask, fresh, hello, receive, send, silent};
 use t1_block::LONGEST;
 use t1_state::{Role, State};
-use text_lines::{after_word, number};
 
-pub fn stepped(
-    s: State,
-    asked: usize,
-    rest: &[u8],
-    given: &[u8],
-    out: &mut [u8; LONGEST],
-    message: &mut [u8; ANSWER_MOST],
-) -> Step {
-    match asked {
-        BLOCK => receive(s, given, out, message),
-        SEND => send(s, given, out),
-        HELLO => hello(s, out),
-        SILENCE => silent(s),
-        ASK => ask(s, what_of(rest), small(number(after_word(rest))), out),
-        _ => begun(asked, rest),
-    }
+// An end of the line, with the room for the block that it sends and for the message that comes in.
+#[derive(Drop)]
+pub struct Exchange {
+    end: State,
+    pub out: [u8; LONGEST],
+    message: [u8; ANSWER_MOST],
 }
 
-// An end at the beginning; sizes beyond a byte are taken as 255.
-fn begun(asked: usize, rest: &[u8]) -> Step {
-    Step {
-        state: fresh(role_of(asked), small(number(rest)), own_size(asked, rest)),
-        reply: Reply::Nothing,
+impl Exchange {
+    pub fn begun() -> Exchange {
+        Exchange {
+            end: fresh(Role::Terminal, 254, 254),
+            out: [0; LONGEST],
+            message: [0; ANSWER_MOST],
+        }
     }
-}
 
-fn role_of(asked: usize) -> Role {
-    if asked == CARD {
-        Role::Card
-    } else {
-        Role::Terminal
+    pub fn told(&mut self, rt: &impl Print, event: Event<'_>) -> io::Result<()> {
+        let step = self.stepped(event);
+        say::reply(rt, step.reply, &self.out, &self.message)?;
+        self.end = step.state;
+        say::state(rt, &self.end)
     }
-}
 
-fn own_size(asked: usize, rest: &[u8]) -> u8 {
-    if asked == CARD {
-        small(number(after_word(rest)))
-    } else {
-        254
+    fn stepped(&mut self, event: Event<'_>) -> Step {
+        let s = self.end;
+        match event {
+            Event::Begin { role, theirs, ours } => Step {
+                state: fresh(role, theirs, ours),
+                reply: Reply::Nothing,
+            },
+            Event::Block(block) => receive(s, block, &mut self.out, &mut self.message),
+            Event::Send(m) => send(s, m, &mut self.out),
+            Event::Hello => hello(s, &mut self.out),
+            Event::Silence => silent(s),
+            Event::Ask(what, value) => ask(s, what, value, &mut self.out),
+        }
     }
-}
-
-pub fn told(
-    rt: &impl Print,
-    step: Step,
-    out: &[u8; LONGEST],
-    message: &[u8; ANSWER_MOST],
-) -> io::Result<State> {
-    let state = step.state;
-    let reply = step.reply;
-    say::reply(rt, reply, out, message)?;
-    say::state(rt, state)?;
-    Ok(state)
 }

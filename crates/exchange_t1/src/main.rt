@@ -29,99 +29,36 @@ mod asked;
 mod blocks;
 mod events;
 mod say;
-mod words;
 
-use apdu::ANSWER_MOST;
-use asked::{CUT, TEST, asked_by, digits_in};
-use events::{stepped, told};
+use asked::{Asked, MOST, asked_by};
+use events::Exchange;
 use slices::part;
 use std::io;
-use t1::fresh;
-use t1_block::LONGEST;
-use t1_state::{Role, State};
-use text_hex::unhex;
 use text_input::{Line, read_line};
-use text_lines::after_word;
 
 // A line with 8,192 bytes.
 const LINE: usize = 16_500;
 
+// There are fewer lines than the count, but nothing says that the input ends.
 fn main(rt: HostRuntime) -> io::Result<()> {
     let mut line = [0u8; LINE];
-    let mut out = [0u8; LONGEST];
-    let mut message = [0u8; ANSWER_MOST];
-    exchange(&rt, &mut line, &mut out, &mut message)
-}
-
-// Lines are counted down from more than there can be, since nothing says that the input ends.
-fn exchange(
-    rt: &(impl Input + Print),
-    line: &mut [u8],
-    out: &mut [u8; LONGEST],
-    message: &mut [u8; ANSWER_MOST],
-) -> io::Result<()> {
-    let mut state = fresh(Role::Terminal, 254, 254);
-    let mut left: usize = 0x7FFF_FFFF_FFFF_FFFF;
-    while 0 < left {
-        match read_line(rt, line) {
-            Line::Whole(n) => state = said(rt, state, part(line, 0, n), out, message)?,
-            Line::Long => text_print::text(rt, b"ERROR line too long\n")?,
+    let mut exchange = Exchange::begun();
+    for _ in 0..u64::MAX {
+        match read_line(&rt, &mut line) {
+            Line::Whole(n) => said(&rt, &mut exchange, part(&line, 0, n))?,
+            Line::Long => println!(rt; "ERROR line too long")?,
             Line::End => return Ok(()),
         }
-        left -= 1;
     }
     Ok(())
 }
 
-fn said(
-    rt: &impl Print,
-    s: State,
-    line: &[u8],
-    out: &mut [u8; LONGEST],
-    message: &mut [u8; ANSWER_MOST],
-) -> io::Result<State> {
-    let digits = digits_in(line);
-    let mut bytes = [0u8; 8192];
-    let n = unhex(digits, &mut bytes);
-    let asked = asked_by(line, digits.len() == 2 * n);
-    answered(
-        rt,
-        s,
-        asked,
-        after_word(line),
-        part(&bytes, 0, n),
-        out,
-        message,
-    )
-}
-
-fn answered(
-    rt: &impl Print,
-    s: State,
-    asked: usize,
-    rest: &[u8],
-    given: &[u8],
-    out: &mut [u8; LONGEST],
-    message: &mut [u8; ANSWER_MOST],
-) -> io::Result<State> {
-    if asked < TEST {
-        let step = stepped(s, asked, rest, given, out, message);
-        return told(rt, step, out, message);
-    }
-    other(rt, asked, rest, given, out)?;
-    Ok(s)
-}
-
-fn other(
-    rt: &impl Print,
-    asked: usize,
-    rest: &[u8],
-    given: &[u8],
-    out: &mut [u8; LONGEST],
-) -> io::Result<()> {
-    match asked {
-        TEST => blocks::test(rt, given, rest),
-        CUT => blocks::cut(rt, given, rest, out),
-        _ => say::error(rt, asked),
+fn said(rt: &impl Print, exchange: &mut Exchange, line: &[u8]) -> io::Result<()> {
+    let mut bytes = [0u8; MOST];
+    match asked_by(line, &mut bytes) {
+        Ok(Asked::Happens(event)) => exchange.told(rt, event),
+        Ok(Asked::Test { most, block }) => blocks::test(rt, block, most),
+        Ok(Asked::Cut(cut)) => blocks::cut(rt, &cut, &mut exchange.out),
+        Err(why) => println!(rt; "ERROR {why}"),
     }
 }

@@ -15,7 +15,8 @@ use t1_state::{Counts, End, Last, Message, Numbers, Phase, Refusal, Role, Sizes,
 use t1_turns::{on_ask, on_block, on_hello, on_send, on_silence};
 
 // Nothing is to be sent; so many bytes of the lent buffer are; they are, and so many of the block's field were taken; the message
-// is whole, with so many bytes, the last of them from this field; how this end stopped; a refusal.
+// is whole, with so many bytes, the last of them from this field; how this end stopped; a refusal. Not a `Result`: a refusal too comes
+// with the state, as each event's theorem says.
 #[derive(Clone, Copy)]
 pub enum Reply {
     Nothing,
@@ -69,6 +70,7 @@ fn first_phase(role: Role) -> Phase
 }
 
 // A block came: any bytes.
+#[tactic(auto, unfolding(crate::specs::Steps::step_of, crate::specs::Steps::out_after, crate::specs::Steps::message_after, crate::specs::Steps::turn_of, crate::specs::Steps::field_of))]
 pub fn receive(
     s: State,
     block: &[u8],
@@ -79,28 +81,26 @@ pub fn receive(
     ensures out_after { out.new ≡ out_after s (block_came block.now) out.old }
     ensures message_after { message.new ≡ message_after s (block_came block.now) message.old }
 {
-    let received = s.received;
     let t = on_block(s, block);
-    let act = t.act;
     let inf = information(block);
-    keep(act, received, inf, message);
+    keep(t.act, s.received, inf, message);
     finish(t, inf.len(), out)
 }
 
 // No block came in time.
+#[tactic(auto, using(crate::proofs::Silence::silent_quiet), unfolding(crate::specs::Steps::step_of, crate::specs::Steps::done_by, crate::specs::Steps::turn_of, crate::specs::Steps::field_of))]
 pub fn silent(s: State) -> Step
     ensures { result ≡ step_of s no_block }
 {
     let t = on_silence(s);
-    let act = t.act;
-    let state = t.state;
     Step {
-        state,
-        reply: reply_of(act, 0, 0),
+        state: t.state,
+        reply: reply_of(t.act, 0, 0),
     }
 }
 
 // The terminal's first request.
+#[tactic(auto, unfolding(crate::specs::Steps::step_of, crate::specs::Steps::out_after, crate::specs::Steps::turn_of, crate::specs::Steps::field_of))]
 pub fn hello(s: State, out: &mut [u8; LONGEST]) -> Step
     ensures value { result ≡ step_of s hello_due }
     ensures out_after { out.new ≡ out_after s hello_due out.old }
@@ -109,6 +109,7 @@ pub fn hello(s: State, out: &mut [u8; LONGEST]) -> Step
 }
 
 // A card asks for another size of its own, or for more time.
+#[tactic(auto, unfolding(crate::specs::Steps::step_of, crate::specs::Steps::out_after, crate::specs::Steps::turn_of, crate::specs::Steps::field_of))]
 pub fn ask(s: State, w: What, v: u8, out: &mut [u8; LONGEST]) -> Step
     ensures value { result ≡ step_of s (ask_for w v) }
     ensures out_after { out.new ≡ out_after s (ask_for w v) out.old }
@@ -117,6 +118,7 @@ pub fn ask(s: State, w: What, v: u8, out: &mut [u8; LONGEST]) -> Step
 }
 
 // A command, or the card's answer, is to be sent.
+#[tactic(auto, unfolding(crate::specs::Steps::step_of, crate::specs::Steps::out_after, crate::specs::Steps::turn_of, crate::specs::Steps::field_of))]
 pub fn send(s: State, m: &[u8], out: &mut [u8; LONGEST]) -> Step
     ensures value { result ≡ step_of s (send_message m.now) }
     ensures out_after { out.new ≡ out_after s (send_message m.now) out.old }

@@ -3,11 +3,9 @@
 
 ghost use Rattle.std.specs.Prelude.{◌≡◌};
 ghost use Rattle.t1_again.specs.Again.{goes_out, ended_by, refused_as, ready_for, same_again, information_again, wrong as wrong_in};
-ghost use Rattle.t1_again.specs.Again.{is_size, asks_size, stays_open, exhausted as exhausted_in};
+ghost use Rattle.t1_again.specs.Again.{stays_open, exhausted as exhausted_in};
 
 use t1_block::{What, pcb_of_r};
-use t1_state::change::{at_phase, sends};
-use t1_state::limits::{information_limit, same_limit};
 use t1_state::{Act, Counts, End, Last, Phase, Refusal, Role, State, Turn};
 
 pub fn goes_out(s: State) -> Turn
@@ -23,7 +21,7 @@ pub fn ended_by(s: State, e: End) -> Turn
     ensures { result ≡ ended_by e s }
 {
     Turn {
-        state: at_phase(s, Phase::Over),
+        state: s.at_phase(Phase::Over),
         act: Act::End(e),
     }
 }
@@ -38,44 +36,43 @@ pub fn refused_as(s: State, why: Refusal) -> Turn
 }
 
 // An R-block for the I-block that we expect.
+#[tactic(auto, unfolding(crate::specs::Again::ready_for))]
 pub fn ready_for(s: State, code: u8) -> State
     ensures { result ≡ ready_for code s }
 {
-    let numbers = s.numbers;
-    let counts = s.counts;
-    let pcb = pcb_of_r(numbers.expected, code);
-    let first = Counts {
-        information: counts.information,
-        same: 1,
-    };
-    sends(s, Last::Ready(pcb), first)
+    let pcb = pcb_of_r(s.numbers.expected, code);
+    s.sends(
+        Last::Ready(pcb),
+        Counts {
+            same: 1,
+            ..s.counts
+        },
+    )
 }
 
 // The R-block or the request once more.
+#[tactic(auto, unfolding(crate::specs::Again::same_again, slices::specs::Choice::pick))]
 pub fn same_again(s: State) -> Turn
     ensures { result ≡ same_again s }
 {
-    let role = s.role;
     let last = s.last;
-    let counts = s.counts;
-    let same = counts.same;
-    if same < same_limit(role, last) {
+    let same = s.counts.same;
+    if same < s.role.same_limit(last) {
         let more = Counts {
-            information: counts.information,
             same: same + 1,
+            ..s.counts
         };
-        return goes_out(sends(s, last, more));
+        return goes_out(s.sends(last, more));
     }
     exhausted(s)
 }
 
 // A card's request for a size stays open; anything else is the end.
+#[tactic(auto, unfolding(crate::specs::Again::exhausted, slices::specs::Choice::pick))]
 fn exhausted(s: State) -> Turn
     ensures { result ≡ exhausted_in s }
 {
-    let role = s.role;
-    let last = s.last;
-    if stays_open(role, last) {
+    if stays_open(s.role, s.last) {
         return Turn {
             state: s,
             act: Act::Nothing,
@@ -87,62 +84,32 @@ fn exhausted(s: State) -> Turn
 fn stays_open(role: Role, last: Last) -> bool
     ensures { result ≡ stays_open role last }
 {
-    match role {
-        Role::Terminal => false,
-        Role::Card => asks_size(last),
-    }
-}
-
-fn asks_size(last: Last) -> bool
-    ensures { result ≡ asks_size last }
-{
-    match last {
-        Last::Request(w, _) => is_size(w),
-        Last::Nothing => false,
-        Last::Information => false,
-        Last::Ready(_) => false,
-        Last::Response(_, _) => false,
-    }
-}
-
-fn is_size(w: What) -> bool
-    ensures { result ≡ is_size w }
-{
-    match w {
-        What::Resynch => false,
-        What::Ifs => true,
-        What::Abort => false,
-        What::Wtx => false,
-    }
+    matches!((role, last), (Role::Card, Last::Request(What::Ifs, _)))
 }
 
 // The I-block once more.
+#[tactic(auto, unfolding(crate::specs::Again::information_again, slices::specs::Choice::pick))]
 pub fn information_again(s: State) -> Turn
     ensures { result ≡ information_again s }
 {
-    let role = s.role;
-    let counts = s.counts;
-    let information = counts.information;
-    if information < information_limit(role) {
+    let information = s.counts.information;
+    if information < s.role.information_limit() {
         let more = Counts {
             information: information + 1,
-            same: counts.same,
+            ..s.counts
         };
-        return goes_out(sends(s, Last::Information, more));
+        return goes_out(s.sends(Last::Information, more));
     }
     ended_by(s, End::Limit)
 }
 
 // A block that is not taken, with the error code for it.
+#[tactic(auto, unfolding(crate::specs::Again::wrong, crate::specs::Again::wrong_after))]
 pub fn wrong(s: State, code: u8) -> Turn
     ensures { result ≡ wrong_in code s }
 {
-    let last = s.last;
-    match last {
-        Last::Nothing => goes_out(ready_for(s, code)),
-        Last::Information => goes_out(ready_for(s, code)),
-        Last::Response(_, _) => goes_out(ready_for(s, code)),
-        Last::Ready(_) => same_again(s),
-        Last::Request(_, _) => same_again(s),
+    match s.last {
+        Last::Nothing | Last::Information | Last::Response(_, _) => goes_out(ready_for(s, code)),
+        Last::Ready(_) | Last::Request(_, _) => same_again(s),
     }
 }

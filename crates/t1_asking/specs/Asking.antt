@@ -1,14 +1,13 @@
 -- A block where a request of our own is open: its response, or the request goes out again. 000, I-5.2.4.3 and I-5.2.5.1.
 -- Assumes nothing.
-use Rattle.std.specs.Prelude.{Bool, false, ℕ, eqb}
+use Rattle.std.specs.Prelude.{Ok, Err, Bool, false, ℕ, eqb}
 use Rattle.slices.specs.Choice.{pick}
 use Rattle.t1_block.specs.Blocks.{what_number}
+use Rattle.t1_block.specs.Faults.{Heard}
 use Rattle.t1_block.specs.declared.What.{What}
 use Rattle.t1_block.specs.declared.What.TheVariants.{Resynch, Ifs, Abort, Wtx}
 use Rattle.t1_block.specs.declared.Kind.{Kind}
-use Rattle.t1_block.specs.declared.Kind.TheVariants.{NoKind, Information as I, Ready as R, Request as Asks, Response as Answers}
-use Rattle.t1_block.specs.declared.Heard.{Heard}
-use Rattle.t1_block.specs.declared.Heard.TheVariants.{Valid, Bad}
+use Rattle.t1_block.specs.declared.Kind.TheVariants.{Information as I, Ready as R, Request as Asks, Response as Answers}
 use Rattle.t1_state.specs.Changes.{at_phase, with_sizes}
 use Rattle.t1_state.specs.declared.Phase.TheVariants.{Due}
 use Rattle.t1_state.specs.declared.Last.{Last}
@@ -49,8 +48,7 @@ asked_kind (I number more) v s = same_again s
 asked_kind (R number) v s = same_again s
 asked_kind (Asks w) v s = asked_instead w s
 asked_kind (Answers w) v s = on_response w v s
-asked_kind NoKind v s = same_again s
 
 unfoldable pub on_asking : Heard → ℕ → State → Turn
-on_asking (Valid kind) v s = asked_kind kind v s
-on_asking (Bad code) v s = same_again s
+on_asking (Ok kind) v s = asked_kind kind v s
+on_asking (Err code) v s = same_again s

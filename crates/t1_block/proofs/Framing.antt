@@ -12,19 +12,22 @@ use Rattle.slices.specs.Writing.{put, laid}
 use Rattle.slices.proofs.Choice.{pick_yes, pick_no, picked}
 use Rattle.slices.proofs.Writing.{put_step, put_start, put_length, put_nothing, laid_fits}
 use Rattle.t1_block.specs.Blocks.{nad_of, pcb_of, len_of, lrc_of, kind_of, inf_most, body_of, framed, written}
-use Rattle.t1_block.specs.Faults.{field_fault, frame_fault}
+use Rattle.t1_block.specs.Faults.{of_kind, in_frame}
+use Rattle.std.specs.Prelude.{Result, Err}
+use Rattle.t1_block.specs.declared.Kind.{Kind}
 use Rattle.t1_block.specs.declared.Fault.{Fault}
 use Rattle.t1_block.specs.declared.Fault.TheVariants.{Len, Nad, Edc}
 
-abbrev pub tested : List ℕ → ℕ → ℕ → Fault
-tested b n most =
+-- the tests with LEN by another name
+abbrev pub tested_with : List ℕ → ℕ → ℕ → Result Kind Fault
+tested_with b n most =
     pick (eqb (lrc_of (take (3 + n) b)) (get_or b (3 + n) 0))
-    (pick (eqb n 0xFF) Len (pick (eqb (nad_of b) 0x00) (field_fault (kind_of (pcb_of b)) n most) Nad))
-    Edc
+    (pick (eqb n 0xFF) (Err Len) (pick (eqb (nad_of b) 0x00) (of_kind (kind_of (pcb_of b)) n most) (Err Nad)))
+    (Err Edc)
 
-pub framed_as : (b : List ℕ) (n most : ℕ) → n ≡ len_of b → tested b n most ≡ frame_fault b most
-unfolding frame_fault
-framed_as b n most e = ap (λ (k : ℕ). tested b k most) e
+pub framed_as : (b : List ℕ) (n most : ℕ) → n ≡ len_of b → tested_with b n most ≡ in_frame b most
+unfolding in_frame
+framed_as b n most e = ap (λ (k : ℕ). tested_with b k most) e
 
 -- nothing laid, nothing changed
 pub laid_nothing : (p : ℕ) (d : List ℕ) → laid [] p d ≡ d

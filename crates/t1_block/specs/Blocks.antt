@@ -1,13 +1,13 @@
 -- A block: NAD, PCB, LEN, information field, LRC. 000, I-5.2.4.1 and Tables I-22 to I-25.
 -- Assumes nothing.
-use Rattle.std.specs.Prelude.{Bool, true, false, List, [], ◌∷◌, ◌++◌, ℕ, ◌+◌, ◌/◌, ◌%◌, eqb, leb, length, get_or, take, drop}
+use Rattle.std.specs.Prelude.{Option, Some, None, Bool, true, false, List, [], ◌∷◌, ◌++◌, ℕ, ◌+◌, ◌/◌, ◌%◌, eqb, leb, length, get_or, take, drop}
 use Rattle.slices.specs.Choice.{pick}
 use Rattle.slices.specs.Tables.{beside}
 use Rattle.atr_characters.specs.Data.{joined_from}
 use Rattle.t1_block.specs.declared.What.{What}
 use Rattle.t1_block.specs.declared.What.TheVariants.{Resynch, Ifs, Abort, Wtx}
 use Rattle.t1_block.specs.declared.Kind.{Kind}
-use Rattle.t1_block.specs.declared.Kind.TheVariants.{Information, Ready, Request, Response, NoKind}
+use Rattle.t1_block.specs.declared.Kind.TheVariants.{Information, Ready, Request, Response}
 
 -- the prologue's three bytes; what is not there reads as 0
 abbrev pub nad_of : List ℕ → ℕ
@@ -32,25 +32,25 @@ abbrev pub inf_most : ℕ
 inf_most = 254
 
 -- 000, Table I-23 (chaining is b6, the number b7) and Table I-25
-abbrev pub kinds : List (ℕ × Kind)
+abbrev pub kinds : List (ℕ × Option Kind)
 kinds =
-    (0x00, Information false false)
-    ∷ (0x20, Information false true)
-    ∷ (0x40, Information true false)
-    ∷ (0x60, Information true true)
-    ∷ (0xC0, Request Resynch)
-    ∷ (0xC1, Request Ifs)
-    ∷ (0xC2, Request Abort)
-    ∷ (0xC3, Request Wtx)
-    ∷ (0xE0, Response Resynch)
-    ∷ (0xE1, Response Ifs)
-    ∷ (0xE2, Response Abort)
-    ∷ (0xE3, Response Wtx)
+    (0x00, Some (Information false false))
+    ∷ (0x20, Some (Information false true))
+    ∷ (0x40, Some (Information true false))
+    ∷ (0x60, Some (Information true true))
+    ∷ (0xC0, Some (Request Resynch))
+    ∷ (0xC1, Some (Request Ifs))
+    ∷ (0xC2, Some (Request Abort))
+    ∷ (0xC3, Some (Request Wtx))
+    ∷ (0xE0, Some (Response Resynch))
+    ∷ (0xE1, Some (Response Ifs))
+    ∷ (0xE2, Some (Response Abort))
+    ∷ (0xE3, Some (Response Wtx))
     ∷ []
 
--- what a protocol control byte says; of an R-block the number alone, b5 (000, Table I-24; I-5.2.5.1: b4-b1 are ignored)
-unfoldable pub kind_of : ℕ → Kind
-kind_of p = pick (eqb (p / 16) 8) (Ready false) (pick (eqb (p / 16) 9) (Ready true) (beside NoKind p kinds))
+-- what a protocol control byte says, where it says anything; of an R-block the number alone, b5 (000, Table I-24; I-5.2.5.1: b4-b1 are ignored)
+unfoldable pub kind_of : ℕ → Option Kind
+kind_of p = pick (eqb (p / 16) 8) (Some (Ready false)) (pick (eqb (p / 16) 9) (Some (Ready true)) (beside None p kinds))
 
 -- the same the other way; an R-block with its error code
 abbrev pub bit_of : Bool → ℕ → ℕ

@@ -1,119 +1,117 @@
 // The tests of a received block, in their order.
-ghost use Rattle.std.specs.Prelude.{false, ◌≡◌, eqb};
+ghost use Rattle.std.specs.Prelude.{◌≡◌, Ok, Err, eqb, leb};
 ghost use Rattle.slices.specs.Choice.{pick};
 ghost use Rattle.t1_block.specs.Blocks.{lrc_of};
-ghost use Rattle.t1_block.specs.Faults.{size_of, field_fault, frame_fault, fault_of, heard_of, code_of as code_of_fault};
+ghost use Rattle.t1_block.specs.Faults.{size_of, sized, in_frame, tested, heard_of, code_of};
 
 use crate::kinds::kind_of;
-use crate::{Fault, Heard, Kind, What};
+use crate::{Fault, Kind, What};
 use slices::{byte, part};
 
-// The longest information field that we take is given.
-pub fn fault_of(block: &[u8], most: u8) -> Fault
-    ensures { result ≡ fault_of block.now most }
+// A valid block's kind, where the longest information field that we take is given.
+#[tactic(auto, unfolding(crate::specs::Faults::tested, slices::specs::Choice::pick))]
+pub fn tested(block: &[u8], most: u8) -> Result<Kind, Fault>
+    ensures { result ≡ tested block.now most }
 {
     let n = byte(block, 2);
     if block.len() < 4 + n {
-        return Fault::Under;
+        return Err(Fault::Under);
     }
     if 4 + n < block.len() {
-        return Fault::Over;
+        return Err(Fault::Over);
     }
-    frame_fault(block, most)
+    in_frame(block, most)
 }
 
-fn frame_fault(block: &[u8], most: u8) -> Fault
-    ensures { result ≡ frame_fault block.now most }
+#[tactic(auto, unfolding(crate::specs::Faults::in_frame, crate::specs::Faults::of_kind, slices::specs::Choice::pick))]
+fn in_frame(block: &[u8], most: u8) -> Result<Kind, Fault>
+    ensures { result ≡ in_frame block.now most }
 {
     let n = byte(block, 2);
     let x = lrc(part(block, 0, 3 + n)) as usize;
-    if x == byte(block, 3 + n) {
-        if n == 0xFF {
-            return Fault::Len;
-        }
-        if byte(block, 0) == 0x00 {
-            return field_fault(kind_of(byte(block, 1) as u8), n as u8, most);
-        }
-        return Fault::Nad;
+    if x != byte(block, 3 + n) {
+        return Err(Fault::Edc);
     }
-    Fault::Edc
+    if n == 0xFF {
+        return Err(Fault::Len);
+    }
+    if byte(block, 0) != 0x00 {
+        return Err(Fault::Nad);
+    }
+    let kind = kind_of(byte(block, 1) as u8).ok_or(Fault::Pcb)?;
+    sized(kind, n as u8, most)
 }
 
 // The bytes joined by exclusive or.
+#[tactic(auto, unfolding(crate::specs::Blocks::lrc_of, atr_characters::specs::Data::joined_from))]
 pub fn lrc(s: &[u8]) -> u8
     ensures { result ≡ lrc_of s.now }
 {
     let mut x: u8 = 0;
-    let mut i = 0;
-    while i < s.len() {
-        x = x ^ s[i];
-        i += 1;
+    for b in s {
+        x ^= *b;
     }
     x
 }
 
-fn field_fault(kind: Kind, n: u8, most: u8) -> Fault
-    ensures { result ≡ field_fault kind n most }
+// The kind, where a field of so many bytes is one that it may have.
+#[tactic(auto, unfolding(crate::specs::Faults::sized))]
+fn sized(kind: Kind, n: u8, most: u8) -> Result<Kind, Fault>
+    ensures { result ≡ sized kind n most }
 {
     match kind {
-        Kind::Information(_, _) => of_information(n, most),
-        Kind::Ready(_) => exactly(n, 0),
-        Kind::Request(w) => exactly(n, size_of(w)),
-        Kind::Response(w) => exactly(n, size_of(w)),
-        Kind::NoKind => Fault::Pcb,
+        Kind::Information(_, _) => of_information(kind, n, most),
+        Kind::Ready(_) => exactly(kind, n, 0),
+        Kind::Request(w) | Kind::Response(w) => exactly(kind, n, size_of(w)),
     }
 }
 
-fn of_information(n: u8, most: u8) -> Fault
-    ensures { result ≡ field_fault (Kind.Information false false) n most }
+#[tactic(auto, unfolding(slices::specs::Choice::pick))]
+fn of_information(kind: Kind, n: u8, most: u8) -> Result<Kind, Fault>
+    ensures { result ≡ pick (eqb n 0) (Err Fault.Empty) (pick (leb n most) (Ok kind) (Err Fault.Size)) }
 {
     if n == 0 {
-        return Fault::Empty;
+        return Err(Fault::Empty);
     }
-    if n <= most { Fault::Sound } else { Fault::Size }
+    if n <= most {
+        Ok(kind)
+    } else {
+        Err(Fault::Size)
+    }
 }
 
-fn exactly(n: u8, size: u8) -> Fault
-    ensures { result ≡ pick (eqb n size) Fault.Sound Fault.Inf }
+#[tactic(auto, unfolding(slices::specs::Choice::pick))]
+fn exactly(kind: Kind, n: u8, size: u8) -> Result<Kind, Fault>
+    ensures { result ≡ pick (eqb n size) (Ok kind) (Err Fault.Inf) }
 {
-    if n == size { Fault::Sound } else { Fault::Inf }
+    if n == size { Ok(kind) } else { Err(Fault::Inf) }
 }
 
 fn size_of(w: What) -> u8
     ensures { result ≡ size_of w }
 {
     match w {
-        What::Resynch => 0,
-        What::Ifs => 1,
-        What::Abort => 0,
-        What::Wtx => 1,
+        What::Ifs | What::Wtx => 1,
+        What::Resynch | What::Abort => 0,
     }
 }
 
-// The error code that an R-block carries; 0 where nothing is wrong.
-pub fn code_of(fault: Fault) -> u8
-    ensures { result ≡ code_of_fault fault }
-{
-    match fault {
-        Fault::Sound => 0,
-        Fault::Edc => 1,
-        Fault::Under => 2,
-        Fault::Over => 2,
-        Fault::Len => 2,
-        Fault::Nad => 2,
-        Fault::Pcb => 2,
-        Fault::Empty => 2,
-        Fault::Size => 2,
-        Fault::Inf => 2,
+impl Fault {
+    // The error code that an R-block carries.
+    pub fn code(self) -> u8
+        ensures { result ≡ code_of self }
+    {
+        match self {
+            Fault::Edc => 1,
+            _ => 2,
+        }
     }
 }
 
-pub fn hear(block: &[u8], most: u8) -> Heard
+// A received block: valid, or the code that an R-block is to carry.
+#[tactic(auto, unfolding(crate::specs::Faults::heard_of, crate::specs::Faults::heard_as))]
+pub fn hear(block: &[u8], most: u8) -> Result<Kind, u8>
     ensures { result ≡ heard_of block.now most }
 {
-    let code = code_of(fault_of(block, most));
-    if code == 0 {
-        return Heard::Valid(kind_of(byte(block, 1) as u8));
-    }
-    Heard::Bad(code)
+    tested(block, most).map_err(|fault| fault.code())
 }

@@ -4,29 +4,31 @@ ghost use Rattle.t1_block.specs.Blocks.{kind_of, bit_of, pcb_of_i, pcb_of_r, wha
 
 use crate::{Kind, What};
 
-pub fn kind_of(pcb: u8) -> Kind
+// What a control byte says, where it says anything.
+#[tactic(auto, unfolding(crate::specs::Blocks::kind_of, slices::specs::Tables::beside, slices::specs::Choice::pick))]
+pub fn kind_of(pcb: u8) -> Option<Kind>
     ensures { result ≡ kind_of pcb }
 {
     if pcb / 16 == 8 {
-        return Kind::Ready(false);
+        return Some(Kind::Ready(false));
     }
     if pcb / 16 == 9 {
-        return Kind::Ready(true);
+        return Some(Kind::Ready(true));
     }
     match pcb {
-        0x00 => Kind::Information(false, false),
-        0x20 => Kind::Information(false, true),
-        0x40 => Kind::Information(true, false),
-        0x60 => Kind::Information(true, true),
-        0xC0 => Kind::Request(What::Resynch),
-        0xC1 => Kind::Request(What::Ifs),
-        0xC2 => Kind::Request(What::Abort),
-        0xC3 => Kind::Request(What::Wtx),
-        0xE0 => Kind::Response(What::Resynch),
-        0xE1 => Kind::Response(What::Ifs),
-        0xE2 => Kind::Response(What::Abort),
-        0xE3 => Kind::Response(What::Wtx),
-        _ => Kind::NoKind,
+        0x00 => Some(Kind::Information(false, false)),
+        0x20 => Some(Kind::Information(false, true)),
+        0x40 => Some(Kind::Information(true, false)),
+        0x60 => Some(Kind::Information(true, true)),
+        0xC0 => Some(Kind::Request(What::Resynch)),
+        0xC1 => Some(Kind::Request(What::Ifs)),
+        0xC2 => Some(Kind::Request(What::Abort)),
+        0xC3 => Some(Kind::Request(What::Wtx)),
+        0xE0 => Some(Kind::Response(What::Resynch)),
+        0xE1 => Some(Kind::Response(What::Ifs)),
+        0xE2 => Some(Kind::Response(What::Abort)),
+        0xE3 => Some(Kind::Response(What::Wtx)),
+        _ => None,
     }
 }
 
@@ -36,6 +38,7 @@ fn bit_of(b: bool, n: u8) -> u8
     if b { n } else { 0 }
 }
 
+// Not a conversion of a kind: an R-block carries a code besides.
 pub fn pcb_of_i(number: bool, more: bool) -> u8
     ensures { result ≡ pcb_of_i number more }
 {

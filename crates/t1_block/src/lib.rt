@@ -3,18 +3,19 @@
 
 mod faults;
 mod kinds;
+mod names;
 mod writing;
 
 ghost use Rattle.std.specs.Prelude.{◌≡◌};
 ghost use Rattle.t1_block.specs.Blocks.{inf_of};
 
-pub use faults::{code_of, fault_of, hear};
+pub use faults::{hear, tested};
 pub use kinds::{kind_of, pcb_of_i, pcb_of_r, pcb_of_s};
 use slices::{byte, part};
 pub use writing::{LONGEST, write};
 
 // What an S-block asks for, or answers.
-#[derive(Clone, Copy)]
+#[derive(Clone, Copy, PartialEq, Eq)]
 pub enum What {
     Resynch,
     Ifs,
@@ -22,21 +23,19 @@ pub enum What {
     Wtx,
 }
 
-// An I-block with its number and whether more follows, an R-block with its number, an S-block, or none of these.
+// An I-block with its number and whether more follows, an R-block with its number, or an S-block.
 #[derive(Clone, Copy)]
 pub enum Kind {
     Information(bool, bool),
     Ready(bool),
     Request(What),
     Response(What),
-    NoKind,
 }
 
 // Too few or too many characters; LRC; LEN 'FF'; NAD; PCB; an I-block without a field or with too long a one; another field
-// that is not as it must be. Or nothing.
+// that is not as it must be.
 #[derive(Clone, Copy)]
 pub enum Fault {
-    Sound,
     Under,
     Over,
     Edc,
@@ -48,14 +47,8 @@ pub enum Fault {
     Inf,
 }
 
-// A received block: valid, or the code that an R-block is to carry.
-#[derive(Clone, Copy)]
-pub enum Heard {
-    Valid(Kind),
-    Bad(u8),
-}
-
 // The information field, as a part of the block itself.
+#[tactic(auto, unfolding(crate::specs::Blocks::inf_of))]
 pub fn information(block: &[u8]) -> &[u8]
     ensures { result.now ≡ inf_of block.now }
 {

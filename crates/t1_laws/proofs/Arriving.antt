@@ -11,8 +11,7 @@ use borrow.Author.Tests.{ltb-true}
 use Rattle.slices.specs.Writing.{zeros}
 use Rattle.slices.proofs.Choice.{pick_yes, pick_no}
 use Rattle.t1_block.specs.Blocks.{len_of}
-use Rattle.t1_block.specs.Faults.{heard_of}
-use Rattle.t1_block.specs.declared.Heard.{Heard}
+use Rattle.t1_block.specs.Faults.{Heard, heard_of}
 use Rattle.t1_state.specs.Limits.{message_most, room, more_of}
 use Rattle.t1_state.specs.declared.Phase.{Phase}
 use Rattle.t1_state.specs.declared.Phase.TheVariants.{Due, Sent, Over}

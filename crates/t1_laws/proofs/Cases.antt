@@ -5,16 +5,15 @@ use mathlib.Core.List.{List}
 use Prim.Native.Nat.{ℕ, ◌+◌, ◌<◌, ◌≤◌}
 use lib.ListN.{length, get_or}
 use borrow.Author.Tests.{ltb-true, ltb-false}
+use Rattle.std.specs.Prelude.{Ok, Err}
 use Rattle.slices.specs.Tests.{between}
 use Rattle.slices.proofs.Choice.{picked}
 use Rattle.t1_block.specs.Blocks.{len_of}
-use Rattle.t1_block.specs.Faults.{heard_of}
+use Rattle.t1_block.specs.Faults.{Heard, heard_of}
 use Rattle.t1_block.specs.declared.What.{What}
 use Rattle.t1_block.specs.declared.What.TheVariants.{Resynch, Ifs, Abort, Wtx}
 use Rattle.t1_block.specs.declared.Kind.{Kind}
-use Rattle.t1_block.specs.declared.Kind.TheVariants.{NoKind, Information as I, Ready as R, Request as Asks, Response as Answers}
-use Rattle.t1_block.specs.declared.Heard.{Heard}
-use Rattle.t1_block.specs.declared.Heard.TheVariants.{Valid, Bad}
+use Rattle.t1_block.specs.declared.Kind.TheVariants.{Information as I, Ready as R, Request as Asks, Response as Answers}
 use Rattle.t1_state.specs.Limits.{message_most, information_limit, same_limit, more_of}
 use Rattle.t1_state.specs.Changes.{at_phase, sending, with_sizes}
 use Rattle.t1_state.specs.declared.Role.{Role}
@@ -159,12 +158,11 @@ module _ (s : State) (orderly : fits s.phase s.last ≡ true) (P : Turn → Type
       kind_case (R number) v n = ready_case number
       kind_case (Asks w) v n = request_case w v
       kind_case (Answers w) v n = wrong_one 2
-      kind_case NoKind v n = wrong_one 2
 
       line_case : (h : Heard) (v n : ℕ) → P (on_line h v n s)
       unfolding on_line
-      line_case (Valid k) v n = kind_case k v n
-      line_case (Bad code) v n = wrong_one code
+      line_case (Ok k) v n = kind_case k v n
+      line_case (Err code) v n = wrong_one code
 
     -- a block where one is open
     module _ (asking : s.phase ≡ Asking) where
@@ -193,12 +191,11 @@ module _ (s : State) (orderly : fits s.phase s.last ≡ true) (P : Turn → Type
 
       asked_case : (h : Heard) (v : ℕ) → P (on_asking h v s)
       unfolding on_asking asked_kind on_response
-      asked_case (Valid (I number more)) v = asked_again
-      asked_case (Valid (R number)) v = asked_again
-      asked_case (Valid (Asks w)) v = instead_case w
-      asked_case (Valid (Answers w)) v = picked P _ _ _ (λ e. settles w v asking e) (λ e. asked_again)
-      asked_case (Valid NoKind) v = asked_again
-      asked_case (Bad code) v = asked_again
+      asked_case (Ok (I number more)) v = asked_again
+      asked_case (Ok (R number)) v = asked_again
+      asked_case (Ok (Asks w)) v = instead_case w
+      asked_case (Ok (Answers w)) v = picked P _ _ _ (λ e. settles w v asking e) (λ e. asked_again)
+      asked_case (Err code) v = asked_again
 
     pub every_block : (b : List ℕ) → P (on_block b s)
     unfolding on_block by_phase

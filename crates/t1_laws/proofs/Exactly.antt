@@ -7,16 +7,14 @@ use Prim.Native.Nat.{ℕ, ◌+◌, ◌≤◌}
 use native.Mathlib.Omega.{arith}
 use lib.ListN.{get_or}
 use borrow.Author.Tests.{eq-eqb, lt-ltb}
+use Rattle.std.specs.Prelude.{Ok, Err}
 use Rattle.slices.proofs.Choice.{pick_yes, pick_no, picked}
 use Rattle.t1_block.specs.Blocks.{len_of, what_number, pcb_of_s, framed}
-use Rattle.t1_block.specs.Faults.{field_fault, heard_of}
+use Rattle.t1_block.specs.Faults.{Heard, sized, heard_of}
 use Rattle.t1_block.proofs.Framing.{not_too_long}
 use Rattle.t1_block.specs.declared.What.{What}
 use Rattle.t1_block.specs.declared.What.TheVariants.{Resynch, Ifs, Abort, Wtx}
 use Rattle.t1_block.specs.declared.Kind.TheVariants.{Ready as R, Request as Asks, Response as Answers}
-use Rattle.t1_block.specs.declared.Fault.TheVariants.{Sound}
-use Rattle.t1_block.specs.declared.Heard.{Heard}
-use Rattle.t1_block.specs.declared.Heard.TheVariants.{Valid, Bad}
 use Rattle.t1_state.specs.Limits.{information_limit, asking_limit, same_limit, more_of}
 use Rattle.t1_state.specs.Changes.{at_phase, sending, with_sizes}
 use Rattle.t1_state.specs.declared.Role.{Role}
@@ -123,22 +121,22 @@ module _ (x y : State) (v : What) (u : ℕ) (asks : x.last ≡ Request v u) (tak
       ∙ ap (λ (g : Heard). on_line g u 1 y) e)
 
   pub request_heard : Askable y v u → on_block (block_of x) y ≡ answers v u (resized v u y)
-  unfolding on_line on_kind on_request field_fault for_role
+  unfolding on_line on_kind on_request sized for_role
   request_heard (a_size e f) =
-      line_of (Valid (Asks v))
+      line_of (Ok (Asks v))
       (heard_back (pcb_of_s false v) (u ∷ []) y.sizes.ours (Asks v) (omega arith) (kind_request v)
-      (subst (λ (z : What). field_fault (Asks z) 1 y.sizes.ours ≡ Sound) (sym e) (pick_yes _ _ _ refl)))
+      (subst (λ (z : What). sized (Asks z) 1 y.sizes.ours ≡ Ok (Asks z)) (sym e) (pick_yes _ _ _ refl)))
       ∙ (ap (λ (z : What). on_request z u y) e ∙ (pick_yes _ _ _ f ∙ ap (λ (z : What). answers z u (resized z u y)) (sym e)))
   request_heard (some_time e f) =
-      line_of (Valid (Asks v))
+      line_of (Ok (Asks v))
       (heard_back (pcb_of_s false v) (u ∷ []) y.sizes.ours (Asks v) (omega arith) (kind_request v)
-      (subst (λ (z : What). field_fault (Asks z) 1 y.sizes.ours ≡ Sound) (sym e) (pick_yes _ _ _ refl)))
+      (subst (λ (z : What). sized (Asks z) 1 y.sizes.ours ≡ Ok (Asks z)) (sym e) (pick_yes _ _ _ refl)))
       ∙ (ap (λ (z : What). on_request z u y) e
       ∙ (ap (λ (r : Role). for_role r (answers Wtx u y) (wrong 2 y)) f ∙ ap (λ (z : What). answers z u (resized z u y)) (sym e)))
 
 -- its response comes
 module _ (x y : State) (v : What) (u : ℕ) (asking : x.phase ≡ Asking) (asks : x.last ≡ Request v u) (responds : y.last ≡ Response v u)
-    (sized : field_fault (Answers v) 1 x.sizes.ours ≡ Sound) where
+    (fits : sized (Answers v) 1 x.sizes.ours ≡ Ok (Answers v)) where
   response_block : block_of y ≡ framed (pcb_of_s true v) (u ∷ [])
   unfolding block_of block_for
   response_block = ap (λ (l : Last). block_for l y) responds ∙ not_too_long (pcb_of_s true v) (u ∷ []) (omega arith)
@@ -154,7 +152,7 @@ module _ (x y : State) (v : What) (u : ℕ) (asking : x.phase ≡ Asking) (asks 
       ap (λ (b : List ℕ). on_block b x) response_block
       ∙ (ap (λ (p : Phase). by_phase p (heard_of (framed (pcb_of_s true v) (u ∷ [])) x.sizes.ours) u 1 x) asking
       ∙ (ap (λ (h : Heard). on_asking h u x)
-      (heard_back (pcb_of_s true v) (u ∷ []) x.sizes.ours (Answers v) (omega arith) (kind_response v) sized)
+      (heard_back (pcb_of_s true v) (u ∷ []) x.sizes.ours (Answers v) (omega arith) (kind_response v) fits)
       ∙ pick_yes _ _ _ is_response_lem))
 
 -- an R-block comes
@@ -163,22 +161,22 @@ module _ (y x : State) (p : ℕ) (w : Says y) (out : y.last ≡ Ready p) where
   unfolding block_of block_for
   ready_block = ap (λ (l : Last). block_for l y) out ∙ not_too_long p [] (omega arith)
 
-  ready_hears : heard_of (framed p []) x.sizes.ours ≡ Valid (R y.numbers.expected)
-  unfolding field_fault
+  ready_hears : heard_of (framed p []) x.sizes.ours ≡ Ok (R y.numbers.expected)
+  unfolding sized
   ready_hears =
       heard_back p [] x.sizes.ours (R y.numbers.expected) (omega arith) (w.numbered p out) (pick_yes _ _ _ (eq-eqb 0 0 refl))
 
   -- where fields are taken, or pieces sent
-  pub ready_on_line : (h : (v n : ℕ) → by_phase x.phase (Valid (R y.numbers.expected)) v n x ≡ on_ready y.numbers.expected x)
+  pub ready_on_line : (h : (v n : ℕ) → by_phase x.phase (Ok (R y.numbers.expected)) v n x ≡ on_ready y.numbers.expected x)
       → on_block (block_of y) x ≡ on_ready y.numbers.expected x
   unfolding on_block
   ready_on_line h =
       ap (λ (b : List ℕ). on_block b x) ready_block
       ∙ (ap (λ (g : Heard). by_phase x.phase g (get_or (framed p []) 3 0) (len_of (framed p [])) x) ready_hears ∙ h _ _)
 
-  sent_line : x.phase ≡ Sent → (v n : ℕ) → by_phase x.phase (Valid (R y.numbers.expected)) v n x ≡ on_ready y.numbers.expected x
+  sent_line : x.phase ≡ Sent → (v n : ℕ) → by_phase x.phase (Ok (R y.numbers.expected)) v n x ≡ on_ready y.numbers.expected x
   unfolding by_phase on_line on_kind
-  sent_line e v n = ap (λ (q : Phase). by_phase q (Valid (R y.numbers.expected)) v n x) e
+  sent_line e v n = ap (λ (q : Phase). by_phase q (Ok (R y.numbers.expected)) v n x) e
 
   -- the next piece
   pub next_asked : x.phase ≡ Sent → y.numbers.expected ≡ x.numbers.next → more_of x.message ≡ true
@@ -204,7 +202,7 @@ module _ (y x : State) (p : ℕ) (w : Says y) (out : y.last ≡ Ready p) where
   request_asked e few =
       ap (λ (b : List ℕ). on_block b x) ready_block
       ∙ (ap (λ (g : Heard). by_phase x.phase g (get_or (framed p []) 3 0) (len_of (framed p [])) x) ready_hears
-      ∙ (ap (λ (q : Phase). by_phase q (Valid (R y.numbers.expected)) (get_or (framed p []) 3 0) (len_of (framed p [])) x) e
+      ∙ (ap (λ (q : Phase). by_phase q (Ok (R y.numbers.expected)) (get_or (framed p []) 3 0) (len_of (framed p [])) x) e
       ∙ same_again_lem x few))
 
   -- the R-block for a piece again
@@ -212,7 +210,7 @@ module _ (y x : State) (p : ℕ) (w : Says y) (out : y.last ≡ Ready p) where
       → x.last ≡ Ready q → x.counts.same ≤ 1 → on_block (block_of y) x ≡ repeated x
   unfolding on_ready on_line on_kind
   ready_asked q takes n l few =
-      ready_on_line (λ v k. on_line_lem x.phase (more_of x.message) (Valid (R y.numbers.expected)) v k x takes)
+      ready_on_line (λ v k. on_line_lem x.phase (more_of x.message) (Ok (R y.numbers.expected)) v k x takes)
       ∙ picked (λ (t : Turn). t ≡ repeated x) _ _ _
       (λ i.
       pick_yes _ _ _ (ap (λ (z : Bool). equal z x.numbers.next) n ∙ equal_same x.numbers.next)
@@ -221,9 +219,9 @@ module _ (y x : State) (p : ℕ) (w : Says y) (out : y.last ≡ Ready p) where
       (λ i. wrong_ready x q 2 l few)
 
 -- a block that is not valid
-pub heard_bad : (h : Heard) → is_bad h ≡ true → (code : ℕ) × (h ≡ Bad code)
-heard_bad (Valid k) e = absurd (false≢true e)
-heard_bad (Bad c) e = (c, refl)
+pub heard_bad : (h : Heard) → is_bad h ≡ true → (code : ℕ) × (h ≡ Err code)
+heard_bad (Ok k) e = absurd (false≢true e)
+heard_bad (Err c) e = (c, refl)
 
 module _ (b : List ℕ) (x : State) (bad : is_bad (heard_of b x.sizes.ours) ≡ true) where
   abbrev pub code : ℕ

@@ -6,16 +6,15 @@ use mathlib.Core.Bool.{Bool, true, false, not, false≢true}
 use mathlib.Core.List.{List}
 use Prim.Native.Nat.{ℕ}
 use lib.ListN.{get_or}
+use Rattle.std.specs.Prelude.{Ok, Err}
 use Rattle.slices.specs.Choice.{pick}
 use Rattle.slices.proofs.Choice.{picked}
 use Rattle.t1_block.specs.Blocks.{len_of}
-use Rattle.t1_block.specs.Faults.{heard_of}
+use Rattle.t1_block.specs.Faults.{Heard, heard_of}
 use Rattle.t1_block.specs.declared.What.{What}
 use Rattle.t1_block.specs.declared.What.TheVariants.{Resynch, Ifs, Abort, Wtx}
 use Rattle.t1_block.specs.declared.Kind.{Kind}
-use Rattle.t1_block.specs.declared.Kind.TheVariants.{NoKind, Information as I, Ready as R, Request as Asks, Response as Answers}
-use Rattle.t1_block.specs.declared.Heard.{Heard}
-use Rattle.t1_block.specs.declared.Heard.TheVariants.{Valid, Bad}
+use Rattle.t1_block.specs.declared.Kind.TheVariants.{Information as I, Ready as R, Request as Asks, Response as Answers}
 use Rattle.t1_state.specs.declared.Role.{Role}
 use Rattle.t1_state.specs.declared.Role.TheVariants.{Terminal, Card}
 use Rattle.t1_state.specs.declared.Phase.{Phase}
@@ -96,28 +95,27 @@ module _ (s : State) where
       picked (Fate s h) more _ _ (λ e. record { takes = λ f. (c, refl); leaves = λ f. absurd (false≢true (sym f)) })
       (λ e. record { takes = λ f. (c, refl); leaves = λ f. absurd (false≢true (sym f)) })
 
-  information_fate : (number more : Bool) (n : ℕ) → Fate s (Valid (I number more)) (on_information number more n s)
+  information_fate : (number more : Bool) (n : ℕ) → Fate s (Ok (I number more)) (on_information number more n s)
   unfolding on_information
   information_fate number more n =
-      let h = Valid (I number more) in
+      let h = Ok (I number more) in
       picked (Fate s h) _ _ _
       (λ e. picked (Fate s h) _ _ _
       (λ f. picked (Fate s h) _ _ _ (λ g. quietly s h _ (record { kept = refl; same = refl })) (λ g. keeps_fate more n h f))
       (λ f. quietly s h _ (wrong_quiet 2)))
       (λ e. quietly s h _ (wrong_quiet 2))
 
-  kind_fate : (k : Kind) (v n : ℕ) → Fate s (Valid k) (on_kind k v n s)
+  kind_fate : (k : Kind) (v n : ℕ) → Fate s (Ok k) (on_kind k v n s)
   unfolding on_kind
   kind_fate (I number more) v n = information_fate number more n
-  kind_fate (R number) v n = quietly s (Valid (R number)) _ (ready_quiet number)
-  kind_fate (Asks w) v n = quietly s (Valid (Asks w)) _ (request_quiet w v)
-  kind_fate (Answers w) v n = quietly s (Valid (Answers w)) _ (wrong_quiet 2)
-  kind_fate NoKind v n = quietly s (Valid NoKind) _ (wrong_quiet 2)
+  kind_fate (R number) v n = quietly s (Ok (R number)) _ (ready_quiet number)
+  kind_fate (Asks w) v n = quietly s (Ok (Asks w)) _ (request_quiet w v)
+  kind_fate (Answers w) v n = quietly s (Ok (Answers w)) _ (wrong_quiet 2)
 
   line_fate : (h : Heard) (v n : ℕ) → Fate s h (on_line h v n s)
   unfolding on_line
-  line_fate (Valid k) v n = kind_fate k v n
-  line_fate (Bad code) v n = quietly s (Bad code) _ (wrong_quiet code)
+  line_fate (Ok k) v n = kind_fate k v n
+  line_fate (Err code) v n = quietly s (Err code) _ (wrong_quiet code)
 
   instead_quiet : (w : What) → Quiet s (asked_instead w s)
   unfolding asked_instead
@@ -142,12 +140,11 @@ module _ (s : State) where
   asked_quiet (R number) v = same_quiet
   asked_quiet (Asks w) v = instead_quiet w
   asked_quiet (Answers w) v = response_quiet w v
-  asked_quiet NoKind v = same_quiet
 
   asking_quiet : (h : Heard) (v : ℕ) → Quiet s (on_asking h v s)
   unfolding on_asking
-  asking_quiet (Valid k) v = asked_quiet k v
-  asking_quiet (Bad code) v = same_quiet
+  asking_quiet (Ok k) v = asked_quiet k v
+  asking_quiet (Err code) v = same_quiet
 
   phase_fate : (p : Phase) (h : Heard) (v n : ℕ) → Fate s h (by_phase p h v n s)
   unfolding by_phase
@@ -172,12 +169,11 @@ other false true e = absurd (false≢true e)
 other false false e = refl
 
 apart : (h : Heard) (n : Bool) → carries n h ≡ true → carries (not n) h ≡ false
-apart (Valid (I m more)) n e = other m n e
-apart (Valid (R m)) n e = absurd (false≢true e)
-apart (Valid (Asks w)) n e = absurd (false≢true e)
-apart (Valid (Answers w)) n e = absurd (false≢true e)
-apart (Valid NoKind) n e = absurd (false≢true e)
-apart (Bad code) n e = absurd (false≢true e)
+apart (Ok (I m more)) n e = other m n e
+apart (Ok (R m)) n e = absurd (false≢true e)
+apart (Ok (Asks w)) n e = absurd (false≢true e)
+apart (Ok (Answers w)) n e = absurd (false≢true e)
+apart (Err code) n e = absurd (false≢true e)
 
 untrue : (t : Bool) → (t ≡ true → ⊥) → t ≡ false
 untrue true k = absurd (k refl)

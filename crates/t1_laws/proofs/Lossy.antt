@@ -11,8 +11,7 @@ use lib.Seq.{take-add, take_all}
 use borrow.Author.Tests.{ltb-false}
 use Rattle.slices.proofs.Choice.{pick_yes, pick_no, picked}
 use Rattle.t1_block.specs.Blocks.{len_of, inf_of, kind_of, pcb_of_i, pcb_of_r, framed}
-use Rattle.t1_block.specs.Faults.{heard_of}
-use Rattle.t1_block.specs.declared.Heard.{Heard}
+use Rattle.t1_block.specs.Faults.{Heard, heard_of}
 use Rattle.t1_state.specs.Limits.{room, more_of}
 use Rattle.t1_state.specs.declared.Phase.{Phase}
 use Rattle.t1_state.specs.declared.Phase.TheVariants.{Start, Asking, Due, Sent, Receiving, Over}

@@ -8,15 +8,14 @@ use Prim.Native.Nat.{ℕ, ◌+◌}
 use native.Mathlib.Omega.{arith}
 use lib.ListN.{length, get_or, take}
 use lib.Seq.{take_all}
+use Rattle.std.specs.Prelude.{Ok, Err}
 use Rattle.slices.specs.Choice.{pick}
 use Rattle.slices.proofs.Choice.{pick_yes, pick_no, picked}
 use Rattle.t1_block.specs.Blocks.{len_of, inf_of, pcb_of_s, framed, written}
-use Rattle.t1_block.specs.Faults.{fault_of, heard_of}
+use Rattle.t1_block.specs.Faults.{Heard, tested, heard_as, heard_of}
 use Rattle.t1_block.specs.declared.What.{What}
 use Rattle.t1_block.specs.declared.What.TheVariants.{Resynch, Ifs, Abort, Wtx}
 use Rattle.t1_block.specs.declared.Kind.TheVariants.{Request as Asks}
-use Rattle.t1_block.specs.declared.Heard.{Heard}
-use Rattle.t1_block.specs.declared.Heard.TheVariants.{Valid, Bad}
 use Rattle.t1_state.specs.Limits.{more_of}
 use Rattle.t1_state.specs.declared.Role.{Role}
 use Rattle.t1_state.specs.declared.Role.TheVariants.{Terminal, Card}
@@ -190,7 +189,7 @@ module _ (y : State) (w : Says y) where
   calm_heard v h u n (as_bad c e) = subst (λ (g : Heard). Calm y (on_line g u n y)) (sym e) (calm_wrong c)
 
 nothing_heard : (most : ℕ) (v : What) → Hears (heard_of [] most) (Asks v)
-unfolding heard_of fault_of pick
+unfolding heard_of heard_as tested pick
 nothing_heard most v = as_bad 2 refl
 
 -- what comes of a request
@@ -204,14 +203,14 @@ hears_request (Request v u) x most b e (intact f) = (
   v,
   subst (λ (c : List ℕ). Hears (heard_of c most) (Asks v)) (sym f)
       (picked (λ (c : List ℕ). Hears (heard_of c most) (Asks v)) _ _ _
-      (λ g. subst (Hears _) (kind_request v) (hears_any (framed (pcb_of_s false v) (u ∷ [])) most))
+      (λ g. hears_any (framed (pcb_of_s false v) (u ∷ [])) most (Asks v) (kind_request v))
       (λ g. nothing_heard most v)),
 )
 hears_request (Request v u) x most b e (spoiled f) = (v, bad_heard (heard_of b most) f)
   where
     bad_heard : (h : Heard) → is_bad h ≡ true → Hears h (Asks v)
-    bad_heard (Valid k) g = absurd (false≢true g)
-    bad_heard (Bad c) g = as_bad c refl
+    bad_heard (Ok k) g = absurd (false≢true g)
+    bad_heard (Err c) g = as_bad c refl
 hears_request (Response v u) x most b e a = absurd (false≢true e)
 
 -- a request comes to y, or what the line makes of it

@@ -8,15 +8,14 @@ use native.Mathlib.Nat.{not-suc-le-zero}
 use native.Mathlib.Omega.{arith}
 use lib.ListN.{length, get_or}
 use borrow.Author.Tests.{ltb-true, ltb-false, le-ltb}
+use Rattle.std.specs.Prelude.{Ok, Err}
 use Rattle.slices.specs.Choice.{pick}
 use Rattle.slices.proofs.Choice.{pick_yes, pick_no, picked}
 use Rattle.t1_block.specs.Blocks.{len_of, pcb_of_r}
-use Rattle.t1_block.specs.Faults.{heard_of}
+use Rattle.t1_block.specs.Faults.{Heard, heard_of}
 use Rattle.t1_block.specs.declared.What.TheVariants.{Resynch, Ifs, Abort, Wtx}
 use Rattle.t1_block.specs.declared.Kind.{Kind}
-use Rattle.t1_block.specs.declared.Kind.TheVariants.{NoKind, Information as I, Ready as R, Request as Asks, Response as Answers}
-use Rattle.t1_block.specs.declared.Heard.{Heard}
-use Rattle.t1_block.specs.declared.Heard.TheVariants.{Valid, Bad}
+use Rattle.t1_block.specs.declared.Kind.TheVariants.{Information as I, Ready as R, Request as Asks, Response as Answers}
 use Rattle.t1_state.specs.Limits.{same_limit}
 use Rattle.t1_state.specs.declared.Role.{Role}
 use Rattle.t1_state.specs.declared.Role.TheVariants.{Terminal, Card}
@@ -98,7 +97,7 @@ module _ (s : State) (waits : awaits s.phase ≡ true) where
   wrong_nearer (Request w v) code e f = same_nearer (ap (repeats s.phase) e ∙ f)
   wrong_nearer (Response w v) code e f = ready_nearer code (ap (repeats s.phase) e ∙ f)
 
-  bad_nearer : (p : Phase) (code v n : ℕ) → s.phase ≡ p → Nearer s (by_phase p (Bad code) v n s).state
+  bad_nearer : (p : Phase) (code v n : ℕ) → s.phase ≡ p → Nearer s (by_phase p (Err code) v n s).state
   unfolding by_phase on_line on_asking wrong
   bad_nearer Start code v n e = absurd (false≢true (sym (ap awaits e) ∙ waits))
   bad_nearer Asking code v n e = same_nearer (ap (λ (p : Phase). repeats p s.last) e)
@@ -113,8 +112,8 @@ module _ (s : State) (waits : awaits s.phase ≡ true) where
   one_bad b bad = heard (heard_of b s.sizes.ours) bad
     where
       heard : (h : Heard) → is_bad h ≡ true → Nearer s (by_phase s.phase h (get_or b 3 0) (len_of b) s).state
-      heard (Valid k) e = absurd (false≢true e)
-      heard (Bad code) e = bad_nearer s.phase code (get_or b 3 0) (len_of b) refl
+      heard (Ok k) e = absurd (false≢true e)
+      heard (Err code) e = bad_nearer s.phase code (get_or b 3 0) (len_of b) refl
 
 not_asked : {s : State} (l : Last) → s.last ≡ l → asks_size l ≡ false → Mute s → ⊥
 not_asked {s} l e f m = role s.role m.asks
@@ -137,7 +136,7 @@ module _ (b : List ℕ) (s : State) where
   mute_wrong (Request w v) code e m = mute_again m
   mute_wrong (Response w v) code e m = absurd (not_asked (Response w v) e refl m)
 
-  bad_silent : (p : Phase) (code v n : ℕ) → s.phase ≡ p → Silent s → Silent (by_phase p (Bad code) v n s).state
+  bad_silent : (p : Phase) (code v n : ℕ) → s.phase ≡ p → Silent s → Silent (by_phase p (Err code) v n s).state
   unfolding by_phase on_line on_asking wrong
   bad_silent Start code v n e i = i
   bad_silent Asking code v n e (stopped f) = absurd (let z : ◌≡◌ {A = ℕ} 0 1 = cc in omega arith)
@@ -156,8 +155,8 @@ module _ (b : List ℕ) (s : State) where
   one_silent bad i = heard (heard_of b s.sizes.ours) bad
     where
       heard : (h : Heard) → is_bad h ≡ true → Silent (by_phase s.phase h (get_or b 3 0) (len_of b) s).state
-      heard (Valid k) e = absurd (false≢true e)
-      heard (Bad code) e = bad_silent s.phase code (get_or b 3 0) (len_of b) refl i
+      heard (Ok k) e = absurd (false≢true e)
+      heard (Err code) e = bad_silent s.phase code (get_or b 3 0) (len_of b) refl i
 
 pub stays : (bs : List (List ℕ)) (s : State) → AllBad bs s → Silent s → Silent (heard_all bs s)
 unfolding heard_all AllBad
@@ -205,12 +204,11 @@ module _ (s : State) (asking : s.phase ≡ Asking) (m : Mute s) where
   kind_remains (Asks Abort) v e = card_is s.role refl _ _ again
   kind_remains (Asks Wtx) v e = again
   kind_remains (Answers w) v e = pick_no _ _ _ e ∙ again
-  kind_remains NoKind v e = again
 
   heard_remains : (h : Heard) (v : ℕ) → is_answer s.last h v ≡ false → on_asking h v s ≡ remains s
   unfolding on_asking
-  heard_remains (Valid k) v e = kind_remains k v e
-  heard_remains (Bad code) v e = again
+  heard_remains (Ok k) v e = kind_remains k v e
+  heard_remains (Err code) v e = again
 
   pub remains_open : (b : List ℕ) → is_answer s.last (heard_of b s.sizes.ours) (get_or b 3 0) ≡ false → on_block b s ≡ remains s
   unfolding on_block by_phase
@@ -226,9 +224,8 @@ module _ (s : State) (asking : s.phase ≡ Asking) (m : Mute s) where
       ∙ heard_leads (heard_of b s.sizes.ours) (get_or b 3 0) e
     where
       heard_leads : (h : Heard) (v : ℕ) → is_answer s.last h v ≡ true → (on_asking h v s).state.phase ≡ Due
-      heard_leads (Valid (I number more)) v f = absurd (false≢true f)
-      heard_leads (Valid (R number)) v f = absurd (false≢true f)
-      heard_leads (Valid (Asks w)) v f = absurd (false≢true f)
-      heard_leads (Valid (Answers w)) v f = ap (λ (t : Turn). t.state.phase) (pick_yes _ _ _ f)
-      heard_leads (Valid NoKind) v f = absurd (false≢true f)
-      heard_leads (Bad code) v f = absurd (false≢true f)
+      heard_leads (Ok (I number more)) v f = absurd (false≢true f)
+      heard_leads (Ok (R number)) v f = absurd (false≢true f)
+      heard_leads (Ok (Asks w)) v f = absurd (false≢true f)
+      heard_leads (Ok (Answers w)) v f = ap (λ (t : Turn). t.state.phase) (pick_yes _ _ _ f)
+      heard_leads (Err code) v f = absurd (false≢true f)

@@ -8,18 +8,17 @@ use native.Mathlib.Omega.{arith}
 use lib.ListN.{length, get_or, take}
 use lib.Seq.{take_at, get_or_at, take-append_seam}
 use borrow.Author.Tests.{eq-eqb, ne_eqb, le-ltb}
+use Rattle.std.specs.Prelude.{Ok, Option, Some}
 use Rattle.slices.specs.Choice.{pick}
 use Rattle.slices.specs.Tables.{beside}
 use Rattle.slices.proofs.Choice.{pick_yes, pick_no}
 use Rattle.t1_block.specs.Blocks.{len_of, inf_of, lrc_of, inf_most, kind_of, pcb_of_i, pcb_of_r, pcb_of_s, body_of, framed}
-use Rattle.t1_block.specs.Faults.{field_fault, frame_fault, fault_of, code_of, heard_of}
+use Rattle.t1_block.specs.Faults.{sized, of_kind, in_frame, tested, heard_as, heard_of}
 use Rattle.t1_block.proofs.Framing.{framed_length}
 use Rattle.t1_block.specs.declared.What.{What}
 use Rattle.t1_block.specs.declared.What.TheVariants.{Resynch, Ifs, Abort, Wtx}
 use Rattle.t1_block.specs.declared.Kind.{Kind}
 use Rattle.t1_block.specs.declared.Kind.TheVariants.{Information, Ready, Request, Response}
-use Rattle.t1_block.specs.declared.Fault.TheVariants.{Sound}
-use Rattle.t1_block.specs.declared.Heard.TheVariants.{Valid}
 
 module _ (pcb : ℕ) (inf : List ℕ) where
   pub field_back : inf_of (framed pcb inf) ≡ inf
@@ -37,10 +36,10 @@ module _ (pcb : ℕ) (inf : List ℕ) where
       ap lrc_of (take_at (body_of pcb inf) _ (3 + length inf) three)
       ∙ sym (get_or_at (body_of pcb inf) (lrc_of (body_of pcb inf)) [] 0 (3 + length inf) three)
 
-  -- the one fault that is left
-  pub fault_back : (most : ℕ) → length inf ≤ inf_most → fault_of (framed pcb inf) most ≡ field_fault (kind_of pcb) (length inf) most
-  unfolding fault_of frame_fault framed
-  fault_back most h =
+  -- the one test that is left
+  tested_back : (most : ℕ) → length inf ≤ inf_most → tested (framed pcb inf) most ≡ of_kind (kind_of pcb) (length inf) most
+  unfolding tested in_frame framed
+  tested_back most h =
       let long = framed_length pcb inf in
       pick_no _ _ _ (le-ltb (length (framed pcb inf)) (4 + length inf) (omega arith))
       ∙ (pick_no _ _ _ (le-ltb (4 + length inf) (length (framed pcb inf)) (omega arith))
@@ -48,35 +47,33 @@ module _ (pcb : ℕ) (inf : List ℕ) where
       ∙ (pick_no _ _ _ (ne_eqb (length inf) 0xFF (λ e. omega arith)) ∙ pick_yes _ _ _ (eq-eqb 0 0 refl))))
 
   -- so it is heard as what it is
-  pub heard_back : (most : ℕ) (k : Kind) → length inf ≤ inf_most → kind_of pcb ≡ k → field_fault k (length inf) most ≡ Sound
-      → heard_of (framed pcb inf) most ≡ Valid k
-  unfolding heard_of framed
+  pub heard_back : (most : ℕ) (k : Kind) → length inf ≤ inf_most → kind_of pcb ≡ Some k → sized k (length inf) most ≡ Ok k
+      → heard_of (framed pcb inf) most ≡ Ok k
+  unfolding heard_of heard_as of_kind
   heard_back most k h e f =
-      pick_yes _ _ _ (eq-eqb (code_of (fault_of (framed pcb inf) most)) 0
-      (ap code_of (fault_back most h ∙ (ap (λ (x : Kind). field_fault x (length inf) most) e ∙ f))))
-      ∙ ap Valid e
+      ap heard_as (tested_back most h ∙ (ap (λ (x : Option Kind). of_kind x (length inf) most) e ∙ f))
 
 -- the kinds of the control bytes that we write
-pub kind_i : (number more : Bool) → kind_of (pcb_of_i number more) ≡ Information number more
+pub kind_i : (number more : Bool) → kind_of (pcb_of_i number more) ≡ Some (Information number more)
 unfolding kind_of beside pick
 kind_i false false = refl
 kind_i false true = refl
 kind_i true false = refl
 kind_i true true = refl
 
-pub kind_r : (number : Bool) → kind_of (pcb_of_r number 0) ≡ Ready number
+pub kind_r : (number : Bool) → kind_of (pcb_of_r number 0) ≡ Some (Ready number)
 unfolding kind_of pick
 kind_r false = refl
 kind_r true = refl
 
-pub kind_request : (w : What) → kind_of (pcb_of_s false w) ≡ Request w
+pub kind_request : (w : What) → kind_of (pcb_of_s false w) ≡ Some (Request w)
 unfolding kind_of beside pick
 kind_request Resynch = refl
 kind_request Ifs = refl
 kind_request Abort = refl
 kind_request Wtx = refl
 
-pub kind_response : (w : What) → kind_of (pcb_of_s true w) ≡ Response w
+pub kind_response : (w : What) → kind_of (pcb_of_s true w) ≡ Some (Response w)
 unfolding kind_of beside pick
 kind_response Resynch = refl
 kind_response Ifs = refl

@@ -7,14 +7,14 @@ use Prim.Native.Nat.{ℕ, ◌≤◌}
 use native.Mathlib.Omega.{arith}
 use lib.ListN.{length}
 use borrow.Author.Tests.{leb-true}
+use Rattle.std.specs.Prelude.{Ok}
 use Rattle.slices.specs.Tests.{between}
 use Rattle.slices.proofs.Choice.{pick_yes, pick_no, either}
 use Rattle.slices.proofs.Tests.{first_held}
-use Rattle.t1_block.specs.Faults.{field_fault, heard_of}
+use Rattle.t1_block.specs.Faults.{sized, heard_of}
 use Rattle.t1_block.specs.declared.What.{What}
 use Rattle.t1_block.specs.declared.What.TheVariants.{Resynch, Ifs, Abort, Wtx}
 use Rattle.t1_block.specs.declared.Kind.TheVariants.{Response as Answers}
-use Rattle.t1_block.specs.declared.Fault.TheVariants.{Sound}
 use Rattle.t1_state.specs.Limits.{message_most, room, more_of}
 use Rattle.t1_state.specs.declared.Phase.TheVariants.{Asking}
 use Rattle.t1_state.specs.declared.Last.TheVariants.{Information, Ready, Request, Response}
@@ -79,10 +79,10 @@ answered_fits x y v u (a_size e f) back =
 answered_fits x y v u (some_time e f) back =
     subst (λ (z : What). Roomy (resized z u y) (settled z u x)) (sym e) (back e)
 
-one_byte : (y : State) (v : What) (u most : ℕ) → Askable y v u → field_fault (Answers v) 1 most ≡ Sound
-unfolding field_fault
-one_byte y v u most (a_size e f) = subst (λ (z : What). field_fault (Answers z) 1 most ≡ Sound) (sym e) (pick_yes _ _ _ refl)
-one_byte y v u most (some_time e f) = subst (λ (z : What). field_fault (Answers z) 1 most ≡ Sound) (sym e) (pick_yes _ _ _ refl)
+one_byte : (y : State) (v : What) (u most : ℕ) → Askable y v u → sized (Answers v) 1 most ≡ Ok (Answers v)
+unfolding sized
+one_byte y v u most (a_size e f) = subst (λ (z : What). sized (Answers z) 1 most ≡ Ok (Answers z)) (sym e) (pick_yes _ _ _ refl)
+one_byte y v u most (some_time e f) = subst (λ (z : What). sized (Answers z) 1 most ≡ Ok (Answers z)) (sym e) (pick_yes _ _ _ refl)
 
 askable_as : (y z : State) (v : What) (u : ℕ) → z.role ≡ y.role → Askable y v u → Askable z v u
 askable_as y z v u r (a_size e f) = a_size e f

@@ -7,13 +7,12 @@ use native.Mathlib.Omega.{arith}
 use lib.ListN.{length, get_or, take, drop}
 use lib.Seq.{take-add}
 use borrow.Author.Tests.{eq-eqb, ne_eqb, le-leb, le-ltb, ltb-true, ltb-false}
+use Rattle.std.specs.Prelude.{Ok}
 use Rattle.slices.specs.Choice.{pick}
 use Rattle.slices.proofs.Choice.{pick_yes, pick_no}
 use Rattle.t1_block.specs.Blocks.{len_of, inf_of, pcb_of_i, pcb_of_r, framed}
-use Rattle.t1_block.specs.Faults.{field_fault, heard_of}
+use Rattle.t1_block.specs.Faults.{Heard, sized, heard_of}
 use Rattle.t1_block.proofs.Framing.{not_too_long}
-use Rattle.t1_block.specs.declared.Heard.{Heard}
-use Rattle.t1_block.specs.declared.Heard.TheVariants.{Valid}
 use Rattle.t1_block.specs.declared.Kind.TheVariants.{Information as I, Ready as R}
 use Rattle.t1_state.specs.Limits.{message_most, room, more_of}
 use Rattle.t1_state.specs.declared.Phase.{Phase}
@@ -98,9 +97,9 @@ module _ (m rest : List ℕ) (s r : State) (k : List ℕ) (g : Going m rest s r 
       ap (λ (l : Last). block_for l s) g.out
       ∙ not_too_long _ piece (let l = piece_length in let h = n_high in omega arith)
 
-  heard : heard_of (framed (pcb_of_i (not s.numbers.next) (more_of s.message)) piece) r.sizes.ours ≡ Valid
+  heard : heard_of (framed (pcb_of_i (not s.numbers.next) (more_of s.message)) piece) r.sizes.ours ≡ Ok
       (I (not s.numbers.next) (more_of s.message))
-  unfolding field_fault
+  unfolding sized
   heard =
       let l = piece_length in let low = n_low in let high = n_high in let fit = n_room in
       heard_back _ piece r.sizes.ours (I (not s.numbers.next) (more_of s.message)) (omega arith)
@@ -141,8 +140,8 @@ module _ (m rest : List ℕ) (s r : State) (k : List ℕ) (g : Going m rest s r 
   pub next_is : not r.numbers.expected ≡ s.numbers.next
   next_is = ap not g.number ∙ not_not s.numbers.next
 
-  ready_heard : heard_of (framed (pcb_of_r (not r.numbers.expected) 0) []) s.sizes.ours ≡ Valid (R (not r.numbers.expected))
-  unfolding field_fault
+  ready_heard : heard_of (framed (pcb_of_r (not r.numbers.expected) 0) []) s.sizes.ours ≡ Ok (R (not r.numbers.expected))
+  unfolding sized
   ready_heard =
       heard_back _ [] s.sizes.ours (R (not r.numbers.expected)) (omega arith) (kind_r (not r.numbers.expected))
       (pick_yes _ _ _ (eq-eqb 0 0 refl))

@@ -1,6 +1,7 @@
 -- A block with one changed byte is never valid: a changed LEN does not fit the number of characters, any other byte changes what the
 -- bytes give by exclusive or. Assumes nothing.
 use mathlib.Core.Path.{◌≡◌, refl, sym, ap, ◌∙◌}
+use mathlib.Core.Bool.{true, false≢true}
 use mathlib.Core.List.{List, [], ◌∷◌, ◌++◌}
 use Prim.Native.Nat.{ℕ, zero, suc, ◌+◌, ◌<◌}
 use native.Mathlib.Nat.{not-suc-le-zero, le_of_suc-le-suc}
@@ -9,13 +10,14 @@ use lib.Bits.{bit_xor, xor_comm, xor_self, xor_zero_r}
 use lib.ListN.{length, get_or, take, set}
 use lib.Seq.{take_all, take-suc}
 use borrow.Author.Tests.{ltb-false, eqb-true}
+use Rattle.std.specs.Prelude.{Result, is_ok}
 use Rattle.slices.proofs.Choice.{picked}
 use Rattle.tape_crc.proofs.Xor.{xor_assoc}
 use Rattle.atr_characters.specs.Data.{joined_from}
 use Rattle.t1_block.specs.Blocks.{len_of, lrc_of}
-use Rattle.t1_block.specs.Faults.{frame_fault, fault_of}
+use Rattle.t1_block.specs.Faults.{in_frame, tested}
+use Rattle.t1_block.specs.declared.Kind.{Kind}
 use Rattle.t1_block.specs.declared.Fault.{Fault}
-use Rattle.t1_block.specs.declared.Fault.TheVariants.{Sound, Under, Over, Edc}
 
 -- what was joined can be taken out again
 xor_back : (a b : ℕ) → bit_xor (bit_xor a b) b ≡ a
@@ -44,36 +46,29 @@ unfolding joined_from
 joined_snoc [] l x = refl
 joined_snoc (b ∷ p) l x = joined_snoc p l (bit_xor x b)
 
-under : Under ≡ Sound → ⊥
-under e = let z : ◌≡◌ {A = ℕ} 0 1 = cc in omega arith
-
-over : Over ≡ Sound → ⊥
-over e = let z : ◌≡◌ {A = ℕ} 0 1 = cc in omega arith
-
-edc : Edc ≡ Sound → ⊥
-edc e = let z : ◌≡◌ {A = ℕ} 0 1 = cc in omega arith
-
 abbrev Agrees : List ℕ → Type 0
 Agrees b = lrc_of (take (3 + len_of b) b) ≡ get_or b (3 + len_of b) 0
 
 -- what a valid block has passed
 module _ (b : List ℕ) (most : ℕ) where
-  counted : fault_of b most ≡ Sound → length b ≡ 4 + len_of b
-  unfolding fault_of
+  counted : is_ok (tested b most) ≡ true → length b ≡ 4 + len_of b
+  unfolding tested
   counted =
-      picked (λ (x : Fault). x ≡ Sound → length b ≡ 4 + len_of b) _ _ _ (λ e f. absurd (under f))
-      (λ e. picked (λ (x : Fault). x ≡ Sound → length b ≡ 4 + len_of b) _ _ _ (λ g f. absurd (over f))
+      let P = λ (x : Result Kind Fault). is_ok x ≡ true → length b ≡ 4 + len_of b in
+      picked P _ _ _ (λ e f. absurd (false≢true f))
+      (λ e. picked P _ _ _ (λ g f. absurd (false≢true f))
       (λ g f. let low = ltb-false (length b) (4 + len_of b) e in let high = ltb-false (4 + len_of b) (length b) g in omega arith))
 
-  agreed : fault_of b most ≡ Sound → lrc_of (take (3 + len_of b) b) ≡ get_or b (3 + len_of b) 0
-  unfolding fault_of frame_fault
+  agreed : is_ok (tested b most) ≡ true → Agrees b
+  unfolding tested in_frame
   agreed =
-      picked (λ (x : Fault). x ≡ Sound → Agrees b) _ _ _ (λ e f. absurd (under f))
-      (λ e. picked (λ (x : Fault). x ≡ Sound → Agrees b) _ _ _ (λ g f. absurd (over f))
-      (λ g. picked (λ (x : Fault). x ≡ Sound → Agrees b) _ _ _ (λ k f. eqb-true _ _ k) (λ k f. absurd (edc f))))
+      let P = λ (x : Result Kind Fault). is_ok x ≡ true → Agrees b in
+      picked P _ _ _ (λ e f. absurd (false≢true f))
+      (λ e. picked P _ _ _ (λ g f. absurd (false≢true f))
+      (λ g. picked P _ _ _ (λ k f. eqb-true _ _ k) (λ k f. absurd (false≢true f))))
 
   -- all its bytes joined give 0
-  pub joins_to_nothing : fault_of b most ≡ Sound → joined_from 0 b ≡ 0
+  pub joins_to_nothing : is_ok (tested b most) ≡ true → joined_from 0 b ≡ 0
   unfolding lrc_of
   joins_to_nothing f =
       let n = counted f in
@@ -86,7 +81,7 @@ module _ (b : List ℕ) (most : ℕ) where
       ∙ (ap (λ (x : ℕ). bit_xor x (get_or b (3 + len_of b) 0)) (agreed f) ∙ xor_self (get_or b (3 + len_of b) 0)))
 
 -- the law: whatever both ends take, a valid block with one byte changed is not valid
-pub never_valid : (b : List ℕ) (i v most most' : ℕ) → fault_of b most ≡ Sound → i < length b → (v ≡ get_or b i 0 → ⊥)
-    → fault_of (set b i v) most' ≡ Sound → ⊥
+pub never_valid : (b : List ℕ) (i v most most' : ℕ) → is_ok (tested b most) ≡ true → i < length b → (v ≡ get_or b i 0 → ⊥)
+    → is_ok (tested (set b i v) most') ≡ true → ⊥
 never_valid b i v most most' f h differs g =
     differs (one_changed b i v 0 h (joins_to_nothing (set b i v) most' g ∙ sym (joins_to_nothing b most f)))

@@ -5,6 +5,7 @@ use mathlib.Core.List.{List, []}
 use Prim.Native.Nat.{ℕ, ◌+◌, ◌/◌, ◌%◌}
 use native.Mathlib.Omega.{arith}
 use borrow.Author.Tests.{eq-eqb, ne_eqb}
+use Rattle.std.specs.Prelude.{Some}
 use Rattle.slices.proofs.Choice.{pick_yes, pick_no, picked}
 use Rattle.t1_block.specs.Blocks.{kind_of, pcb_of_r}
 use Rattle.t1_block.specs.declared.Kind.TheVariants.{Ready as R}
@@ -18,7 +19,7 @@ use Rattle.t1_again.specs.Again.{goes_out, ready_for, exhausted, same_again, inf
 use Rattle.t1.specs.Steps.{kept_by}
 
 -- the number of an R-block that we write, whatever its code
-pub kind_of_r : (n : Bool) (code : ℕ) → kind_of (pcb_of_r n code) ≡ R n
+pub kind_of_r : (n : Bool) (code : ℕ) → kind_of (pcb_of_r n code) ≡ Some (R n)
 unfolding kind_of
 kind_of_r false code =
     let d : (0x80 + 0 + code % 16) / 16 ≡ 8 = omega arith in
@@ -37,7 +38,7 @@ plain (Response w v) = true
 
 pub record Says (x : State) : Type 0 where
   pub plainly : plain x.last ≡ true
-  pub numbered : (p : ℕ) → x.last ≡ Ready p → kind_of p ≡ R x.numbers.expected
+  pub numbered : (p : ℕ) → x.last ≡ Ready p → kind_of p ≡ Some (R x.numbers.expected)
 
 -- the same phase, or the end
 pub data Stays (p q : Phase) : Type 0 where

@@ -7,15 +7,14 @@ use Prim.Native.Nat.{ℕ, ◌≤◌}
 use native.Mathlib.Omega.{arith}
 use lib.ListN.{get_or}
 use borrow.Author.Tests.{ltb-true}
+use Rattle.std.specs.Prelude.{Ok, Err}
 use Rattle.slices.proofs.Choice.{picked}
 use Rattle.t1_block.specs.Blocks.{len_of}
-use Rattle.t1_block.specs.Faults.{heard_of}
+use Rattle.t1_block.specs.Faults.{Heard, heard_of}
 use Rattle.t1_block.specs.declared.What.{What}
 use Rattle.t1_block.specs.declared.What.TheVariants.{Resynch, Ifs, Abort, Wtx}
 use Rattle.t1_block.specs.declared.Kind.{Kind}
-use Rattle.t1_block.specs.declared.Kind.TheVariants.{NoKind, Information as I, Ready as R, Request as Asks, Response as Answers}
-use Rattle.t1_block.specs.declared.Heard.{Heard}
-use Rattle.t1_block.specs.declared.Heard.TheVariants.{Valid, Bad}
+use Rattle.t1_block.specs.declared.Kind.TheVariants.{Information as I, Ready as R, Request as Asks, Response as Answers}
 use Rattle.t1_state.specs.Limits.{information_limit, card_limit, asking_limit, same_limit}
 use Rattle.t1_state.specs.declared.Role.{Role}
 use Rattle.t1_state.specs.declared.Role.TheVariants.{Terminal, Card}
@@ -135,12 +134,11 @@ module _ (s : State) (b : Bounded s) where
   kind_keeps (R number) v n = ready_keeps number
   kind_keeps (Asks w) v n = request_keeps w v
   kind_keeps (Answers w) v n = wrong_keeps 2
-  kind_keeps NoKind v n = wrong_keeps 2
 
   line_keeps : (h : Heard) (v n : ℕ) → Keeps (on_line h v n s)
   unfolding on_line
-  line_keeps (Valid k) v n = kind_keeps k v n
-  line_keeps (Bad code) v n = wrong_keeps code
+  line_keeps (Ok k) v n = kind_keeps k v n
+  line_keeps (Err code) v n = wrong_keeps code
 
   settled_counts : (w : What) (v : ℕ) → (settled w v s).counts ≡ s.counts
   settled_counts Resynch v = refl
@@ -157,12 +155,11 @@ module _ (s : State) (b : Bounded s) where
   asked_keeps (Asks Abort) v = for_role_lem s.role _ _ (unmoved refl) same_again_lem
   asked_keeps (Asks Wtx) v = same_again_lem
   asked_keeps (Answers w) v = picked Keeps _ _ _ (λ e. unmoved (settled_counts w v)) (λ e. same_again_lem)
-  asked_keeps NoKind v = same_again_lem
 
   asking_keeps : (h : Heard) (v : ℕ) → Keeps (on_asking h v s)
   unfolding on_asking
-  asking_keeps (Valid k) v = asked_keeps k v
-  asking_keeps (Bad code) v = same_again_lem
+  asking_keeps (Ok k) v = asked_keeps k v
+  asking_keeps (Err code) v = same_again_lem
 
   block_keeps : (p : Phase) (h : Heard) (v n : ℕ) → Keeps (by_phase p h v n s)
   unfolding by_phase

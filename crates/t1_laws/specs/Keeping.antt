@@ -1,10 +1,9 @@
 -- Which turns keep the field of a block, and which blocks carry a number.
 -- Assumes nothing.
-use Rattle.std.specs.Prelude.{Bool, true, false}
+use Rattle.std.specs.Prelude.{Ok, Err, Bool, true, false}
+use Rattle.t1_block.specs.Faults.{Heard}
 use Rattle.t1_block.specs.declared.Kind.{Kind}
-use Rattle.t1_block.specs.declared.Kind.TheVariants.{Information, Ready, Request, Response, NoKind}
-use Rattle.t1_block.specs.declared.Heard.{Heard}
-use Rattle.t1_block.specs.declared.Heard.TheVariants.{Valid, Bad}
+use Rattle.t1_block.specs.declared.Kind.TheVariants.{Information, Ready, Request, Response}
 use Rattle.t1_state.specs.declared.Act.{Act}
 use Rattle.t1_state.specs.declared.Act.TheVariants.{Nothing, Send, Keep, Value, Whole, End, Refuse}
 use Rattle.t1_line.specs.Line.{equal}
@@ -25,8 +24,7 @@ carries_in number (Information n more) = equal n number
 carries_in number (Ready n) = false
 carries_in number (Request w) = false
 carries_in number (Response w) = false
-carries_in number NoKind = false
 
 abbrev pub carries : Bool → Heard → Bool
-carries number (Valid kind) = carries_in number kind
-carries number (Bad code) = false
+carries number (Ok kind) = carries_in number kind
+carries number (Err code) = false

@@ -1,11 +1,11 @@
 -- The blocks that an end sends while any events happen to it, and how often an I-block goes out. 000, I-5.2.5 (a block sent again is
 -- identical to the one first sent) and I-5.2.5.1 (three times a terminal, twice a card).
 -- Assumes nothing.
-use Rattle.std.specs.Prelude.{◌≡◌, Bool, true, false, List, [], ◌∷◌, ◌⊎◌, ℕ, ◌+◌, ◌<◌}
+use Rattle.std.specs.Prelude.{Option, Some, None, ◌≡◌, Bool, true, false, List, [], ◌∷◌, ◌⊎◌, ℕ, ◌+◌, ◌<◌}
 use Rattle.slices.specs.Choice.{pick}
 use Rattle.t1_block.specs.Blocks.{pcb_of, kind_of}
 use Rattle.t1_block.specs.declared.Kind.{Kind}
-use Rattle.t1_block.specs.declared.Kind.TheVariants.{Information, Ready, Request, Response, NoKind}
+use Rattle.t1_block.specs.declared.Kind.TheVariants.{Information, Ready, Request, Response}
 use Rattle.t1_state.specs.declared.State.{State}
 use Rattle.t1.specs.Steps.{Event, turn_of, sent_by}
 
@@ -18,12 +18,12 @@ unfoldable pub sent_over : List Event → State → List (List ℕ)
 sent_over [] s = []
 sent_over (e ∷ es) s = present (sent_by (turn_of e s).act (turn_of e s).state) (sent_over es (turn_of e s).state)
 
-abbrev pub is_i : Kind → Bool
-is_i (Information number more) = true
-is_i (Ready number) = false
-is_i (Request w) = false
-is_i (Response w) = false
-is_i NoKind = false
+abbrev pub is_i : Option Kind → Bool
+is_i (Some (Information number more)) = true
+is_i (Some (Ready number)) = false
+is_i (Some (Request w)) = false
+is_i (Some (Response w)) = false
+is_i None = false
 
 -- the I-blocks among some blocks
 unfoldable pub only_i : List (List ℕ) → List (List ℕ)
@@ -31,12 +31,12 @@ only_i [] = []
 only_i (b ∷ bs) = pick (is_i (kind_of (pcb_of b))) (b ∷ only_i bs) (only_i bs)
 
 -- the number that an I-block carries
-abbrev pub carried : Kind → Bool
-carried (Information number more) = number
-carried (Ready number) = false
-carried (Request w) = false
-carried (Response w) = false
-carried NoKind = false
+abbrev pub carried : Option Kind → Bool
+carried (Some (Information number more)) = number
+carried (Some (Ready number)) = false
+carried (Some (Request w)) = false
+carried (Some (Response w)) = false
+carried None = false
 
 unfoldable pub number_of : List ℕ → Bool
 number_of b = carried (kind_of (pcb_of b))

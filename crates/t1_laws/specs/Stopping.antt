@@ -1,12 +1,10 @@
 -- How often a block goes out, and an end that hears nothing valid.
 -- Assumes nothing.
-use Rattle.std.specs.Prelude.{◌≡◌, Bool, true, false, List, [], ◌∷◌, ℕ, ◌≤◌, ◌-◌}
+use Rattle.std.specs.Prelude.{Ok, Err, ◌≡◌, Bool, true, false, List, [], ◌∷◌, ℕ, ◌≤◌, ◌-◌}
 use Rattle.slices.specs.Choice.{pick}
-use Rattle.t1_block.specs.Faults.{heard_of}
+use Rattle.t1_block.specs.Faults.{Heard, heard_of}
 use Rattle.t1_block.specs.declared.Kind.{Kind}
-use Rattle.t1_block.specs.declared.Kind.TheVariants.{NoKind, Information as I, Ready as R, Request as Asks, Response as Answers}
-use Rattle.t1_block.specs.declared.Heard.{Heard}
-use Rattle.t1_block.specs.declared.Heard.TheVariants.{Valid, Bad}
+use Rattle.t1_block.specs.declared.Kind.TheVariants.{Information as I, Ready as R, Request as Asks, Response as Answers}
 use Rattle.t1_state.specs.Limits.{same_limit}
 use Rattle.t1_state.specs.declared.Phase.{Phase}
 use Rattle.t1_state.specs.declared.Phase.TheVariants.{Start, Asking, Due, Sent, Receiving, Over}
@@ -34,8 +32,8 @@ heard_all [] s = s
 heard_all (b ∷ bs) s = heard_all bs (on_block b s).state
 
 abbrev pub is_bad : Heard → Bool
-is_bad (Valid kind) = false
-is_bad (Bad code) = true
+is_bad (Ok kind) = false
+is_bad (Err code) = true
 
 -- every one of the blocks is invalid when it comes
 unfoldable pub AllBad : List (List ℕ) → State → Type 0
@@ -82,11 +80,10 @@ answers_to last (I number more) v = false
 answers_to last (R number) v = false
 answers_to last (Asks w) v = false
 answers_to last (Answers w) v = is_response last w v
-answers_to last NoKind v = false
 
 abbrev pub is_answer : Last → Heard → ℕ → Bool
-is_answer last (Valid kind) v = answers_to last kind v
-is_answer last (Bad code) v = false
+is_answer last (Ok kind) v = answers_to last kind v
+is_answer last (Err code) v = false
 
 -- how many blocks that are not valid an end still answers
 unfoldable pub patience : State → ℕ

@@ -1,15 +1,14 @@
 -- A valid block where none of our requests is open. 000, I-5.2.4.3, I-5.2.4.4 and I-5.2.5.1; a valid block that the state does not
 -- allow counts as invalid, with code 2.
 -- Assumes nothing.
-use Rattle.std.specs.Prelude.{Bool, true, false, not, ℕ, ◌+◌, ltb}
+use Rattle.std.specs.Prelude.{Ok, Err, Bool, true, false, not, ℕ, ◌+◌, ltb}
 use Rattle.slices.specs.Choice.{pick}
 use Rattle.slices.specs.Tests.{between}
+use Rattle.t1_block.specs.Faults.{Heard}
 use Rattle.t1_block.specs.declared.What.{What}
 use Rattle.t1_block.specs.declared.What.TheVariants.{Resynch, Ifs, Abort, Wtx}
 use Rattle.t1_block.specs.declared.Kind.{Kind}
-use Rattle.t1_block.specs.declared.Kind.TheVariants.{NoKind, Information as I, Ready as R, Request as Asks, Response as Answers}
-use Rattle.t1_block.specs.declared.Heard.{Heard}
-use Rattle.t1_block.specs.declared.Heard.TheVariants.{Valid, Bad}
+use Rattle.t1_block.specs.declared.Kind.TheVariants.{Information as I, Ready as R, Request as Asks, Response as Answers}
 use Rattle.t1_state.specs.Limits.{message_most, piece_at, more_of}
 use Rattle.t1_state.specs.Changes.{at_phase, sending, with_numbers, with_sizes, with_message, with_received}
 use Rattle.t1_state.specs.declared.Phase.{Phase}
@@ -101,8 +100,7 @@ on_kind (I number more) v n s = on_information number more n s
 on_kind (R number) v n s = on_ready number s
 on_kind (Asks w) v n s = on_request w v s
 on_kind (Answers w) v n s = wrong 2 s
-on_kind NoKind v n s = wrong 2 s
 
 unfoldable pub on_line : Heard → ℕ → ℕ → State → Turn
-on_line (Valid kind) v n s = on_kind kind v n s
-on_line (Bad code) v n s = wrong code s
+on_line (Ok kind) v n s = on_kind kind v n s
+on_line (Err code) v n s = wrong code s

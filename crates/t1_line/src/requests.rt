@@ -2,69 +2,39 @@
 ghost use Rattle.std.specs.Prelude.{◌≡◌};
 ghost use Rattle.t1_line.specs.Line.{is_ifs, answers, on_request};
 
-use t1_again::{ended_by, wrong};
+use crate::not_allowed;
+use t1_again::ended_by;
 use t1_block::What;
-use t1_state::change::{sends, with_sizes};
 use t1_state::{Act, End, Last, Role, State, Turn};
 
 // Whether a value is one that an IFS may have.
+#[tactic(auto, unfolding(crate::specs::Line::is_ifs, slices::specs::Tests::between, slices::specs::Tests::every, slices::specs::Choice::pick))]
 pub fn is_ifs(v: u8) -> bool
     ensures { result ≡ is_ifs v }
 {
-    if 0x10 <= v {
-        return v <= 0xFE;
-    }
-    false
+    (0x10..=0xFE).contains(&v)
 }
 
+// An end answers with the same value, or it is not one that is asked this.
+#[tactic(auto, unfolding(crate::specs::Line::on_request, t1_again::specs::Again::for_role, slices::specs::Choice::pick))]
 pub fn on_request(s: State, w: What, v: u8) -> Turn
     ensures { result ≡ on_request w v s }
 {
-    match w {
-        What::Resynch => wrong(s, 2),
-        What::Ifs => on_size(s, v),
-        What::Abort => on_abort(s),
-        What::Wtx => on_time(s, v),
+    match (w, s.role) {
+        (What::Ifs, _) if is_ifs(v) => answer(s.with_sizes(v, s.sizes.ours), w, v),
+        (What::Wtx, Role::Terminal) => answer(s, w, v),
+        (What::Abort, Role::Terminal) => ended_by(s, End::Abort),
+        _ => not_allowed(s),
     }
 }
 
 // The response with the same value.
+#[tactic(auto, unfolding(crate::specs::Line::answers))]
 fn answer(s: State, w: What, v: u8) -> Turn
     ensures { result ≡ answers w v s }
 {
-    let counts = s.counts;
     Turn {
-        state: sends(s, Last::Response(w, v), counts),
+        state: s.sends(Last::Response(w, v), s.counts),
         act: Act::Value,
-    }
-}
-
-fn on_size(s: State, v: u8) -> Turn
-    ensures { result ≡ on_request What.Ifs v s }
-{
-    if is_ifs(v) {
-        let sizes = s.sizes;
-        return answer(with_sizes(s, v, sizes.ours), What::Ifs, v);
-    }
-    wrong(s, 2)
-}
-
-fn on_abort(s: State) -> Turn
-    ensures { result ≡ on_request What.Abort 0 s }
-{
-    let role = s.role;
-    match role {
-        Role::Terminal => ended_by(s, End::Abort),
-        Role::Card => wrong(s, 2),
-    }
-}
-
-fn on_time(s: State, v: u8) -> Turn
-    ensures { result ≡ on_request What.Wtx v s }
-{
-    let role = s.role;
-    match role {
-        Role::Terminal => answer(s, What::Wtx, v),
-        Role::Card => wrong(s, 2),
     }
 }

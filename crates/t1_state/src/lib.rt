@@ -1,10 +1,12 @@
 // One end of a T=1 line, terminal or card: what it keeps between two blocks.
 #![tactic(auto)]
 
-pub mod change;
-pub mod limits;
+mod change;
+mod limits;
+mod names;
 
 use apdu::ANSWER_MOST;
+pub use limits::room_for;
 use t1_block::What;
 
 #[derive(Clone, Copy)]
@@ -25,7 +27,8 @@ pub enum Phase {
     Over,
 }
 
-// The block that went out last: none yet, the I-block, an R-block by its PCB, an S-block with its value.
+// The block that went out last: none yet, the I-block, an R-block by its PCB, an S-block with its value. No `Option` around it: that no
+// block is out is one more case of each function that reads it, and joins the I-block in most.
 #[derive(Clone, Copy)]
 pub enum Last {
     Nothing,
@@ -97,7 +100,8 @@ pub enum Refusal {
 }
 
 // Nothing goes out; a block goes out; its field is kept and a block goes out; its value is taken and a block goes out; its field
-// is kept and the message is whole, with so many bytes; the end; or a refusal.
+// is kept and the message is whole, with so many bytes; the end; or a refusal. Not a `Result`: the theorems on any events in a row say
+// what an end is after each, so that a refusal too comes with the state.
 #[derive(Clone, Copy)]
 pub enum Act {
     Nothing,

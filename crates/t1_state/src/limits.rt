@@ -6,6 +6,7 @@ use crate::{Last, Message, Role};
 use t1_block::What;
 
 // The longest field of a block of ours, by what the other end takes.
+#[tactic(auto, unfolding(crate::specs::Limits::room, slices::specs::Choice::pick))]
 pub fn room_for(theirs: u8) -> usize
     ensures { (result ≡ room theirs) × (result ≤ 254) }
 {
@@ -15,52 +16,47 @@ pub fn room_for(theirs: u8) -> usize
     if theirs <= 254 { theirs as usize } else { 254 }
 }
 
-// Whether something of the message follows the piece that is out.
-pub fn more_of(m: Message) -> bool
-    ensures { result ≡ more_of m }
-{
-    let at = m.at;
-    let length = m.length;
-    if length <= at {
-        return false;
+impl Message {
+    // Whether something of the message follows the piece that is out.
+    #[tactic(auto, unfolding(crate::specs::Limits::more_of))]
+    pub fn has_more(self) -> bool
+        ensures { result ≡ more_of self }
+    {
+        self.at < self.length && self.size < self.length - self.at
     }
-    m.size < length - at
-}
 
-// The piece of a message from a place on.
-pub fn piece_at(m: Message, at: usize, theirs: u8) -> Message
-    ensures { result ≡ piece_at theirs at m }
-{
-    let bytes = m.bytes;
-    let length = m.length;
-    let most = room_for(theirs);
-    Message {
-        bytes,
-        length,
-        at,
-        size: smaller(most, left_from(length, at)),
+    // The piece of a message from a place on.
+    pub fn piece_at(self, at: usize, theirs: u8) -> Message
+        ensures { result ≡ piece_at theirs at self }
+    {
+        let left = self.length.saturating_sub(at);
+        Message {
+            at,
+            size: room_for(theirs).min(left),
+            ..self
+        }
     }
 }
 
-fn left_from(length: usize, at: usize) -> usize
-    ensures { result ≡ length - at }
-{
-    if at <= length { length - at } else { 0 }
-}
+impl Role {
+    // How often an I-block may go out until it is acknowledged.
+    pub fn information_limit(self) -> usize
+        ensures { (result ≡ information_limit self) × (result ≤ 3) }
+    {
+        match self {
+            Role::Terminal => 3,
+            Role::Card => 2,
+        }
+    }
 
-fn smaller(a: usize, b: usize) -> usize
-    ensures { result ≡ min a b }
-{
-    if a <= b { a } else { b }
-}
-
-// How often an I-block may go out until it is acknowledged.
-pub fn information_limit(role: Role) -> usize
-    ensures { (result ≡ information_limit role) × (result ≤ 3) }
-{
-    match role {
-        Role::Terminal => 3,
-        Role::Card => 2,
+    // How often in a row an R-block or a request may go out.
+    pub fn same_limit(self, last: Last) -> usize
+        ensures { (result ≡ same_limit self last) × (result ≤ 3) }
+    {
+        match self {
+            Role::Terminal => 3,
+            Role::Card => card_limit(last),
+        }
     }
 }
 
@@ -69,10 +65,7 @@ fn card_limit(last: Last) -> usize
 {
     match last {
         Last::Request(w, _) => asking_limit(w),
-        Last::Nothing => 2,
-        Last::Information => 2,
-        Last::Ready(_) => 2,
-        Last::Response(_, _) => 2,
+        Last::Nothing | Last::Information | Last::Ready(_) | Last::Response(_, _) => 2,
     }
 }
 
@@ -81,18 +74,6 @@ fn asking_limit(w: What) -> usize
 {
     match w {
         What::Ifs => 3,
-        What::Resynch => 2,
-        What::Abort => 2,
-        What::Wtx => 2,
-    }
-}
-
-// How often in a row an R-block or a request may go out.
-pub fn same_limit(role: Role, last: Last) -> usize
-    ensures { (result ≡ same_limit role last) × (result ≤ 3) }
-{
-    match role {
-        Role::Terminal => 3,
-        Role::Card => card_limit(last),
+        What::Resynch | What::Abort | What::Wtx => 2,
     }
 }

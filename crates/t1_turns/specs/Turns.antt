@@ -5,10 +5,9 @@ use Rattle.slices.specs.Choice.{pick}
 use Rattle.slices.specs.Tests.{between}
 use Rattle.slices.specs.Writing.{laid, zeros}
 use Rattle.t1_block.specs.Blocks.{len_of}
-use Rattle.t1_block.specs.Faults.{heard_of}
+use Rattle.t1_block.specs.Faults.{Heard, heard_of}
 use Rattle.t1_block.specs.declared.What.{What}
 use Rattle.t1_block.specs.declared.What.TheVariants.{Resynch, Ifs, Abort, Wtx}
-use Rattle.t1_block.specs.declared.Heard.{Heard}
 use Rattle.t1_state.specs.Limits.{message_most, piece_at}
 use Rattle.t1_state.specs.Changes.{at_phase, sending}
 use Rattle.t1_state.specs.declared.Phase.{Phase}
