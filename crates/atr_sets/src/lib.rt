@@ -12,35 +12,30 @@ use atr_rules::LONG_PLACE;
 pub const RULES: usize = 22;
 
 // The first rule of a set; 0 where none is in it.
+#[tactic(auto, using(crate::proofs::Firsts::lowest_on), unfolding(crate::specs::Sets::lowest, slices::specs::Choice::pick))]
 pub fn first_rule(rules: usize) -> usize
     ensures { result ≡ lowest numbers 1 rules }
 {
     let mut left = rules;
-    let mut k = 1;
-    while k <= RULES {
+    for k in 1..RULES + 1 {
         if left % 2 == 1 {
             return k;
         }
-        left = left / 2;
-        k += 1;
+        left /= 2;
     }
     0
 }
 
 // Whether a rule is in a set.
+#[tactic(auto, unfolding(crate::specs::Sets::has_rule, slices::specs::Choice::pick))]
 pub fn has_rule(rules: usize, rule: usize) -> bool
     ensures { result ≡ has_rule rules rule }
 {
-    if rule < 1 {
-        return false;
-    }
-    if RULES < rule {
-        return false;
-    }
-    (rules >> (rule - 1)) % 2 == 1
+    1 <= rule && rule <= RULES && (rules >> (rule - 1)) % 2 == 1
 }
 
 // The place of a rule's character, broken or not; 0 for a number that is none.
+#[tactic(auto, using(slices::proofs::Tables::beside_none), unfolding(crate::specs::Sets::place_of, atr_rules::specs::Lines::lines_of, atr_rules::specs::Lines::first_lines, atr_rules::specs::Lines::second_lines, atr_rules::specs::Lines::third_lines, atr_rules::specs::Lines::last_lines, slices::specs::Choice::pick, slices::specs::Tables::beside))]
 pub fn place_of(l: Located, rule: usize) -> usize
     ensures { result ≡ place_of l rule }
 {
