@@ -1,4 +1,5 @@
-// Sets of rules, a bit for each number and the lowest for 1: the first, whether one is in it, and where its character stands.
+// Sets of rules, a bit for each number and the lowest for 1: the first, whether one is in it, and where its character stands. Rules are
+// numbers and their sets bits, and no enum, since the C interface's `lab_atr` hands them out so.
 #![tactic(auto)]
 
 ghost use Rattle.std.specs.Prelude.{◌≡◌};
@@ -17,7 +18,7 @@ pub fn first_rule(rules: usize) -> usize
     ensures { result ≡ lowest numbers 1 rules }
 {
     let mut left = rules;
-    for k in 1..RULES + 1 {
+    for k in 1..=RULES {
         if left % 2 == 1 {
             return k;
         }
@@ -35,7 +36,7 @@ pub fn has_rule(rules: usize, rule: usize) -> bool
 }
 
 // The place of a rule's character, broken or not; 0 for a number that is none.
-#[tactic(auto, using(slices::proofs::Tables::beside_none), unfolding(crate::specs::Sets::place_of, atr_rules::specs::Lines::lines_of, atr_rules::specs::Lines::first_lines, atr_rules::specs::Lines::second_lines, atr_rules::specs::Lines::third_lines, atr_rules::specs::Lines::last_lines, slices::specs::Choice::pick, slices::specs::Tables::beside))]
+#[tactic(auto, using(crate::proofs::Rules::place_table), unfolding(slices::specs::Choice::pick, slices::specs::Tables::beside))]
 pub fn place_of(l: Located, rule: usize) -> usize
     ensures { result ≡ place_of l rule }
 {

@@ -73,7 +73,7 @@ fn data_or_dash(rt: &impl Print, s: &[u8]) -> io::Result<()> {
 // The rules broken, each with the place of its character.
 fn refused(rt: &impl Print, l: Located, rules: usize) -> io::Result<()> {
     print!(rt; "REFUSED")?;
-    for rule in 1..RULES + 1 {
+    for rule in 1..=RULES {
         if has_rule(rules, rule) {
             print!(rt; " {}@{}", name(rule), place_of(l, rule))?;
         }
