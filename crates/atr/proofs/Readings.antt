@@ -5,6 +5,7 @@ use mathlib.Core.Path.{◌≡◌, sym, ap, ap₂, ◌∙◌}
 use mathlib.Core.Bool.{Bool}
 use mathlib.Core.List.{List}
 use Prim.Native.Nat.{ℕ}
+use Rattle.std.proofs.Common.{Result, Ok, Err}
 use Rattle.slices.proofs.Choice.{pick_yes, pick_no}
 use Rattle.atr_characters.specs.Data.{data_of}
 use Rattle.atr_characters.specs.Located.{located_of}
@@ -17,17 +18,16 @@ use Rattle.atr_sets.proofs.Rules.{first_found, place_found}
 use Rattle.atr.specs.Reading.{is_inverse, ts_broken, told_of, reading_of, rules_of, read_reset}
 use Rattle.atr.specs.declared.Reset.{Reset}
 use Rattle.atr.specs.declared.Told.{Told}
-use Rattle.atr.specs.declared.Reading.{Reading}
-use Rattle.atr.specs.declared.Reading.TheVariants.{Accepted, Refused}
+use Rattle.atr.specs.declared.Broken.{Broken}
 
 module _ (ts : Bool) (l : Located) (warm : Bool) where
-  accepted : set_of (lines_of ts l warm) ≡ 0 → Accepted (told_of l) ≡ reading_of (lines_of ts l warm) l
+  accepted : set_of (lines_of ts l warm) ≡ 0 → Ok (told_of l) ≡ reading_of (lines_of ts l warm) l
   unfolding reading_of
   accepted e = sym (pick_no _ _ _ (none_set (lines_of ts l warm) e))
 
   refused : (rules first place : ℕ) → rules ≡ set_of (lines_of ts l warm) → (rules ≡ 0 → ⊥)
       → first ≡ lowest numbers 1 rules → place ≡ place_of l first
-      → Refused (record { rules = rules; first = first; place = place }) ≡ reading_of (lines_of ts l warm) l
+      → Err (record { rules = rules; first = first; place = place }) ≡ reading_of (lines_of ts l warm) l
   unfolding reading_of
   refused rules first place r some f p =
       let number = f ∙ (ap (lowest numbers 1) r ∙ first_found ts l warm) in
@@ -44,18 +44,18 @@ module _ (capture : List ℕ) (warm inverse ts : Bool) (l : Located)
   unfolding rules_of
   same_rules = ap₂ (λ (v : Bool) (m : Located). lines_of v m warm) t located
 
-  answer : (reading : Reading) → reading ≡ reading_of (lines_of ts l warm) l
+  answer : (reading : Result Told Broken) → reading ≡ reading_of (lines_of ts l warm) l
       → ◌≡◌ {A = Reset} (record { inverse = inverse; reading = reading }) (read_reset capture warm)
   unfolding read_reset
   answer reading e = let r = e ∙ ap₂ reading_of same_rules located in rw (r, i)
 
   module _ (rules : ℕ) (r : rules ≡ set_of (lines_of ts l warm)) where
     pub accepted_answer : (told : Told) → told ≡ told_of l → rules ≡ 0
-        → ◌≡◌ {A = Reset} (record { inverse = inverse; reading = Accepted told }) (read_reset capture warm)
-    accepted_answer told e none = answer (Accepted told) (ap Accepted e ∙ accepted ts l warm (sym r ∙ none))
+        → ◌≡◌ {A = Reset} (record { inverse = inverse; reading = Ok told }) (read_reset capture warm)
+    accepted_answer told e none = answer (Ok told) (ap Ok e ∙ accepted ts l warm (sym r ∙ none))
 
     pub refused_answer_lem : (first place : ℕ) → (rules ≡ 0 → ⊥) → first ≡ lowest numbers 1 rules → place ≡ place_of l first
         → ◌≡◌ {A = Reset}
-        (record { inverse = inverse; reading = Refused (record { rules = rules; first = first; place = place }) })
+        (record { inverse = inverse; reading = Err (record { rules = rules; first = first; place = place }) })
         (read_reset capture warm)
     refused_answer_lem first place some f p = answer _ (refused ts l warm rules first place r some f p)

@@ -3,9 +3,9 @@
 #![tactic(auto)]
 
 ghost use Rattle.std.specs.Prelude.{◌≡◌};
-ghost use Rattle.atr.specs.Reading.{is_inverse, ts_broken, or_else, protocol_of, interval_of, told_of, read_reset, historical_of};
+ghost use Rattle.atr.specs.Reading.{is_inverse, ts_broken, protocol_of, interval_of, told_of, read_reset, historical_of};
 
-use atr_characters::{ABSENT, Located, locate};
+use atr_characters::{Located, locate, protocol, value};
 use atr_rules::broken_rules;
 use atr_sets::{first_rule, place_of};
 use slices::{byte, part};
@@ -39,17 +39,11 @@ pub struct Broken {
     pub place: usize,
 }
 
-#[derive(Clone, Copy)]
-pub enum Reading {
-    Accepted(Told),
-    Refused(Broken),
-}
-
-// An answer to reset as it was captured: the convention by TS, and the reading.
+// An answer to reset as it was captured: the convention by TS, and what the answer tells, or what it breaks.
 #[derive(Clone, Copy)]
 pub struct Reset {
     pub inverse: bool,
-    pub reading: Reading,
+    pub reading: Result<Told, Broken>,
 }
 
 pub fn read_reset(capture: &[u8], warm: bool) -> Reset
@@ -60,40 +54,38 @@ pub fn read_reset(capture: &[u8], warm: bool) -> Reset
     let rules = broken_rules(is_ts_broken(capture), l, warm);
     if rules == 0 {
         return Reset {
-            inverse: inverse,
-            reading: Reading::Accepted(told_by(l)),
+            inverse,
+            reading: Ok(told_by(l)),
         };
     }
     let first = first_rule(rules);
     let broken = Broken {
-        rules: rules,
-        first: first,
+        rules,
+        first,
         place: place_of(l, first),
     };
     Reset {
-        inverse: inverse,
-        reading: Reading::Refused(broken),
+        inverse,
+        reading: Err(broken),
     }
 }
 
 // The historical bytes, as a part of the capture itself; under the inverse convention they are line bytes.
+#[tactic(auto, unfolding(crate::specs::Reading::historical_of))]
 pub fn historical(capture: &[u8], told: Told) -> &[u8]
     ensures { result.now ≡ historical_of capture.now told }
 {
-    let start = told.start;
-    let end = told.end;
-    if end < start {
-        return part(capture, start, 0);
-    }
-    part(capture, start, end - start)
+    part(capture, told.start, told.end.saturating_sub(told.start))
 }
 
+#[tactic(auto, unfolding(crate::specs::Reading::is_inverse))]
 fn is_inverse(capture: &[u8]) -> bool
     ensures { result ≡ is_inverse capture.now }
 {
     byte(capture, 0) == 0x03
 }
 
+#[tactic(auto, unfolding(crate::specs::Reading::ts_broken))]
 fn is_ts_broken(capture: &[u8]) -> bool
     ensures { result ≡ ts_broken capture.now }
 {
@@ -101,45 +93,44 @@ fn is_ts_broken(capture: &[u8]) -> bool
     (0 < capture.len()) & (ts != 0x3B) & (ts != 0x03)
 }
 
-fn or_else(other: usize, x: usize) -> usize
-    ensures { result ≡ or_else other x }
-{
-    if x == ABSENT { other } else { x }
-}
-
+#[tactic(auto, unfolding(crate::specs::Reading::protocol_of, crate::specs::Reading::or_else, slices::specs::Choice::pick))]
 fn protocol_of(l: Located) -> Protocol
     ensures { result ≡ protocol_of l }
 {
-    if l.first.td % 16 == 1 {
+    if protocol(l.first.td) == 1 {
+        let tb3 = value(l.third.tb) as usize;
         return Protocol::T1 {
-            ifsc: or_else(0x20, l.third.ta),
-            bwi: l.third.tb / 16,
-            cwi: l.third.tb % 16,
+            ifsc: l.third.ta.unwrap_or(0x20) as usize,
+            bwi: tb3 / 16,
+            cwi: tb3 % 16,
         };
     }
     Protocol::T0 {
-        wi: or_else(10, l.second.tc),
+        wi: l.second.tc.unwrap_or(10) as usize,
     }
 }
 
+#[tactic(auto, unfolding(crate::specs::Reading::interval_of, slices::specs::Choice::pick))]
 fn interval_of(l: Located) -> usize
     ensures { result ≡ interval_of l }
 {
-    if l.first.tc != 0xFF {
-        return 12 + l.first.tc % 256;
+    let n = value(l.first.tc) as usize;
+    if n != 0xFF {
+        return 12 + n;
     }
-    if l.first.td % 16 == 1 { 11 } else { 12 }
+    if protocol(l.first.td) == 1 { 11 } else { 12 }
 }
 
+#[tactic(auto, unfolding(crate::specs::Reading::told_of))]
 fn told_by(l: Located) -> Told
     ensures { result ≡ told_of l }
 {
     Told {
         f: 372,
         d: 1,
-        n: l.first.tc % 256,
+        n: value(l.first.tc) as usize,
         interval: interval_of(l),
-        specific: l.second.ta != ABSENT,
+        specific: l.second.ta.is_some(),
         protocol: protocol_of(l),
         start: l.start,
         end: l.end,

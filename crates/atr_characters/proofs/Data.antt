@@ -8,7 +8,7 @@ use native.Mathlib.Nat.{not-suc-le-zero, le_of_suc-le-suc}
 use native.Mathlib.Numerals.{add-one}
 use native.Mathlib.Omega.{arith}
 use lib.Bits.{bit_xor}
-use lib.ListN.{length, get_or, take, drop, length-map, get_or-eq_default}
+use lib.ListN.{length, get_or, take, drop, length-map, get_or-eq_default, drop_of_length-le}
 use lib.Seq.{drop-cons}
 use Rattle.atr_characters.specs.Data.{data_byte, data_of, joined_from}
 
@@ -43,6 +43,11 @@ module _ (inverse : Bool) (s : List ℕ) where
   pub data_part : (n from : ℕ) → data_of inverse (take n (drop from s)) ≡ take n (drop from (data_of inverse s))
   unfolding data_of
   data_part n from = map_take _ n (drop from s) ∙ ap (take n) (map_drop _ from s)
+
+  -- all bytes joined
+  pub joined_end : (x i : ℕ) → length s ≤ i → joined_from x (data_of inverse (drop i s)) ≡ x
+  unfolding joined_from data_of
+  joined_end x i h = ap (λ (t : List ℕ). joined_from x (map (data_byte inverse) t)) (drop_of_length-le s h)
 
   -- one more byte joined
   pub joined_on : (x i : ℕ) → i < length s

@@ -4,6 +4,7 @@
 use mathlib.Core.Path.{◌≡◌, ap}
 use mathlib.Core.Bool.{Bool, ◌||◌}
 use mathlib.Core.List.{List, [], ◌∷◌}
+use Rattle.std.proofs.Common.{Option}
 use Prim.Native.Nat.{ℕ, suc, ◌+◌, ◌-◌, ◌/◌, ◌%◌, ◌≤◌, ◌<◌}
 use native.Mathlib.Omega.{arith}
 use lib.Dec.{eqb, ltb}
@@ -11,7 +12,7 @@ use lib.ListN.{length, get_or, take, drop}
 use borrow.Author.Tests.{eqb-true, eqb-false, ltb-true}
 use Rattle.slices.proofs.Choice.{picked, either}
 use Rattle.atr_characters.specs.Data.{joined_from, one_if}
-use Rattle.atr_characters.specs.Levels.{found_at, level_of, first_of, after_of, names_other, walked, interface_of}
+use Rattle.atr_characters.specs.Levels.{value, found_at, level_of, first_of, after_of, names_other, walked, interface_of}
 use Rattle.atr_characters.specs.Located.{historical_end, located_of}
 use Rattle.atr_characters.specs.declared.Level.{Level}
 use Rattle.atr_characters.specs.declared.Interface.{Interface}
@@ -22,16 +23,16 @@ pub record Reach (s : List ℕ) (y p : ℕ) : Type 0 where
   pub near : p ≤ length s + 4
   pub inside : 0 < y → p ≤ length s
 
--- a character that is there was announced, and its place is in the capture
-pub found_inside : (s : List ℕ) (bit p : ℕ) → 0 < found_at s bit p % 256 → (bit ≡ 1) × (p < length s)
+-- a character that says something was announced, and its place is in the capture
+pub found_inside : (s : List ℕ) (bit p : ℕ) → 0 < value (found_at s bit p) → (bit ≡ 1) × (p < length s)
 unfolding found_at
 found_inside s bit p =
-    picked (λ (x : ℕ). 0 < x % 256 → (bit ≡ 1) × (p < length s)) (eqb bit 1) _ _
-    (λ e. picked (λ (x : ℕ). 0 < x % 256 → (bit ≡ 1) × (p < length s)) (ltb p (length s)) _ _
+    picked (λ (x : Option ℕ). 0 < value x → (bit ≡ 1) × (p < length s)) (eqb bit 1) _ _
+    (λ e. picked (λ (x : Option ℕ). 0 < value x → (bit ≡ 1) × (p < length s)) (ltb p (length s)) _ _
     (λ f h. (eqb-true bit 1 e, ltb-true p (length s) f)) (λ f h. absurd (omega arith)))
     (λ e h. absurd (omega arith))
 
-pub level_reach : (s : List ℕ) (y p : ℕ) → Reach s y p → Reach s ((level_of s y p).td % 256) (level_of s y p).next
+pub level_reach : (s : List ℕ) (y p : ℕ) → Reach s y p → Reach s (value (level_of s y p).td) (level_of s y p).next
 unfolding level_of
 level_reach s y p r = record {
   near = either (eqb y 0)
@@ -59,7 +60,7 @@ unfolding walked
 walked_end s l other n = let none : n - n ≡ 0 = omega arith in ap (λ (k : ℕ). walked k s l other) none
 
 -- a level put together from its characters
-pub level_made : (s : List ℕ) (y p ta tb tc td : ℕ)
+pub level_made : (s : List ℕ) (y p : ℕ) (ta tb tc td : Option ℕ)
     → ta ≡ (level_of s y p).ta → tb ≡ (level_of s y p).tb → tc ≡ (level_of s y p).tc → td ≡ (level_of s y p).td
     → ◌≡◌ {A = Level} (record {
       ta = ta;
@@ -79,8 +80,8 @@ pub located_made : (s : List ℕ) (n t0 j o : ℕ) (first second third : Level) 
     → n ≡ length s
     → t0 ≡ get_or s 1 0
     → first ≡ level_of s t0 2
-    → second ≡ level_of s (first.td % 256) first.next
-    → third ≡ level_of s (second.td % 256) second.next
+    → second ≡ level_of s (value first.td) first.next
+    → third ≡ level_of s (value second.td) second.next
     → all ≡ interface_of s
     → o ≡ one_if all.other
     → j ≡ joined_from 0 (take (all.next + t0 % 16) (drop 1 s))

@@ -2,18 +2,22 @@
 -- and TD of the next level, in this order and without gaps (000, I-4.3.2, I-4.3.3.4, I-4.3.3.8). A character past the end of the
 -- capture reads as 0, and so announces nothing.
 -- Assumes nothing.
-use Rattle.std.specs.Prelude.{Bool, ◌||◌, not, List, ℕ, zero, suc, ◌+◌, ◌/◌, ◌%◌, ltb, eqb, length, get_or}
+use Rattle.std.specs.Prelude.{Bool, ◌||◌, not, List, Option, None, Some, unwrap_or, ℕ, zero, suc, ◌+◌, ◌/◌, ◌%◌, ltb, eqb, length, get_or}
 use Rattle.slices.specs.Choice.{pick}
 use Rattle.atr_characters.specs.declared.Level.{Level}
 use Rattle.atr_characters.specs.declared.Interface.{Interface}
 
--- stands for a character that is not announced, or not in the capture; no byte is as large, and its low nibble is 0
-abbrev pub absent : ℕ
-absent = 256
+-- what a character says; one that is not announced, or not in the capture, says 0
+abbrev pub value : Option ℕ → ℕ
+value c = unwrap_or c 0
+
+-- the protocol that a TDi names; one that is not there names T=0
+abbrev pub named : Option ℕ → ℕ
+named td = value td % 16
 
 -- the character at a place, where it is announced (1) and in the capture
-unfoldable pub found_at : List ℕ → ℕ → ℕ → ℕ
-found_at s announced p = pick (eqb announced 1) (pick (ltb p (length s)) (get_or s p 0) absent) absent
+unfoldable pub found_at : List ℕ → ℕ → ℕ → Option ℕ
+found_at s announced p = pick (eqb announced 1) (pick (ltb p (length s)) (Some (get_or s p 0)) None) None
 
 -- the level that a bit map announces from a place on
 unfoldable pub level_of : List ℕ → ℕ → ℕ → Level
@@ -39,11 +43,11 @@ first_of s = level_of s (get_or s 1 0) 2
 
 -- TD announces the level after its own; where there is no TD, nothing is announced
 unfoldable pub after_of : List ℕ → Level → Level
-after_of s l = level_of s (l.td % 256) l.next
+after_of s l = level_of s (value l.td) l.next
 
 -- whether a TD names a protocol other than T=0
-abbrev pub names_other : ℕ → Bool
-names_other td = not (eqb (td % 16) 0)
+abbrev pub names_other : Option ℕ → Bool
+names_other td = not (eqb (named td) 0)
 
 -- n levels on: where they end, and whether one of their TD names a protocol other than T=0
 unfoldable pub walked : ℕ → List ℕ → Level → Bool → Interface

@@ -5,23 +5,20 @@ mod bytes;
 
 ghost use Rattle.std.specs.Prelude.{◌≡◌, ◌+◌, ◌<◌, ◌≤◌, ◌^◌, length};
 ghost use Rattle.atr_characters.specs.Data.{data_of, one_if};
-ghost use Rattle.atr_characters.specs.Levels.{found_at, level_of, interface_of};
+ghost use Rattle.atr_characters.specs.Levels.{value, named, found_at, level_of, interface_of};
 ghost use Rattle.atr_characters.specs.Located.{located_of};
 
 use bytes::{character, joined};
 use slices::part;
 
-// A character that is not announced, or not in the capture.
-pub const ABSENT: usize = 256;
-
-// One level: its characters, each ABSENT where it is not announced or not there; where each stands or would stand; and where
-// the next level starts.
+// One level: its characters, None where one is not announced, or not in the capture; where each stands or would stand; and where the
+// next level starts.
 #[derive(Clone, Copy)]
 pub struct Level {
-    pub ta: usize,
-    pub tb: usize,
-    pub tc: usize,
-    pub td: usize,
+    pub ta: Option<u8>,
+    pub tb: Option<u8>,
+    pub tc: Option<u8>,
+    pub td: Option<u8>,
     pub a: usize,
     pub b: usize,
     pub c: usize,
@@ -39,26 +36,42 @@ pub struct Interface {
 pub fn one(b: bool) -> usize
     ensures { (result ≡ one_if b) × (result ≤ 1) }
 {
-    b as usize
+    usize::from(b)
 }
 
-fn found(capture: &[u8], inverse: bool, announced: usize, place: usize) -> usize
+// What a character says; one that is not there says 0: it announces nothing, and as a TDi it names T=0.
+pub fn value(c: Option<u8>) -> u8
+    ensures { result ≡ value c }
+{
+    c.unwrap_or(0)
+}
+
+// The protocol that a TDi names.
+pub fn protocol(td: Option<u8>) -> u8
+    ensures { result ≡ named td }
+{
+    value(td) % 16
+}
+
+// The character at a place, where it is announced (1) and in the capture.
+#[tactic(auto, using(crate::proofs::Data::data_length), unfolding(crate::specs::Levels::found_at, slices::specs::Choice::pick))]
+fn found(capture: &[u8], inverse: bool, announced: usize, place: usize) -> Option<u8>
     ensures { result ≡ found_at (data_of inverse capture.now) announced place }
 {
-    if announced != 1 {
-        return ABSENT;
+    if announced == 1 && place < capture.len() {
+        Some(character(capture, inverse, place))
+    } else {
+        None
     }
-    if capture.len() <= place {
-        return ABSENT;
-    }
-    character(capture, inverse, place)
 }
 
 // The level that a bit map announces from a place on.
-fn level_at(capture: &[u8], inverse: bool, map: usize, from: usize) -> Level
+#[tactic(auto, using(crate::proofs::Reach::level_made), unfolding(crate::specs::Levels::level_of))]
+fn level_at(capture: &[u8], inverse: bool, map: u8, from: usize) -> Level
     requires { from + 4 < 2 ^ 64 }
     ensures { result ≡ level_of (data_of inverse capture.now) map from }
 {
+    let map = map as usize;
     let b = from + map / 16 % 2;
     let c = b + map / 32 % 2;
     let d = c + map / 64 % 2;
@@ -68,9 +81,9 @@ fn level_at(capture: &[u8], inverse: bool, map: usize, from: usize) -> Level
         tc: found(capture, inverse, map / 64 % 2, c),
         td: found(capture, inverse, map / 128 % 2, d),
         a: from,
-        b: b,
-        c: c,
-        d: d,
+        b,
+        c,
+        d,
         next: d + map / 128 % 2,
     }
 }
@@ -80,16 +93,14 @@ fn walk(capture: &[u8], inverse: bool) -> Interface
     ensures { (result ≡ interface_of (data_of inverse capture.now)) × (result.next ≤ length capture.now + 4) }
 {
     let mut l = level_at(capture, inverse, character(capture, inverse, 1), 2);
-    let mut other = l.td % 16 != 0;
-    let mut i = 0;
-    while i < capture.len() {
-        l = level_at(capture, inverse, l.td % 256, l.next);
-        other = other | (l.td % 16 != 0);
-        i += 1;
+    let mut other = protocol(l.td) != 0;
+    for _ in capture {
+        l = level_at(capture, inverse, value(l.td), l.next);
+        other |= protocol(l.td) != 0;
     }
     Interface {
         next: l.next,
-        other: other,
+        other,
     }
 }
 
@@ -113,21 +124,19 @@ pub fn locate(capture: &[u8], inverse: bool) -> Located
 {
     let t0 = character(capture, inverse, 1);
     let first = level_at(capture, inverse, t0, 2);
-    let second = level_at(capture, inverse, first.td % 256, first.next);
-    let third = level_at(capture, inverse, second.td % 256, second.next);
+    let second = level_at(capture, inverse, value(first.td), first.next);
+    let third = level_at(capture, inverse, value(second.td), second.next);
     let found = walk(capture, inverse);
-    let end = found.next + t0 % 16;
-    let after = end + one(found.other);
-    let joined = joined(part(capture, 1, end), inverse);
+    let end = found.next + (t0 % 16) as usize;
     Located {
         size: capture.len(),
-        first: first,
-        second: second,
-        third: third,
+        first,
+        second,
+        third,
         start: found.next,
-        end: end,
+        end,
         due: found.other,
-        after: after,
-        joined: joined,
+        after: end + one(found.other),
+        joined: joined(part(capture, 1, end), inverse),
     }
 }

@@ -4,6 +4,7 @@
 use mathlib.Core.Path.{◌≡◌, refl, sym, ap, ◌∙◌}
 use mathlib.Core.Bool.{Bool, true, false, not, ◌&&◌, false≢true}
 use mathlib.Core.List.{List, [], ◌∷◌}
+use Rattle.std.proofs.Common.{Ok, Err}
 use Prim.Native.Nat.{ℕ, zero, suc, ◌≤◌, ◌<◌}
 use native.Mathlib.Omega.{arith}
 use lib.Dec.{ltb}
@@ -20,10 +21,9 @@ use Rattle.atr_rules.specs.Lines.{is_long, first_lines, second_lines, third_line
 use Rattle.atr.specs.Reading.{is_inverse, ts_broken, told_of, reading_of, rules_of, read_reset}
 use Rattle.atr.specs.declared.Broken.{Broken}
 use Rattle.atr.specs.declared.Told.{Told}
-use Rattle.atr.specs.declared.Reading.TheVariants.{Accepted, Refused}
 use Rattle.atr_laws.specs.Readings.{is_accepted, broken_of, some_broken}
 
-by_test : (t : Bool) (b : Broken) (a : Told) → is_accepted (pick t (Refused b) (Accepted a)) ≡ not t
+by_test : (t : Bool) (b : Broken) (a : Told) → is_accepted (pick t (Err b) (Ok a)) ≡ not t
 unfolding pick is_accepted
 by_test true b a = refl
 by_test false b a = refl
@@ -78,7 +78,7 @@ long_refused capture warm h =
     accepted_exactly capture warm ∙ ap not (long_broken l warm (ts_broken capture) (omega arith))
 
 -- what an accepted reading tells is what was located
-told_by_test : (t : Bool) (b : Broken) (a told : Told) → pick t (Refused b) (Accepted a) ≡ Accepted told → (t ≡ false) × (told ≡ a)
+told_by_test : (t : Bool) (b : Broken) (a told : Told) → pick t (Err b) (Ok a) ≡ Ok told → (t ≡ false) × (told ≡ a)
 unfolding pick
 told_by_test true b a told e = let z : ◌≡◌ {A = ℕ} 0 1 = cc in absurd (omega arith)
 told_by_test false b a told e = (refl, cc)
@@ -93,7 +93,7 @@ module _ (l : Located) (warm : Bool) where
   whole true e = absurd (false≢true (sym e))
   whole false e = ltb-false l.size l.end (sym (cut_there l warm) ∙ none_at (broken_of (lines_of false l warm)) 16 e)
 
-module _ (capture : List ℕ) (warm : Bool) (told : Told) (e : (read_reset capture warm).reading ≡ Accepted told) where
+module _ (capture : List ℕ) (warm : Bool) (told : Told) (e : (read_reset capture warm).reading ≡ Ok told) where
   found : (some_broken capture warm ≡ false) × (told ≡ told_of (located_of (data_of (is_inverse capture) capture)))
   unfolding read_reset reading_of some_broken broken_of
   found = told_by_test (some_broken capture warm) _ _ told e

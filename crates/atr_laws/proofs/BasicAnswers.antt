@@ -16,10 +16,9 @@ use Rattle.slices.specs.Choice.{pick}
 use Rattle.slices.specs.Tables.{any_of}
 use Rattle.slices.proofs.Choice.{pick_no}
 use Rattle.atr_characters.specs.Data.{joined_from}
-use Rattle.atr_characters.specs.Levels.{absent}
 use Rattle.atr_characters.specs.Located.{located_of}
 use Rattle.atr_characters.specs.declared.Located.{Located}
-use Rattle.atr_rules.specs.Tests.{is_absent, is_there, guard_and_one}
+use Rattle.atr_rules.specs.Tests.{guard_and_one}
 use Rattle.atr_rules.specs.Lines.{Line, is_long, first_lines, second_lines, third_lines, last_lines, lines_of}
 use Rattle.atr.specs.Reading.{is_inverse, rules_of, read_reset}
 use Rattle.atr_laws.specs.Readings.{is_accepted, broken_of, some_broken}
@@ -62,7 +61,7 @@ module _ (tc1 : ℕ) (h : List ℕ) (few : length h ≤ 15) where
       let size = suc (suc (suc (suc (length h)))) in
       let end = 4 + (0x60 + length h) % 16 in
       pick_no _ _ _ (both_false (not warm) (leb 3 size))
-      ∙ (pick_no _ _ _ (and_false (not warm && true) false refl)
+      ∙ (pick_no _ _ _ (and_false (not warm) false refl)
       ∙ (pick_no _ _ _ (not_long size _ (omega arith))
       ∙ (pick_no _ _ _ (le-ltb size end (omega arith))
       ∙ (pick_no _ _ _ (not_long_there size _ _ (omega arith))
@@ -104,17 +103,11 @@ module _ (tc1 ta3 tb3 : ℕ) (h : List ℕ) (basic : InTable tc1 ta3 tb3 h) wher
       let more = length-append h (check ∷ []) in
       ap (joined_from 0) (take_all end (body ++ (check ∷ [])) (omega arith)) ∙ (joined_more 0 body check ∙ xor_self check)
 
-  ta3_right : (is_there ta3 && (ltb ta3 0x10 || eqb ta3 0xFF)) ≡ false
+  ta3_right : (ltb ta3 0x10 || eqb ta3 0xFF) ≡ false
   ta3_right =
       let high = basic.high in
       let other : ta3 ≡ 0xFF → ⊥ = λ e. omega arith in
-      and_false (is_there ta3) _ (rw (le-ltb ta3 0x10 basic.low, ne_eqb ta3 0xFF other))
-
-  tb3_there : (is_absent tb3 && leb 8 size) ≡ false
-  tb3_there =
-      let bwi = basic.bwi in
-      let other : tb3 ≡ absent → ⊥ = λ e. omega arith in
-      ap (λ (b : Bool). b && leb 8 size) (ne_eqb tb3 absent other)
+      rw (le-ltb ta3 0x10 basic.low, ne_eqb ta3 0xFF other)
 
   tck_there : eqb size end ≡ false
   tck_there = let e = size_is in ne_eqb size end (λ same. omega arith)
@@ -125,19 +118,18 @@ module _ (tc1 ta3 tb3 : ℕ) (h : List ℕ) (basic : InTable tc1 ta3 tb3 h) wher
       let e = size_is in
       let few = basic.few in
       pick_no _ _ _ (both_false (not warm) (leb 3 size))
-      ∙ (pick_no _ _ _ (and_false (not warm && true) false refl)
+      ∙ (pick_no _ _ _ (and_false (not warm) false refl)
       ∙ (pick_no _ _ _ ta3_right
-      ∙ (pick_no _ _ _ tb3_there
-      ∙ (pick_no _ _ _ (and_false (is_there tb3) _ (le-ltb 4 (tb3 / 16) basic.bwi))
-      ∙ (pick_no _ _ _ (and_false (is_there tb3) _ (le-ltb 5 (tb3 % 16) basic.cwi))
-      ∙ (pick_no _ _ _ (and_false (is_there tb3) _ (le-ltb (2 ^ (tb3 % 16)) (guard_and_one tc1) basic.room))
+      ∙ (pick_no _ _ _ (le-ltb 4 (tb3 / 16) basic.bwi)
+      ∙ (pick_no _ _ _ (le-ltb 5 (tb3 % 16) basic.cwi)
+      ∙ (pick_no _ _ _ (le-ltb (2 ^ (tb3 % 16)) (guard_and_one tc1) basic.room)
       ∙ (pick_no _ _ _ (not_long size _ (omega arith))
       ∙ (pick_no _ _ _ (le-ltb size end (omega arith))
       ∙ (pick_no _ _ _ tck_there
       ∙ (pick_no _ _ _ (and_false (ltb end size) _ (ap (λ (j : ℕ). not (eqb j 0)) zero_sum))
       ∙ (pick_no _ _ _ (not_long_there size _ _ (omega arith))
       ∙ (pick_no _ _ _ (le-ltb (end + 1) size (omega arith))
-      ∙ pick_no _ _ _ (not_long_there size _ _ (omega arith))))))))))))))
+      ∙ pick_no _ _ _ (not_long_there size _ _ (omega arith)))))))))))))
 
   pub basic_T1 : (warm : Bool) → is_accepted (read_reset (basic_t1 tc1 ta3 tb3 h) warm).reading ≡ true
   unfolding basic_t1 basic_body body check

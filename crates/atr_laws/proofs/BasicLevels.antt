@@ -3,6 +3,7 @@
 use mathlib.Core.Path.{◌≡◌, refl, sym, ap, ◌∙◌}
 use mathlib.Core.Bool.{Bool, true, false, ◌||◌}
 use mathlib.Core.List.{List, [], ◌∷◌, ◌++◌}
+use Rattle.std.proofs.Common.{Option, None, Some}
 use Prim.Native.Nat.{ℕ, zero, suc, ◌+◌, ◌/◌, ◌%◌, ◌≤◌, ◌<◌}
 use native.Mathlib.Nat.{add-zero}
 use native.Mathlib.Omega.{arith}
@@ -11,19 +12,19 @@ use borrow.Author.Tests.{lt-ltb}
 use Rattle.slices.specs.Choice.{pick}
 use Rattle.slices.proofs.Choice.{pick_yes}
 use Rattle.atr_characters.specs.Data.{joined_from}
-use Rattle.atr_characters.specs.Levels.{absent, found_at, level_of, first_of, after_of, names_other, walked, interface_of}
+use Rattle.atr_characters.specs.Levels.{found_at, level_of, first_of, after_of, names_other, walked, interface_of}
 use Rattle.atr_characters.specs.Located.{located_of}
 use Rattle.atr_characters.specs.declared.Level.{Level}
 use Rattle.atr_characters.specs.declared.Located.{Located}
 use Rattle.atr_characters.proofs.Reach.{located_made}
 
-found_there : (s : List ℕ) (p : ℕ) → p < length s → found_at s 1 p ≡ get_or s p 0
+found_there : (s : List ℕ) (p : ℕ) → p < length s → found_at s 1 p ≡ Some (get_or s p 0)
 unfolding found_at pick
 found_there s p h = pick_yes _ _ _ (lt-ltb p (length s) h)
 
 -- a level by the four bits that announce it, and by what is found
 module _ (s : List ℕ) (y p a b c d : ℕ) (ea : y / 16 % 2 ≡ a) (eb : y / 32 % 2 ≡ b) (ec : y / 64 % 2 ≡ c) (ed : y / 128 % 2 ≡ d) where
-  level_is : (ta tb tc td : ℕ) → found_at s a p ≡ ta → found_at s b (p + a) ≡ tb
+  level_is : (ta tb tc td : Option ℕ) → found_at s a p ≡ ta → found_at s b (p + a) ≡ tb
       → found_at s c (p + a + b) ≡ tc → found_at s d (p + a + b + c) ≡ td
       → level_of s y p ≡ record {
         ta = ta;
@@ -41,7 +42,7 @@ module _ (s : List ℕ) (y p a b c d : ℕ) (ea : y / 16 % 2 ≡ a) (eb : y / 32
 
 -- a level that nothing announces
 abbrev pub still : ℕ → Level
-still p = record { ta = absent; tb = absent; tc = absent; td = absent; a = p; b = p; c = p; d = p; next = p }
+still p = record { ta = None; tb = None; tc = None; td = None; a = p; b = p; c = p; d = p; next = p }
 
 pub still_level : (s : List ℕ) (p : ℕ) → level_of s 0 p ≡ still p
 unfolding level_of found_at pick
@@ -72,7 +73,7 @@ module _ (tc1 : ℕ) (h : List ℕ) (few : length h ≤ 15) where
   s₀ = 0x3B ∷ (0x60 + length h) ∷ 0x00 ∷ tc1 ∷ h
 
   abbrev pub first₀ : Level
-  first₀ = record { ta = absent; tb = 0; tc = tc1; td = absent; a = 2; b = 2; c = 3; d = 4; next = 4 }
+  first₀ = record { ta = None; tb = Some 0; tc = Some tc1; td = None; a = 2; b = 2; c = 3; d = 4; next = 4 }
 
   abbrev pub located₀ : Located
   located₀ =
@@ -92,7 +93,7 @@ module _ (tc1 : ℕ) (h : List ℕ) (few : length h ≤ 15) where
   unfolding first_of found_at pick
   first_is₀ =
       level_is s₀ (0x60 + length h) 2 0 1 1 0 (omega arith) (omega arith) (omega arith) (omega arith)
-      absent 0 tc1 absent refl (found_there s₀ 2 (omega arith)) (found_there s₀ 3 (omega arith)) refl
+      None (Some 0) (Some tc1) None refl (found_there s₀ 2 (omega arith)) (found_there s₀ 3 (omega arith)) refl
 
   interface_is₀ : interface_of s₀ ≡ record { next = 4; other = false }
   unfolding interface_of after_of
@@ -112,28 +113,28 @@ module _ (tc1 ta3 tb3 : ℕ) (h : List ℕ) (few : length h ≤ 15) (x : ℕ) wh
   s₁ = 0x3B ∷ (0xE0 + length h) ∷ 0x00 ∷ tc1 ∷ 0x81 ∷ 0x31 ∷ ta3 ∷ tb3 ∷ h ++ (x ∷ [])
 
   abbrev pub first₁ : Level
-  first₁ = record { ta = absent; tb = 0; tc = tc1; td = 0x81; a = 2; b = 2; c = 3; d = 4; next = 5 }
+  first₁ = record { ta = None; tb = Some 0; tc = Some tc1; td = Some 0x81; a = 2; b = 2; c = 3; d = 4; next = 5 }
 
   abbrev pub second₁ : Level
-  second₁ = record { ta = absent; tb = absent; tc = absent; td = 0x31; a = 5; b = 5; c = 5; d = 5; next = 6 }
+  second₁ = record { ta = None; tb = None; tc = None; td = Some 0x31; a = 5; b = 5; c = 5; d = 5; next = 6 }
 
   abbrev pub third₁ : Level
-  third₁ = record { ta = ta3; tb = tb3; tc = absent; td = absent; a = 6; b = 7; c = 8; d = 8; next = 8 }
+  third₁ = record { ta = Some ta3; tb = Some tb3; tc = None; td = None; a = 6; b = 7; c = 8; d = 8; next = 8 }
 
   first_is₁ : first_of s₁ ≡ first₁
   unfolding first_of found_at pick
   first_is₁ =
       level_is s₁ (0xE0 + length h) 2 0 1 1 1 (omega arith) (omega arith) (omega arith) (omega arith)
-      absent 0 tc1 0x81 refl (found_there s₁ 2 (omega arith)) (found_there s₁ 3 (omega arith)) (found_there s₁ 4 (omega arith))
+      None (Some 0) (Some tc1) (Some 0x81) refl (found_there s₁ 2 (omega arith)) (found_there s₁ 3 (omega arith)) (found_there s₁ 4 (omega arith))
 
   second_is₁ : level_of s₁ 0x81 5 ≡ second₁
   unfolding found_at pick
-  second_is₁ = level_is s₁ 0x81 5 0 0 0 1 refl refl refl refl absent absent absent 0x31 refl refl refl (found_there s₁ 5 (omega arith))
+  second_is₁ = level_is s₁ 0x81 5 0 0 0 1 refl refl refl refl None None None (Some 0x31) refl refl refl (found_there s₁ 5 (omega arith))
 
   third_is₁ : level_of s₁ 0x31 6 ≡ third₁
   unfolding found_at pick
   third_is₁ =
-      level_is s₁ 0x31 6 1 1 0 0 refl refl refl refl ta3 tb3 absent absent
+      level_is s₁ 0x31 6 1 1 0 0 refl refl refl refl (Some ta3) (Some tb3) None None
       (found_there s₁ 6 (omega arith)) (found_there s₁ 7 (omega arith)) refl refl
 
   interface_is₁ : interface_of s₁ ≡ record { next = 8; other = true }

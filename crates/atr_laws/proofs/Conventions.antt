@@ -4,7 +4,7 @@
 use mathlib.Core.Path.{◌≡◌, refl, sym, ap, ap₂, ◌∙◌}
 use mathlib.Core.Bool.{Bool, true, false, not, ◌&&◌, ◌||◌}
 use mathlib.Core.List.{List, [], ◌∷◌, map}
-use Prim.Native.Nat.{ℕ, zero, suc, ◌%◌, ◌≤◌}
+use Prim.Native.Nat.{ℕ, zero, suc, ◌≤◌}
 use native.Mathlib.Nat.{not-suc-le-zero}
 use native.Mathlib.Omega.{arith}
 use lib.Dec.{eqb}
@@ -17,7 +17,7 @@ use Rattle.tape_crc.proofs.Bytes.{bytes_head, bytes_rest}
 use Rattle.atr_table.specs.Turning.{opposite, turned}
 use Rattle.atr_table.proofs.Laws.{turned_twice}
 use Rattle.atr_characters.specs.Data.{data_byte, data_of}
-use Rattle.atr_characters.specs.Levels.{found_at, level_of, first_of, after_of, names_other, walked, interface_of}
+use Rattle.atr_characters.specs.Levels.{value, found_at, level_of, first_of, after_of, names_other, walked, interface_of}
 use Rattle.atr_characters.specs.Located.{historical_end, located_of}
 use Rattle.atr_characters.specs.declared.Level.{Level}
 use Rattle.atr_characters.specs.declared.Located.{Located}
@@ -52,11 +52,11 @@ module _ (a b : ℕ) (r : List ℕ) where
 
   after_same : (l : Level) → 1 ≤ l.next → after_of (a ∷ r) l ≡ after_of (b ∷ r) l
   unfolding after_of
-  after_same l h = level_same (l.td % 256) l.next h
+  after_same l h = level_same (value l.td) l.next h
 
   after_behind : (l : Level) → 1 ≤ l.next → 1 ≤ (after_of (a ∷ r) l).next
   unfolding after_of
-  after_behind l h = level_behind (l.td % 256) l.next h
+  after_behind l h = level_behind (value l.td) l.next h
 
   walked_same : (n : ℕ) (l : Level) (other : Bool) → 1 ≤ l.next → walked n (a ∷ r) l other ≡ walked n (b ∷ r) l other
   unfolding walked

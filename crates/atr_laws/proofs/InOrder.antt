@@ -1,10 +1,10 @@
 -- The rules are given in the order of the characters: of any capture, the places of the rules that are broken never fall. The characters
 -- of a level stand one behind the other, each level behind the one before it, and the end behind the third level.
 -- Assumes nothing.
-use mathlib.Core.Path.{◌≡◌, refl, sym, ap, ◌∙◌}
-use mathlib.Core.Bool.{Bool, true, false, false≢true}
+use mathlib.Core.Path.{◌≡◌, refl, ap, ◌∙◌}
+use mathlib.Core.Bool.{Bool, true, false}
 use mathlib.Core.List.{List, [], ◌∷◌}
-use Prim.Native.Nat.{ℕ, zero, suc, ◌+◌, ◌%◌, ◌≤◌, ◌<◌}
+use Prim.Native.Nat.{ℕ, zero, suc, ◌+◌, ◌≤◌, ◌<◌}
 use native.Mathlib.Omega.{arith}
 use lib.Dec.{ltb}
 use lib.ListN.{length, get_or}
@@ -12,7 +12,7 @@ use borrow.Author.Tests.{ltb-true, ltb-false}
 use Rattle.slices.specs.Choice.{pick}
 use Rattle.slices.proofs.Choice.{either}
 use Rattle.atr_characters.specs.Data.{data_of}
-use Rattle.atr_characters.specs.Levels.{found_at, level_of, first_of, after_of, interface_of, walked}
+use Rattle.atr_characters.specs.Levels.{value, found_at, level_of, first_of, after_of, interface_of, walked}
 use Rattle.atr_characters.specs.Located.{historical_end, located_of}
 use Rattle.atr_characters.specs.declared.Level.{Level}
 use Rattle.atr_characters.specs.declared.Located.{Located}
@@ -39,8 +39,8 @@ stairs : (s : List ℕ) → Stairs (located_of s)
 unfolding located_of first_of after_of
 stairs s =
     let first = level_stairs s (get_or s 1 0) 2 in
-    let second = level_stairs s ((first_of s).td % 256) (first_of s).next in
-    let third = level_stairs s ((after_of s (first_of s)).td % 256) (after_of s (first_of s)).next in
+    let second = level_stairs s (value (first_of s).td) (first_of s).next in
+    let third = level_stairs s (value (after_of s (first_of s)).td) (after_of s (first_of s)).next in
     let x1 = first.3 in
     let x2 = first.4 in
     let x3 = second.3 in
@@ -52,11 +52,11 @@ stairs s =
       b1 = first.0;
       c1 = first.1;
       d1 = first.2;
-      a2 = omega (arith, level_next s ((first_of s).td % 256) (first_of s).next);
+      a2 = omega (arith, level_next s (value (first_of s).td) (first_of s).next);
       b2 = second.0;
       c2 = second.1;
       d2 = second.2;
-      a3 = omega (arith, level_next s ((after_of s (first_of s)).td % 256) (after_of s (first_of s)).next);
+      a3 = omega (arith, level_next s (value (after_of s (first_of s)).td) (after_of s (first_of s)).next);
       b3 = third.0;
       c3 = third.1;
       early = omega arith;
@@ -64,7 +64,7 @@ stairs s =
 
 -- a character that was found stands in the capture
 found_there : (s : List ℕ) (bit p : ℕ) → is_there (found_at s bit p) ≡ true → p < length s
-found_there s bit p e = (there_inside s bit p (λ q. absurd (false≢true (sym (ap is_there q) ∙ e)))).1
+found_there s bit p e = (there_inside s bit p e).1
 
 module _ (s : List ℕ) (y p : ℕ) where
   level_there : (is_there (level_of s y p).ta ≡ true → (level_of s y p).a < length s)
@@ -78,8 +78,8 @@ there : (s : List ℕ) → There (located_of s)
 unfolding located_of first_of after_of
 there s =
     let first = level_there s (get_or s 1 0) 2 in
-    let second = level_there s ((first_of s).td % 256) (first_of s).next in
-    let third = level_there s ((after_of s (first_of s)).td % 256) (after_of s (first_of s)).next in
+    let second = level_there s (value (first_of s).td) (first_of s).next in
+    let third = level_there s (value (after_of s (first_of s)).td) (after_of s (first_of s)).next in
     record {
       ta1 = first.0;
       tb1 = first.1;
@@ -95,7 +95,7 @@ there s =
 
 level_rises : (s : List ℕ) (l : Level) → ((after_of s l).c ≤ (after_of s l).d) × ((after_of s l).d ≤ (after_of s l).next)
 unfolding after_of
-level_rises s l = let up = level_stairs s (l.td % 256) l.next in (up.2, up.3)
+level_rises s l = let up = level_stairs s (value l.td) l.next in (up.2, up.3)
 
 ts_alone : (l : Located) (warm : Bool) → Rises 0 (lines_of true l warm)
 unfolding lines_of places_given never_falls pick
@@ -107,8 +107,8 @@ module _ (s : List ℕ) where
   unfolding after_of
   next_behind n =
       let l = level_after n s in
-      let up = level_stairs s (l.td % 256) l.next in
-      let start = level_next s (l.td % 256) l.next in
+      let up = level_stairs s (value l.td) l.next in
+      let start = level_next s (value l.td) l.next in
       let u0 = up.0 in
       let u1 = up.1 in
       let u2 = up.2 in

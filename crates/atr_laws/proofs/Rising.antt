@@ -5,15 +5,16 @@
 use mathlib.Core.Path.{◌≡◌, refl, sym, ap, ◌∙◌}
 use mathlib.Core.Bool.{Bool, true, false, ◌&&◌, ◌||◌, not}
 use mathlib.Core.List.{List, [], ◌∷◌, ◌++◌}
+use Rattle.std.proofs.Common.{Option, None, Some}
 use Prim.Native.Nat.{ℕ, ◌/◌, ◌%◌, ◌^◌, ◌≤◌, ◌<◌}
 use native.Mathlib.Omega.{arith}
 use lib.Dec.{leb, ltb, eqb}
 use borrow.Author.Tests.{leb-true, ltb-true, ltb-false, le-leb, lt-ltb, le-ltb, ne_eqb}
 use Rattle.slices.proofs.Choice.{pick_yes, pick_no, either, and_left, and_right, and_both}
-use Rattle.atr_characters.specs.Levels.{absent}
+use Rattle.atr_characters.specs.Levels.{value, named}
 use Rattle.atr_characters.specs.declared.Located.{Located}
 use Rattle.atr_rules.specs.Names.{TS}
-use Rattle.atr_rules.specs.Tests.{is_absent, is_there, named, bit5, guard_and_one}
+use Rattle.atr_rules.specs.Tests.{is_absent, is_there, is_other, bit5, guard_and_one}
 use Rattle.atr_rules.specs.Lines.{Line, line, is_long, first_lines, second_lines, third_lines, last_lines}
 use Rattle.atr_laws.specs.Order.{places_given, never_falls}
 
@@ -234,13 +235,12 @@ two_of a b c e = and_right a b (and_left (a && b) c e)
 three_of : (a b c : Bool) → (a && b && c) ≡ true → c ≡ true
 three_of a b c e = and_right (a && b) c e
 
-module _ (l : Located) (warm : Bool) (s : Stairs l) (t : There l) where
-  -- one that is not there names T=0
-  named_there : ltb 1 (named l.first.td) ≡ true → is_there l.first.td ≡ true
-  named_there e =
-      let h = ltb-true 1 (named l.first.td) e in
-      ap not (ne_eqb l.first.td absent (λ q. let none = ap named q in omega arith))
+-- one that is not there names T=0
+named_there : (td : Option ℕ) → ltb 1 (named td) ≡ true → is_there td ≡ true
+named_there None e = e
+named_there (Some x) e = refl
 
+module _ (l : Located) (warm : Bool) (s : Stairs l) (t : There l) where
   -- up to the capture's end
   pub front_inside : UpTo l.size (front l warm)
   unfolding first_lines second_lines third_lines
@@ -255,18 +255,18 @@ module _ (l : Located) (warm : Bool) (s : Stairs l) (t : There l) where
       (up_to l.size _ _ (λ e. let h = t.ta1 (one_of (is_there l.first.ta) _ _ e) in omega arith)
       (up_to l.size _ _
       (λ e. let h = leb-true l.first.c l.size (three_of (not warm) (is_absent l.first.tb) _ e) in omega arith)
-      (up_to l.size _ _ (λ e. let h = t.tb1 (two_of (not warm) (is_there l.first.tb) (not (eqb l.first.tb 0)) e) in omega arith)
-      (up_to l.size _ _ (λ e. let h = t.td1 (named_there e) in omega arith)
-      (up_to l.size _ _ (λ e. let h = t.ta2 (and_left (is_there l.second.ta) (eqb (bit5 l.second.ta) 1) e) in omega arith)
+      (up_to l.size _ _ (λ e. let h = t.tb1 (and_left (is_there l.first.tb) _ (and_right (not warm) (is_other l.first.tb 0) e)) in omega arith)
+      (up_to l.size _ _ (λ e. let h = t.td1 (named_there l.first.td e) in omega arith)
+      (up_to l.size _ _ (λ e. let h = t.ta2 (and_left (is_there l.second.ta) (eqb (bit5 (value l.second.ta)) 1) e) in omega arith)
       (up_to l.size _ _ (λ e. let h = t.tb2 e in omega arith)
-      (up_to l.size _ _ (λ e. let h = t.tc2 (and_left (is_there l.second.tc) (not (eqb l.second.tc 0x0A)) e) in omega arith)
+      (up_to l.size _ _ (λ e. let h = t.tc2 (and_left (is_there l.second.tc) (not (eqb (value l.second.tc) 0x0A)) e) in omega arith)
       (up_to l.size _ _ (λ e. let h = t.td2 (one_of (is_there l.second.td) (not (eqb (named l.second.td) 1)) _ e) in omega arith)
-      (up_to l.size _ _ (λ e. let h = t.ta3 (two_of td2 (is_there ta3) (ltb ta3 0x10 || eqb ta3 0xFF) e) in omega arith)
+      (up_to l.size _ _ (λ e. let h = t.ta3 (two_of td2 (is_there ta3) (ltb (value ta3) 0x10 || eqb (value ta3) 0xFF) e) in omega arith)
       (up_to l.size _ _
       (λ e. let h = leb-true l.third.c l.size (three_of (td2 || td1) (is_absent l.third.tb) _ e) in omega arith)
-      (up_to l.size _ _ (λ e. let h = t.tb3 (two_of td2 tb3 (ltb 4 (l.third.tb / 16)) e) in omega arith)
-      (up_to l.size _ _ (λ e. let h = t.tb3 (two_of td2 tb3 (ltb 5 (l.third.tb % 16)) e) in omega arith)
+      (up_to l.size _ _ (λ e. let h = t.tb3 (two_of td2 tb3 (ltb 4 (value l.third.tb / 16)) e) in omega arith)
+      (up_to l.size _ _ (λ e. let h = t.tb3 (two_of td2 tb3 (ltb 5 (value l.third.tb % 16)) e) in omega arith)
       (up_to l.size _ _
-      (λ e. let h = t.tb3 (two_of td2 tb3 (ltb (2 ^ (l.third.tb % 16)) (guard_and_one l.first.tc)) e) in omega arith)
-      (up_to l.size _ [] (λ e. let h = t.tc3 (two_of td2 (is_there l.third.tc) (not (eqb l.third.tc 0)) e) in omega arith)
+      (λ e. let h = t.tb3 (two_of td2 tb3 (ltb (2 ^ (value l.third.tb % 16)) (guard_and_one (value l.first.tc))) e) in omega arith)
+      (up_to l.size _ [] (λ e. let h = t.tc3 (and_left (is_there l.third.tc) _ (and_right td2 (is_other l.third.tc 0) e)) in omega arith)
       none))))))))))))))

@@ -1,15 +1,15 @@
 -- Whether a reading accepts, and whether some rule is broken.
 -- Assumes nothing.
-use Rattle.std.specs.Prelude.{Bool, true, false, List, map, ℕ}
+use Rattle.std.specs.Prelude.{Bool, true, false, List, map, Result, Ok, Err, ℕ}
 use Rattle.slices.specs.Tables.{any_of}
 use Rattle.atr_rules.specs.Lines.{Line}
 use Rattle.atr.specs.Reading.{rules_of}
-use Rattle.atr.specs.declared.Reading.{Reading}
-use Rattle.atr.specs.declared.Reading.TheVariants.{Accepted, Refused}
+use Rattle.atr.specs.declared.Told.{Told}
+use Rattle.atr.specs.declared.Broken.{Broken}
 
-unfoldable pub is_accepted : Reading → Bool
-is_accepted (Accepted told) = true
-is_accepted (Refused broken) = false
+unfoldable pub is_accepted : Result Told Broken → Bool
+is_accepted (Ok told) = true
+is_accepted (Err broken) = false
 
 -- each rule's test, in order
 unfoldable pub broken_of : List Line → List Bool

@@ -2,6 +2,7 @@
 -- that of the first with that of the second above it.
 -- Assumes nothing.
 use mathlib.Core.Path.{◌≡◌, sym, ap, ◌∙◌}
+use mathlib.Core.Bool.{Bool, true, false, not}
 use mathlib.Core.List.{List, [], ◌∷◌, ◌++◌}
 use Prim.Native.Nat.{ℕ, ◌+◌, ◌*◌, ◌^◌}
 use native.Mathlib.Nat.{mul_assoc, mul_comm, pow-suc}
@@ -9,6 +10,11 @@ use native.Mathlib.Omega.{arith}
 use lib.ListN.{length}
 use Rattle.atr_characters.specs.Data.{one_if}
 use Rattle.atr_rules.specs.Lines.{Line, set_of}
+
+-- the answer of `is_none`, by what it promises
+pub none_is : {there : Bool} (none : Bool) → there ≡ not none → none ≡ not there
+none_is true e = sym (ap not e)
+none_is false e = sym (ap not e)
 
 module _ {a b c d w x y z : ℕ} (ea : a ≡ w) (eb : b ≡ x) (ec : c ≡ y) (ed : d ≡ z) where
   pub four : a + 2 * b + 4 * c + 8 * d ≡ w + 2 * (x + 2 * (y + 2 * (z + 2 * 0)))

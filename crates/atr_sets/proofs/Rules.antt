@@ -3,7 +3,8 @@
 -- Assumes nothing.
 use mathlib.Core.Path.{◌≡◌, refl}
 use mathlib.Core.Bool.{Bool, true, false}
-use Prim.Native.Nat.{◌≤◌}
+use mathlib.Core.List.{[], ◌∷◌}
+use Prim.Native.Nat.{ℕ, ◌≤◌}
 use native.Mathlib.Omega.{arith}
 use lib.ListN.{length}
 use Rattle.slices.specs.Choice.{pick}
@@ -33,3 +34,12 @@ pub place_found : (ts : Bool) (l : Located) (warm : Bool)
 unfolding place_of lines_of first_lines second_lines third_lines last_lines pick beside first_broken
 place_found true l warm = refl
 place_found false l warm = place_beside 1 (lines_of false l warm) (omega arith) (numbered false l warm)
+
+-- the places by number, as a table
+pub place_table : (l : Located) (k : ℕ) → place_of l k ≡ beside 0 k (
+    (1, 0) ∷ (2, l.first.a) ∷ (3, l.first.b) ∷ (4, l.first.b) ∷ (5, l.first.d) ∷ (6, l.second.a) ∷
+    (7, l.second.b) ∷ (8, l.second.c) ∷ (9, l.second.d) ∷ (10, l.third.a) ∷ (11, l.third.b) ∷ (12, l.third.b) ∷
+    (13, l.third.b) ∷ (14, l.third.b) ∷ (15, l.third.c) ∷ (16, 33) ∷ (17, l.size) ∷ (18, l.end) ∷
+    (19, l.end) ∷ (20, 33) ∷ (21, l.after) ∷ (22, 33) ∷ [])
+unfolding place_of lines_of first_lines second_lines third_lines last_lines pick
+place_table l k = refl

@@ -1,4 +1,5 @@
-// Sets of rules, a bit for each number and the lowest for 1: the first, whether one is in it, and where its character stands.
+// Sets of rules, a bit for each number and the lowest for 1: the first, whether one is in it, and where its character stands. Rules are
+// numbers and their sets bits, and no enum, since the C interface's `lab_atr` hands them out so.
 #![tactic(auto)]
 
 ghost use Rattle.std.specs.Prelude.{◌≡◌};
@@ -12,35 +13,30 @@ use atr_rules::LONG_PLACE;
 pub const RULES: usize = 22;
 
 // The first rule of a set; 0 where none is in it.
+#[tactic(auto, using(crate::proofs::Firsts::lowest_on), unfolding(crate::specs::Sets::lowest, slices::specs::Choice::pick))]
 pub fn first_rule(rules: usize) -> usize
     ensures { result ≡ lowest numbers 1 rules }
 {
     let mut left = rules;
-    let mut k = 1;
-    while k <= RULES {
+    for k in 1..=RULES {
         if left % 2 == 1 {
             return k;
         }
-        left = left / 2;
-        k += 1;
+        left /= 2;
     }
     0
 }
 
 // Whether a rule is in a set.
+#[tactic(auto, unfolding(crate::specs::Sets::has_rule, slices::specs::Choice::pick))]
 pub fn has_rule(rules: usize, rule: usize) -> bool
     ensures { result ≡ has_rule rules rule }
 {
-    if rule < 1 {
-        return false;
-    }
-    if RULES < rule {
-        return false;
-    }
-    (rules >> (rule - 1)) % 2 == 1
+    1 <= rule && rule <= RULES && (rules >> (rule - 1)) % 2 == 1
 }
 
 // The place of a rule's character, broken or not; 0 for a number that is none.
+#[tactic(auto, using(crate::proofs::Rules::place_table), unfolding(slices::specs::Choice::pick, slices::specs::Tables::beside))]
 pub fn place_of(l: Located, rule: usize) -> usize
     ensures { result ≡ place_of l rule }
 {

@@ -12,8 +12,7 @@ use table::DATA;
 pub fn turned(b: u8) -> u8
     ensures { result ≡ turned_of b }
 {
-    let table = DATA;
-    entry(&table, b)
+    entry(&DATA, b)
 }
 
 // The table's rule is asked here for all of it, and answered once, where the stored table is handed in.

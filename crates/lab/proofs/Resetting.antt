@@ -3,25 +3,25 @@
 use mathlib.Core.Path.{◌≡◌, refl, sym, ap, ◌∙◌}
 use mathlib.Core.Bool.{true, false}
 use mathlib.Core.List.{List, ◌∷◌, ◌++◌}
+use Rattle.std.proofs.Common.{Ok, Err}
 use Prim.Native.Nat.{ℕ}
 use lib.ListN.{get_or}
 use Rattle.atr.specs.declared.Reset.{Reset}
 use Rattle.atr.specs.declared.Broken.{Broken}
 use Rattle.atr.specs.declared.Protocol.{Protocol}
 use Rattle.atr.specs.declared.Protocol.TheVariants.{T0, T1}
-use Rattle.atr.specs.declared.Reading.TheVariants.{Accepted, Refused}
 use Rattle.atr.specs.declared.Told.{Told}
 use Rattle.lab.specs.Resets.{bit, laid_protocol, laid_told, laid_broken, laid_reading, accepts, is_accepted, laid_reset}
 
 module _ (a r : Reset) (same : a ≡ r) (n : ℕ) (b : n ≡ bit a.inverse) (xs : List ℕ) where
-  pub accepted : (t : Told) → a.reading ≡ Accepted t → xs ≡ laid_told n t → (true ≡ is_accepted r) × (xs ≡ laid_reset r)
+  pub accepted : (t : Told) → a.reading ≡ Ok t → xs ≡ laid_told n t → (true ≡ is_accepted r) × (xs ≡ laid_reset r)
   unfolding accepts laid_reading
   accepted t told laid = (
     sym (ap accepts told) ∙ ap is_accepted same,
     laid ∙ (ap (λ (m : ℕ). laid_told m t) b ∙ (sym (ap (laid_reading (bit a.inverse)) told) ∙ ap laid_reset same)),
   )
 
-  pub refused : (k : Broken) → a.reading ≡ Refused k → xs ≡ laid_broken n k → (false ≡ is_accepted r) × (xs ≡ laid_reset r)
+  pub refused : (k : Broken) → a.reading ≡ Err k → xs ≡ laid_broken n k → (false ≡ is_accepted r) × (xs ≡ laid_reset r)
   unfolding accepts laid_reading
   refused k told laid = (
     sym (ap accepts told) ∙ ap is_accepted same,

@@ -1,12 +1,10 @@
 -- What an answer to reset tells, as numbers (02, R-1): twelve where it is accepted; else four, and zeros behind them.
 -- Assumes nothing.
-use Rattle.std.specs.Prelude.{Bool, true, false, List, [], ◌∷◌, ◌++◌, ℕ}
+use Rattle.std.specs.Prelude.{Bool, true, false, List, [], ◌∷◌, ◌++◌, Result, Ok, Err, ℕ}
 use Rattle.atr.specs.declared.Reset.{Reset}
 use Rattle.atr.specs.declared.Broken.{Broken}
 use Rattle.atr.specs.declared.Protocol.{Protocol}
 use Rattle.atr.specs.declared.Protocol.TheVariants.{T0, T1}
-use Rattle.atr.specs.declared.Reading.{Reading}
-use Rattle.atr.specs.declared.Reading.TheVariants.{Accepted, Refused}
 use Rattle.atr.specs.declared.Told.{Told}
 
 unfoldable pub bit : Bool → ℕ
@@ -26,13 +24,13 @@ laid_told inverse t =
 unfoldable pub laid_broken : ℕ → Broken → List ℕ
 laid_broken inverse b = inverse ∷ b.rules ∷ b.first ∷ b.place ∷ 0 ∷ 0 ∷ 0 ∷ 0 ∷ 0 ∷ 0 ∷ 0 ∷ 0 ∷ []
 
-unfoldable pub laid_reading : ℕ → Reading → List ℕ
-laid_reading inverse (Accepted t) = laid_told inverse t
-laid_reading inverse (Refused b) = laid_broken inverse b
+unfoldable pub laid_reading : ℕ → Result Told Broken → List ℕ
+laid_reading inverse (Ok t) = laid_told inverse t
+laid_reading inverse (Err b) = laid_broken inverse b
 
-unfoldable pub accepts : Reading → Bool
-accepts (Accepted t) = true
-accepts (Refused b) = false
+unfoldable pub accepts : Result Told Broken → Bool
+accepts (Ok t) = true
+accepts (Err b) = false
 
 abbrev pub is_accepted : Reset → Bool
 is_accepted a = accepts a.reading

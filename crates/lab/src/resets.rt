@@ -3,7 +3,7 @@ ghost use Rattle.std.specs.Prelude.{◌≡◌};
 ghost use Rattle.atr.specs.Reading.{read_reset};
 ghost use Rattle.lab.specs.Resets.{is_accepted, laid_reset, laid_told, laid_broken, laid_protocol, bit};
 
-use atr::{Broken, Protocol, Reading, Told, read_reset};
+use atr::{Broken, Protocol, Told, read_reset};
 
 // An answer to reset, after a cold or a warm one. True: inverse, F, D, N, interval, specific, the protocol, its parameters (WI; or IFSC, BWI
 // and CWI) with zeros behind them, and where the historical bytes start and end. False: inverse, the rules broken, the first, its place.
@@ -13,26 +13,27 @@ pub fn lab_atr(capture: &[u8], warm: bool, told: &mut [u64; 12]) -> bool
 {
     let answer = read_reset(capture, warm);
     let inverse = number_of(answer.inverse);
-    let reading = answer.reading;
-    match reading {
-        Reading::Accepted(t) => {
+    match answer.reading {
+        Ok(t) => {
             *told = told_numbers(inverse, t);
             true
         }
-        Reading::Refused(broken) => {
+        Err(broken) => {
             *told = broken_numbers(inverse, broken);
             false
         }
     }
 }
 
+#[tactic(auto, unfolding(crate::specs::Resets::bit))]
 fn number_of(b: bool) -> u64
     ensures { result ≡ bit b }
 {
-    if b { 1 } else { 0 }
+    u64::from(b)
 }
 
 // The protocol and its parameters.
+#[tactic(auto, unfolding(crate::specs::Resets::laid_protocol))]
 fn protocol_numbers(protocol: Protocol) -> [u64; 4]
     ensures { result ≡ laid_protocol protocol }
 {
@@ -45,8 +46,7 @@ fn protocol_numbers(protocol: Protocol) -> [u64; 4]
 fn told_numbers(inverse: u64, t: Told) -> [u64; 12]
     ensures { result ≡ laid_told inverse t }
 {
-    let protocol = t.protocol;
-    let p = protocol_numbers(protocol);
+    let p = protocol_numbers(t.protocol);
     [
         inverse,
         t.f as u64,
@@ -63,6 +63,7 @@ fn told_numbers(inverse: u64, t: Told) -> [u64; 12]
     ]
 }
 
+#[tactic(auto, unfolding(crate::specs::Resets::laid_broken))]
 fn broken_numbers(inverse: u64, b: Broken) -> [u64; 12]
     ensures { result ≡ laid_broken inverse b }
 {

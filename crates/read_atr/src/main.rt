@@ -15,7 +15,7 @@ mod names;
 mod report;
 
 use report::report;
-use slices::{alike, part};
+use slices::part;
 use std::io;
 use text_hex::unhex;
 use text_input::{Line, read_line};
@@ -29,40 +29,33 @@ fn main(rt: HostRuntime) -> io::Result<()> {
     read_all(&rt, &mut line)
 }
 
-// Lines are counted down from more than there can be, since nothing says that the input ends.
+// More lines than there can be, since nothing says that the input ends.
+const MOST: usize = 0x7FFF_FFFF_FFFF_FFFF;
+
 fn read_all(rt: &(impl Input + Print), line: &mut [u8]) -> io::Result<()> {
-    let mut left: usize = 0x7FFF_FFFF_FFFF_FFFF;
-    while 0 < left {
+    for _ in 0..MOST {
         match read_line(rt, line) {
             Line::Whole(n) => answer(rt, part(line, 0, n))?,
-            Line::Long => too_long(rt)?,
+            Line::Long => print!(rt; "ERROR line too long\n")?,
             Line::End => return Ok(()),
         }
-        left -= 1;
     }
     Ok(())
 }
 
-fn too_long(rt: &impl Print) -> io::Result<()> {
-    text_print::text(rt, b"ERROR line too long\n")
-}
-
 fn answer(rt: &impl Print, line: &[u8]) -> io::Result<()> {
-    let word = part(line, 0, word_end(line, 0));
-    if alike(word, b"COLD") {
-        return captured(rt, after_word(line), false);
+    match part(line, 0, word_end(line, 0)) {
+        b"COLD" => captured(rt, after_word(line), false),
+        b"WARM" => captured(rt, after_word(line), true),
+        _ => print!(rt; "ERROR unknown word\n"),
     }
-    if alike(word, b"WARM") {
-        return captured(rt, after_word(line), true);
-    }
-    text_print::text(rt, b"ERROR unknown word\n")
 }
 
 fn captured(rt: &impl Print, digits: &[u8], warm: bool) -> io::Result<()> {
     let mut bytes = [0u8; 4096];
     let n = unhex(digits, &mut bytes);
     if digits.len() != 2 * n {
-        return text_print::text(rt, b"ERROR not whole bytes in hexadecimal\n");
+        return print!(rt; "ERROR not whole bytes in hexadecimal\n");
     }
-    report(rt, &bytes[0..n], warm)
+    report(rt, &bytes[..n], warm)
 }

@@ -1,6 +1,6 @@
 // The line that says what was read.
-use crate::names::print_name;
-use atr::{Protocol, Reading, Told, historical, read_reset};
+use crate::names::name;
+use atr::{Protocol, Told, historical, read_reset};
 use atr_characters::{Located, locate};
 use atr_sets::{RULES, has_rule, place_of};
 use atr_table::turned;
@@ -8,138 +8,75 @@ use std::io;
 
 pub fn report(rt: &impl Print, capture: &[u8], warm: bool) -> io::Result<()> {
     let answer = read_reset(capture, warm);
-    let reading = answer.reading;
-    match reading {
-        Reading::Accepted(told) => accepted(rt, capture, answer.inverse, told)?,
-        Reading::Refused(broken) => refused(rt, capture, answer.inverse, broken.rules)?,
+    match answer.reading {
+        Ok(told) => accepted(rt, capture, answer.inverse, told)?,
+        Err(broken) => refused(rt, locate(capture, answer.inverse), broken.rules)?,
     }
-    text_print::text(rt, b"\n")
+    print!(rt; "\n")
 }
 
 fn accepted(rt: &impl Print, capture: &[u8], inverse: bool, told: Told) -> io::Result<()> {
-    let protocol = told.protocol;
-    print_convention(rt, inverse)?;
-    print_protocol(rt, protocol)?;
-    print_common(rt, told)?;
-    print_own(rt, protocol)?;
-    print_historical(rt, historical(capture, told), inverse, told.start, told.end)
-}
-
-fn print_convention(rt: &impl Print, inverse: bool) -> io::Result<()> {
-    if inverse {
-        text_print::text(rt, b"ACCEPTED inverse ")
+    let convention = if inverse { "inverse" } else { "direct" };
+    let mode = if told.specific {
+        "specific"
     } else {
-        text_print::text(rt, b"ACCEPTED direct ")
-    }
+        "negotiable"
+    };
+    print!(rt;
+        "ACCEPTED {convention} {} {mode}",
+        protocol_name(told.protocol)
+    )?;
+    print!(rt;
+        " F={} D={} N={} interval={}",
+        told.f, told.d, told.n, told.interval
+    )?;
+    print_own(rt, told.protocol)?;
+    print!(rt; " historical={}..{}:", told.start, told.end)?;
+    bytes(rt, historical(capture, told), inverse)
 }
 
-fn print_protocol(rt: &impl Print, protocol: Protocol) -> io::Result<()> {
+fn protocol_name(protocol: Protocol) -> &'static str {
     match protocol {
-        Protocol::T0 { wi: _ } => text_print::text(rt, b"T=0 "),
-        Protocol::T1 {
-            ifsc: _,
-            bwi: _,
-            cwi: _,
-        } => text_print::text(rt, b"T=1 "),
-    }
-}
-
-fn print_common(rt: &impl Print, told: Told) -> io::Result<()> {
-    print_mode(rt, told.specific)?;
-    field(rt, b" F=", told.f)?;
-    field(rt, b" D=", told.d)?;
-    field(rt, b" N=", told.n)?;
-    field(rt, b" interval=", told.interval)
-}
-
-fn print_mode(rt: &impl Print, specific: bool) -> io::Result<()> {
-    if specific {
-        text_print::text(rt, b"specific")
-    } else {
-        text_print::text(rt, b"negotiable")
+        Protocol::T0 { .. } => "T=0",
+        Protocol::T1 { .. } => "T=1",
     }
 }
 
 // The parameters of the protocol in use.
 fn print_own(rt: &impl Print, protocol: Protocol) -> io::Result<()> {
     match protocol {
-        Protocol::T0 { wi } => field(rt, b" WI=", wi),
-        Protocol::T1 { ifsc, bwi, cwi } => {
-            field(rt, b" IFSC=", ifsc)?;
-            field(rt, b" BWI=", bwi)?;
-            field(rt, b" CWI=", cwi)
-        }
+        Protocol::T0 { wi } => print!(rt; " WI={wi}"),
+        Protocol::T1 { ifsc, bwi, cwi } => print!(rt; " IFSC={ifsc} BWI={bwi} CWI={cwi}"),
     }
-}
-
-fn field(rt: &impl Print, name: &[u8], value: usize) -> io::Result<()> {
-    text_print::text(rt, name)?;
-    text_print::number(rt, value)
-}
-
-fn print_historical(
-    rt: &impl Print,
-    s: &[u8],
-    inverse: bool,
-    start: usize,
-    end: usize,
-) -> io::Result<()> {
-    field(rt, b" historical=", start)?;
-    field(rt, b"..", end)?;
-    bytes(rt, s, inverse)
 }
 
 // Bytes as captured, and under the inverse convention as data.
 fn bytes(rt: &impl Print, s: &[u8], inverse: bool) -> io::Result<()> {
-    text_print::text(rt, b":")?;
     text_print::bytes_or_dash(rt, s)?;
     if inverse {
-        text_print::text(rt, b" data=")?;
+        print!(rt; " data=")?;
         data_or_dash(rt, s)?;
     }
     Ok(())
 }
 
 fn data_or_dash(rt: &impl Print, s: &[u8]) -> io::Result<()> {
-    if s.len() == 0 {
-        text_print::text(rt, b"-")
-    } else {
-        as_data(rt, s)
+    if s.is_empty() {
+        return print!(rt; "-");
     }
-}
-
-fn as_data(rt: &impl Print, s: &[u8]) -> io::Result<()> {
-    let mut i = 0;
-    while i < s.len() {
-        data_byte(rt, s[i])?;
-        i += 1;
+    for b in s {
+        text_print::bytes(rt, &[turned(*b)])?;
     }
     Ok(())
 }
 
-fn data_byte(rt: &impl Print, b: u8) -> io::Result<()> {
-    let one = [turned(b)];
-    text_print::bytes(rt, &one)
-}
-
-fn refused(rt: &impl Print, capture: &[u8], inverse: bool, rules: usize) -> io::Result<()> {
-    text_print::text(rt, b"REFUSED")?;
-    print_rules(rt, locate(capture, inverse), rules)
-}
-
-fn print_rules(rt: &impl Print, l: Located, rules: usize) -> io::Result<()> {
-    let mut rule = 1;
-    while rule <= RULES {
+// The rules broken, each with the place of its character.
+fn refused(rt: &impl Print, l: Located, rules: usize) -> io::Result<()> {
+    print!(rt; "REFUSED")?;
+    for rule in 1..=RULES {
         if has_rule(rules, rule) {
-            print_rule(rt, rule, place_of(l, rule))?;
+            print!(rt; " {}@{}", name(rule), place_of(l, rule))?;
         }
-        rule += 1;
     }
     Ok(())
-}
-
-fn print_rule(rt: &impl Print, rule: usize, place: usize) -> io::Result<()> {
-    text_print::text(rt, b" ")?;
-    print_name(rt, rule)?;
-    field(rt, b"@", place)
 }

@@ -2,17 +2,14 @@
 -- all of them give; and the level at hand reaches no further than it can.
 -- Assumes nothing.
 use mathlib.Core.Path.{◌≡◌}
-use Prim.Native.Nat.{◌-◌, ◌%◌, ◌≤◌}
+use Prim.Native.Nat.{◌-◌}
 use lib.ListN.{length}
 use Rattle.atr_characters.specs.Data.{data_of}
-use Rattle.atr_characters.specs.Levels.{walked, interface_of}
+use Rattle.atr_characters.specs.Levels.{value, walked, interface_of}
 use Rattle.atr_characters.proofs.Reach.{Reach}
 use Rattle.atr_characters.proofs.walk.Given as goal
 
-abbrev pub invariant-loop-i : goal.invariant-loop-i
-invariant-loop-i l =
+abbrev pub invariant-loop : goal.invariant-loop
+invariant-loop l =
     let s = data_of l.inverse l.capture in
-    (l.i ≤ length s) × Reach s (l.l.td % 256) l.l.next × (walked (length s - l.i) s l.l l.other ≡ interface_of s)
-
-abbrev pub decreases-loop-i : goal.decreases-loop-i
-decreases-loop-i l = length l.capture - l.i
+    Reach s (value l.l.td) l.l.next × (walked (length s - l.index) s l.l l.other ≡ interface_of s)

@@ -26,15 +26,6 @@ pub returns-then-ts : goal.returns-then-ts
 unfolding lines_of set_of
 returns-then-ts c = sym (ap set_of (pick_yes _ _ _ c.if-ts.true))
 
-pub overflow_mul-result : goal.overflow_mul-result
-overflow_mul-result c = omega (arith, c.second_rules.ensures.1)
-
-pub overflow_mul-result-2 : goal.overflow_mul-result-2
-overflow_mul-result-2 c = omega (arith, c.third_rules.ensures.1)
-
-pub overflow_mul-result-3 : goal.overflow_mul-result-3
-overflow_mul-result-3 c = omega (arith, c.last_rules.ensures.1)
-
 pub returns : goal.returns
 returns c =
     let a = c.args in

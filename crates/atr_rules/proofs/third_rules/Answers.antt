@@ -1,53 +1,24 @@
 -- `third_rules` meets its contract: a bit for each rule of the third level.
 -- Assumes nothing.
-use mathlib.Core.Path.{◌≡◌, ◌∙◌}
-use mathlib.Core.Bool.{◌&&◌}
-use Prim.Native.Nat.{ℕ, ◌%◌, ◌^◌}
-use lib.Dec.{eqb, ltb}
+use mathlib.Core.Path.{◌≡◌}
+use Prim.Native.Nat.{◌%◌}
 use native.Mathlib.Omega.{arith}
 use Rattle.atr_characters.specs.Data.{one_if}
-use Rattle.atr_rules.specs.Tests.{is_there, named, guard_and_one, guard_broken}
+use Rattle.atr_rules.specs.Tests.{ta3_broken, tb3_absent, bwi_broken, cwi_broken, guard_broken, tc3_broken}
 use Rattle.atr_rules.specs.Lines.{third_lines, set_of}
-use Rattle.atr_rules.proofs.Sums.{six}
+use Rattle.atr_rules.proofs.Sums.{none_is, six}
 use Rattle.atr_rules.proofs.third_rules.Goals as goal
-
--- the rule on the guard time, by the power that is computed
-guard : (tc1 td2 tb3 power : ℕ) → power ≡ 2 ^ (tb3 % 16)
-    → one_if (eqb (named td2) 1 && is_there tb3 && ltb power (guard_and_one tc1)) ≡ one_if (guard_broken tc1 td2 tb3)
-guard tc1 td2 tb3 power e = rw e
-
-pub overflow_mul-result : goal.overflow_mul-result
-overflow_mul-result c = omega (arith, c.one-2.ensures.1)
-
-pub overflow_mul-result-2 : goal.overflow_mul-result-2
-overflow_mul-result-2 c = omega (arith, c.one-3.ensures.1)
-
-pub overflow_mul-result-3 : goal.overflow_mul-result-3
-overflow_mul-result-3 c = omega (arith, c.one-4.ensures.1)
-
-pub overflow_mul-result-4 : goal.overflow_mul-result-4
-overflow_mul-result-4 c = omega (arith, c.one-5.ensures.1)
-
-pub overflow_mul-result-5 : goal.overflow_mul-result-5
-overflow_mul-result-5 c = omega (arith, c.one-6.ensures.1)
 
 pub returns : goal.returns
 unfolding set_of third_lines
 returns c =
     let l = c.args.l in
-    let computed = guard l.first.tc l.second.td l.third.tb _ c.power.ensures in
-    let b1 = c.one.ensures.1 in
-    let b2 = c.one-2.ensures.1 in
-    let b3 = c.one-3.ensures.1 in
-    let b4 = c.one-4.ensures.1 in
-    let b5 = c.one-5.ensures.1 in
-    let b6 = c.one-6.ensures.1 in (
-      six
-          c.one.ensures.0
-          c.one-2.ensures.0
-          c.one-3.ensures.0
-          c.one-4.ensures.0
-          (c.one-5.ensures.0 ∙ computed)
-          c.one-6.ensures.0,
-      omega arith,
-    )
+    let n = none_is c.is_none.result c.is_none.ensures in
+    let e1 : c.one.result ≡ one_if (ta3_broken l.second.td l.third.ta) = cc in
+    let e2 : c.one-2.result ≡ one_if (tb3_absent l.first.td l.second.td l.third.tb l.third.c l.size) = cc in
+    let e3 : c.one-3.result ≡ one_if (bwi_broken l.second.td l.third.tb) = cc in
+    let e4 : c.one-4.result ≡ one_if (cwi_broken l.second.td l.third.tb) = cc in
+    let byte : c.value.result % 256 ≡ c.value.result = omega arith in
+    let e5 : c.one-5.result ≡ one_if (guard_broken l.first.tc l.second.td l.third.tb) = cc in
+    let e6 : c.one-6.result ≡ one_if (tc3_broken l.second.td l.third.tc) = cc in
+    (six e1 e2 e3 e4 e5 e6, omega arith)

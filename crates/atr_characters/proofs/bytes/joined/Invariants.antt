@@ -2,14 +2,9 @@
 -- whole gives.
 -- Assumes nothing.
 use mathlib.Core.Path.{◌≡◌}
-use Prim.Native.Nat.{◌≤◌, ◌-◌}
-use lib.ListN.{length, drop}
+use lib.ListN.{drop}
 use Rattle.atr_characters.specs.Data.{data_of, joined_from}
 use Rattle.atr_characters.proofs.bytes.joined.Given as goal
 
-abbrev pub invariant-loop-i : goal.invariant-loop-i
-invariant-loop-i l =
-    (l.i ≤ length l.s) × (joined_from l.x (data_of l.inverse (drop l.i l.s)) ≡ joined_from 0 (data_of l.inverse l.s))
-
-abbrev pub decreases-loop-i : goal.decreases-loop-i
-decreases-loop-i l = length l.s - l.i
+abbrev pub invariant-loop-b : goal.invariant-loop-b
+invariant-loop-b l = joined_from l.x (data_of l.inverse (drop l.b-index l.s)) ≡ joined_from 0 (data_of l.inverse l.s)
