@@ -1,7 +1,7 @@
 // One book under test, and the bytes that are put together to be reopened.
-use book::{Book, Reply};
+use book::{Book, Refusal};
 use book_block::Entry;
-use book_open::{Opening, reopen};
+use book_open::reopen;
 use slices::{blank, lay, part};
 use std::io;
 use tape_read::BLOCK;
@@ -22,200 +22,129 @@ pub struct Desk {
     pub size: usize,
 }
 
-#[derive(Clone, Copy)]
-pub struct Numbers {
-    pub a: usize,
-    pub b: usize,
-    pub c: usize,
-    pub d: usize,
-}
-
 // Four numbers; those that are not there are 0.
-pub fn four(s: &[u8]) -> Numbers {
+pub fn four(s: &[u8]) -> [usize; 4] {
     let t = after_word(s);
     let u = after_word(t);
     let v = after_word(u);
-    Numbers {
-        a: hex_number(s),
-        b: hex_number(t),
-        c: hex_number(u),
-        d: hex_number(v),
-    }
+    [hex_number(s), hex_number(t), hex_number(u), hex_number(v)]
 }
 
-pub fn begin(n: Numbers, stored: &mut [u8; ROOM]) -> Desk {
-    blank(stored, 0);
-    Desk {
-        book: Book::new(),
-        room: n.a,
-        size: 0,
-    }
-}
-
-pub fn enter(rt: &impl Print, d: Desk, n: Numbers, stored: &mut [u8; ROOM]) -> io::Result<Desk> {
-    let after = entered(d, n, stored);
-    let reply = after.reply;
-    let book = after.book;
-    say(rt, reply)?;
-    counts(rt, book)?;
-    Ok(after.desk)
-}
-
-#[derive(Clone, Copy)]
-struct After {
-    desk: Desk,
-    book: Book,
-    reply: Reply,
-}
-
-// One entry, where the room is there.
-fn entered(d: Desk, n: Numbers, stored: &mut [u8]) -> After {
-    let book = d.book;
-    let room = d.room;
-    let size = d.size;
-    if stored.len() < room {
-        return After {
-            desk: d,
-            book,
-            reply: Reply::Full,
-        };
-    }
-    let e = Entry {
-        tape: (n.a % LONG) as u32,
-        verdict: (n.b % 256) as u8,
-        place: (n.c % LONG) as u32,
-        code: (n.d % LONG) as u32,
-    };
-    let step = book.enter(e, &mut stored[..room]);
-    let next = step.book;
-    let reply = step.reply;
-    After {
-        desk: Desk {
-            book: next,
+impl Desk {
+    // An empty book, lent so many bytes.
+    pub fn new(room: usize) -> Self {
+        Self {
+            book: Book::new(),
             room,
-            size,
-        },
-        book: next,
-        reply,
+            size: 0,
+        }
     }
-}
 
-pub fn run(rt: &impl Print, d: Desk, n: Numbers, stored: &mut [u8; ROOM]) -> io::Result<Desk> {
-    let mut desk = d;
-    let mut reply = Reply::Entered;
-    let mut i = 0;
-    while i < n.c {
-        let one = Numbers {
-            a: n.a % LONG + i % LONG,
-            b: n.b,
-            c: i % 1000,
-            d: 0,
+    pub fn begin(&mut self, room: usize, stored: &mut [u8]) {
+        blank(stored, 0);
+        *self = Self::new(room);
+    }
+
+    pub fn enter(
+        &mut self,
+        rt: &impl Print,
+        numbers: [usize; 4],
+        stored: &mut [u8],
+    ) -> io::Result<()> {
+        let reply = self.entered(numbers, stored);
+        self.say(rt, reply)
+    }
+
+    // One entry, where the room is there.
+    fn entered(&mut self, numbers: [usize; 4], stored: &mut [u8]) -> Result<(), Refusal> {
+        if stored.len() < self.room {
+            return Err(Refusal::Full);
+        }
+        let [tape, verdict, place, code] = numbers;
+        let e = Entry {
+            tape: (tape % LONG) as u32,
+            verdict: (verdict % 256) as u8,
+            place: (place % LONG) as u32,
+            code: (code % LONG) as u32,
         };
-        let after = entered(desk, one, stored);
-        let next = after.desk;
-        let told = after.reply;
-        desk = next;
-        reply = told;
-        i += 1;
+        self.book.enter(e, &mut stored[..self.room])
     }
-    let book = desk.book;
-    say(rt, reply)?;
-    counts(rt, book)?;
-    Ok(desk)
-}
 
-pub fn tell(rt: &impl Print, d: Desk, stored: &[u8; ROOM]) -> io::Result<Desk> {
-    let book = d.book;
-    let size = book.used as usize * BLOCK;
-    text_print::number(rt, book.used as usize)?;
-    text_print::text(rt, b" ")?;
-    text_print::number(rt, tape_crc::whole(part(stored, 0, size)) as usize)?;
-    text_print::text(rt, b" ")?;
-    let rest = part(part(stored, 0, d.room), size, stored.len());
-    text_print::number(rt, tape_crc::whole(rest) as usize)?;
-    text_print::text(rt, b"\n")?;
-    Ok(d)
-}
-
-fn sized(d: Desk, size: usize) -> Desk {
-    let book = d.book;
-    Desk {
-        book,
-        room: d.room,
-        size,
-    }
-}
-
-// Bytes after those put together so far, where they have room.
-fn add(d: Desk, more: &[u8], bytes: &mut [u8; ROOM]) -> Desk {
-    let size = d.size;
-    if bytes.len() < size {
-        return d;
-    }
-    if bytes.len() - size < more.len() {
-        return d;
-    }
-    lay(bytes, size, more);
-    sized(d, size + more.len())
-}
-
-pub fn add_part(d: Desk, n: Numbers, stored: &[u8; ROOM], bytes: &mut [u8; ROOM]) -> Desk {
-    if n.b < n.a {
-        return d;
-    }
-    add(d, part(stored, n.a, n.b - n.a), bytes)
-}
-
-pub fn add_zeros(d: Desk, n: Numbers, bytes: &mut [u8; ROOM]) -> Desk {
-    let zeros = [0u8; BLOCK];
-    add(d, part(&zeros, 0, n.a), bytes)
-}
-
-pub fn add_hex(d: Desk, digits: &[u8], bytes: &mut [u8; ROOM]) -> Desk {
-    let mut more = [0u8; BLOCK];
-    let n = unhex(digits, &mut more);
-    add(d, &more[0..n], bytes)
-}
-
-pub fn open(rt: &impl Print, d: Desk, bytes: &[u8; ROOM]) -> io::Result<Desk> {
-    let opened = reopen(part(bytes, 0, d.size));
-    match opened {
-        Opening::Opened(book) => {
-            text_print::text(rt, b"open ")?;
-            text_print::number(rt, book.used as usize)?;
-            counts(rt, book)?;
+    // Many entries with one verdict, the tapes numbered on.
+    pub fn run(
+        &mut self,
+        rt: &impl Print,
+        numbers: [usize; 4],
+        stored: &mut [u8],
+    ) -> io::Result<()> {
+        let [first, verdict, count, _] = numbers;
+        let mut reply = Ok(());
+        for i in 0..count {
+            reply = self.entered([first % LONG + i % LONG, verdict, i % 1000, 0], stored);
         }
-        Opening::Refused(place, fault) => {
-            text_print::text(rt, b"refused ")?;
-            text_print::number(rt, place)?;
-            text_print::text(rt, b" ")?;
-            text_print::number(rt, fault as usize)?;
-            text_print::text(rt, b"\n")?;
+        self.say(rt, reply)
+    }
+
+    pub fn tell(&self, rt: &impl Print, stored: &[u8]) -> io::Result<()> {
+        let used = self.book.used;
+        let size = used as usize * BLOCK;
+        let held = tape_crc::whole(part(stored, 0, size));
+        let rest = tape_crc::whole(part(part(stored, 0, self.room), size, stored.len()));
+        println!(rt; "{used} {held} {rest}")
+    }
+
+    // Bytes after those put together so far, where they have room.
+    fn add(&mut self, more: &[u8], bytes: &mut [u8]) {
+        if self.size <= bytes.len() && more.len() <= bytes.len() - self.size {
+            lay(bytes, self.size, more);
+            self.size += more.len();
         }
     }
-    Ok(sized(d, 0))
-}
 
-fn say(rt: &impl Print, reply: Reply) -> io::Result<()> {
-    match reply {
-        Reply::Entered => text_print::text(rt, b"entered"),
-        Reply::NoVerdict => text_print::text(rt, b"no verdict"),
-        Reply::AlreadyEntered => text_print::text(rt, b"already entered"),
-        Reply::Full => text_print::text(rt, b"full"),
+    // The stored bytes from one place to another.
+    pub fn add_part(&mut self, numbers: [usize; 4], stored: &[u8], bytes: &mut [u8]) {
+        let [from, to, _, _] = numbers;
+        if from <= to {
+            self.add(part(stored, from, to - from), bytes);
+        }
+    }
+
+    pub fn add_zeros(&mut self, count: usize, bytes: &mut [u8]) {
+        self.add(part(&[0; BLOCK], 0, count), bytes);
+    }
+
+    pub fn add_hex(&mut self, digits: &[u8], bytes: &mut [u8]) {
+        let mut more = [0u8; BLOCK];
+        let n = unhex(digits, &mut more);
+        self.add(&more[..n], bytes);
+    }
+
+    pub fn open(&mut self, rt: &impl Print, bytes: &[u8]) -> io::Result<()> {
+        match reopen(part(bytes, 0, self.size)) {
+            Ok(book) => {
+                print!(rt; "open {}", book.used)?;
+                counts(rt, book)?;
+            }
+            Err(refused) => println!(rt; "refused {} {}", refused.place, refused.fault.number())?,
+        }
+        self.size = 0;
+        Ok(())
+    }
+
+    // The last reply, and what the book then counts.
+    fn say(&self, rt: &impl Print, reply: Result<(), Refusal>) -> io::Result<()> {
+        match reply {
+            Ok(()) => print!(rt; "entered")?,
+            Err(refusal) => print!(rt; "{refusal}")?,
+        }
+        counts(rt, self.book)
     }
 }
 
 fn counts(rt: &impl Print, book: Book) -> io::Result<()> {
-    count(rt, book.pass)?;
-    count(rt, book.fail)?;
-    count(rt, book.inconclusive)?;
-    count(rt, book.unreadable)?;
-    text_print::text(rt, b" ")?;
-    text_print::number(rt, book.total())?;
-    text_print::text(rt, b"\n")
-}
-
-fn count(rt: &impl Print, n: u32) -> io::Result<()> {
-    text_print::text(rt, b" ")?;
-    text_print::number(rt, n as usize)
+    print!(rt;
+        " {} {} {} {}",
+        book.pass, book.fail, book.inconclusive, book.unreadable
+    )?;
+    println!(rt; " {}", book.total())
 }

@@ -15,9 +15,8 @@
 
 mod desk;
 
-use book::Book;
-use desk::{Desk, ROOM};
-use slices::{alike, part};
+use desk::{Desk, ROOM, four};
+use slices::part;
 use std::io;
 use text_input::{Line, read_line};
 use text_lines::{after_word, word_end};
@@ -32,73 +31,43 @@ fn main(rt: HostRuntime) -> io::Result<()> {
     run(&rt, &mut line, &mut stored, &mut bytes)
 }
 
-// Lines are counted down from more than there can be, since nothing says that the input ends.
+// The buffers are lent as arrays here, so that no proof looks at their zeros. The lines are counted up to more than there can be, since
+// nothing says that the input ends.
 fn run(
     rt: &(impl Input + Print),
-    line: &mut [u8],
+    line: &mut [u8; LONGEST],
     stored: &mut [u8; ROOM],
     bytes: &mut [u8; ROOM],
 ) -> io::Result<()> {
-    let mut desk = Desk {
-        book: Book::new(),
-        room: 0,
-        size: 0,
-    };
-    let mut left: usize = 0x7FFF_FFFF_FFFF_FFFF;
-    while 0 < left {
+    let mut desk = Desk::new(0);
+    for _ in 0..u64::MAX {
         match read_line(rt, line) {
-            Line::Whole(n) => desk = said(rt, desk, part(line, 0, n), stored, bytes)?,
-            Line::Long => text_print::text(rt, b"ERROR line too long\n")?,
+            Line::Whole(n) => said(rt, &mut desk, part(line, 0, n), stored, bytes)?,
+            Line::Long => println!(rt; "ERROR line too long")?,
             Line::End => return Ok(()),
         }
-        left -= 1;
     }
     Ok(())
 }
 
 fn said(
     rt: &impl Print,
-    d: Desk,
+    desk: &mut Desk,
     line: &[u8],
-    stored: &mut [u8; ROOM],
-    bytes: &mut [u8; ROOM],
-) -> io::Result<Desk> {
-    let word = part(line, 0, word_end(line, 0));
+    stored: &mut [u8],
+    bytes: &mut [u8],
+) -> io::Result<()> {
     let rest = after_word(line);
-    if alike(word, b"ENTER") {
-        return desk::enter(rt, d, desk::four(rest), stored);
+    match part(line, 0, word_end(line, 0)) {
+        b"BOOK" => desk.begin(four(rest)[0], stored),
+        b"ENTER" => desk.enter(rt, four(rest), stored)?,
+        b"RUN" => desk.run(rt, four(rest), stored)?,
+        b"STORED" => desk.tell(rt, stored)?,
+        b"PART" => desk.add_part(four(rest), stored, bytes),
+        b"ZEROS" => desk.add_zeros(four(rest)[0], bytes),
+        b"HEX" => desk.add_hex(rest, bytes),
+        b"OPEN" => desk.open(rt, bytes)?,
+        _ => println!(rt; "ERROR unknown word")?,
     }
-    if alike(word, b"PART") {
-        return Ok(desk::add_part(d, desk::four(rest), stored, bytes));
-    }
-    if alike(word, b"ZEROS") {
-        return Ok(desk::add_zeros(d, desk::four(rest), bytes));
-    }
-    if alike(word, b"HEX") {
-        return Ok(desk::add_hex(d, rest, bytes));
-    }
-    if alike(word, b"OPEN") {
-        return desk::open(rt, d, bytes);
-    }
-    begun(rt, d, word, rest, stored)
-}
-
-fn begun(
-    rt: &impl Print,
-    d: Desk,
-    word: &[u8],
-    rest: &[u8],
-    stored: &mut [u8; ROOM],
-) -> io::Result<Desk> {
-    if alike(word, b"BOOK") {
-        return Ok(desk::begin(desk::four(rest), stored));
-    }
-    if alike(word, b"RUN") {
-        return desk::run(rt, d, desk::four(rest), stored);
-    }
-    if alike(word, b"STORED") {
-        return desk::tell(rt, d, stored);
-    }
-    text_print::text(rt, b"ERROR unknown word\n")?;
-    Ok(d)
+    Ok(())
 }

@@ -1,12 +1,13 @@
 // The campaign book: what the judge said of each tape, entered one block after the other, and counted.
 #![tactic(auto)]
 
-ghost use Rattle.std.specs.Prelude.{◌≡◌, min};
+ghost use Rattle.std.specs.Prelude.{◌≡◌};
 ghost use Rattle.book.specs.Counting.{empty, counted, raised, one_more, total_of};
-ghost use Rattle.book.specs.Entering.{entered, stored, reply_of, step_of, bytes_after};
+ghost use Rattle.book.specs.Entering.{entered, stored, reply_of, book_after, bytes_after};
 
 use book_block::{Entry, FAIL, INCONCLUSIVE, PASS, UNREADABLE, block_of, no_verdict, tape_in};
 use slices::lay;
+use std::fmt;
 use tape_read::{BLOCK, block_at};
 
 // At most so many entries to a book.
@@ -22,20 +23,22 @@ pub struct Book {
     pub unreadable: u32,
 }
 
-// What becomes of an entry that is handed in: it is entered, or refused by one of three names.
-#[derive(Clone, Copy)]
-pub enum Reply {
-    Entered,
+// Why an entry that is handed in is refused: the first of these that applies.
+#[derive(Clone, Copy, PartialEq, Eq)]
+pub enum Refusal {
     NoVerdict,
     AlreadyEntered,
     Full,
 }
 
-// The end of the book afterwards, and the reply.
-#[derive(Clone, Copy)]
-pub struct Step {
-    pub book: Book,
-    pub reply: Reply,
+impl fmt::Display for Refusal {
+    fn fmt<W: fmt::Write>(&self, f: &mut fmt::Formatter<W>) -> fmt::Result {
+        f.write_str(match self {
+            Refusal::NoVerdict => "no verdict",
+            Refusal::AlreadyEntered => "already entered",
+            Refusal::Full => "full",
+        })
+    }
 }
 
 impl Book {
@@ -63,6 +66,7 @@ impl Book {
     }
 
     // One block more, and one tape more with this verdict.
+    #[tactic(auto, unfolding(crate::specs::Counting::counted))]
     pub fn count(self, verdict: u8) -> Self
         ensures { result ≡ counted verdict self }
     {
@@ -81,70 +85,52 @@ impl Book {
     }
 
     // One entry more: its block goes after those used, or the entry is refused and nothing changes.
-    pub fn enter(self, e: Entry, bytes: &mut [u8]) -> Step
-        ensures value { result ≡ step_of self e bytes.old }
-        ensures bytes_after { bytes.new ≡ bytes_after self e bytes.old }
+    pub fn enter(&mut self, e: Entry, bytes: &mut [u8]) -> Result<(), Refusal>
+        ensures reply { result ≡ reply_of self.old.used e bytes.old }
+        ensures book_after { self.new ≡ book_after self.old e bytes.old }
+        ensures bytes_after { bytes.new ≡ bytes_after self.old e bytes.old }
     {
         let used = self.used;
-        let reply = reply_to(used, e, bytes);
-        match reply {
-            Reply::Entered => {
-                let verdict = e.verdict;
-                lay(bytes, used as usize * BLOCK, &block_of(used, e));
-                Step {
-                    book: self.count(verdict),
-                    reply,
-                }
-            }
-            Reply::NoVerdict => Step { book: self, reply },
-            Reply::AlreadyEntered => Step { book: self, reply },
-            Reply::Full => Step { book: self, reply },
-        }
+        reply_to(used, e, bytes)?;
+        lay(bytes, used as usize * BLOCK, &block_of(used, e));
+        *self = self.count(e.verdict);
+        Ok(())
     }
 }
 
 // The refusals in their order, after so many blocks used.
-fn reply_to(used: u32, e: Entry, bytes: &[u8]) -> Reply
+#[tactic(auto, unfolding(crate::specs::Entering::reply_of, crate::specs::Entering::reply_to, slices::specs::Choice::pick))]
+fn reply_to(used: u32, e: Entry, bytes: &[u8]) -> Result<(), Refusal>
     ensures { result ≡ reply_of used e bytes.now }
 {
     if no_verdict(e.verdict) {
-        return Reply::NoVerdict;
+        return Err(Refusal::NoVerdict);
     }
     let blocks = used as usize;
     if holds(bytes, blocks, e.tape) {
-        return Reply::AlreadyEntered;
+        return Err(Refusal::AlreadyEntered);
     }
-    if ENTRIES <= used {
-        return Reply::Full;
+    if ENTRIES <= used || bytes.len() < blocks * BLOCK + BLOCK {
+        return Err(Refusal::Full);
     }
-    if bytes.len() < blocks * BLOCK + BLOCK {
-        return Reply::Full;
-    }
-    Reply::Entered
+    Ok(())
 }
 
 // Whether a tape number stands in one of the blocks used, of which those are asked that are there.
 pub fn holds(bytes: &[u8], used: usize, tape: u32) -> bool
     ensures { result ≡ entered tape (stored used bytes.now) }
 {
-    let n = least(used, bytes.len() / BLOCK);
-    let mut k = 0;
-    while k < n {
+    let n = used.min(bytes.len() / BLOCK);
+    for k in 0..n {
         if tape_in(block_at(bytes, k)) == tape {
             return true;
         }
-        k += 1;
     }
     false
 }
 
-fn least(a: usize, b: usize) -> usize
-    ensures { result ≡ min a b }
-{
-    if a < b { a } else { b }
-}
-
 // A number of blocks or tapes raised by one; none is above what a book can hold.
+#[tactic(auto, unfolding(crate::specs::Counting::one_more, slices::specs::Choice::pick))]
 fn one_more(n: u32) -> u32
     ensures { result ≡ one_more n }
 {
@@ -152,6 +138,7 @@ fn one_more(n: u32) -> u32
 }
 
 // The count of one verdict, where this one is entered.
+#[tactic(auto, unfolding(crate::specs::Counting::raised, slices::specs::Choice::pick))]
 fn raise(verdict: u8, mine: u8, count: u32) -> u32
     ensures { result ≡ raised verdict mine count }
 {

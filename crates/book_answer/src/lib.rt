@@ -11,20 +11,20 @@ use verdict::{Ruling, Verdict};
 const LONG: usize = 0x1_0000_0000;
 
 // What is entered for a tape under its number, where the judge answers so.
+#[tactic(auto, unfolding(crate::specs::Answers::entry_of))]
 pub fn entry_of(tape: u32, ruling: Ruling) -> Entry
     ensures { result ≡ entry_of tape ruling }
 {
-    let said = ruling.verdict;
-    let verdict = verdict_number(said);
     Entry {
         tape,
-        verdict,
+        verdict: verdict_number(ruling.verdict),
         place: (ruling.place % LONG) as u32,
         code: (ruling.code % LONG) as u32,
     }
 }
 
-// The number of a verdict.
+// The number of a verdict, as a block of the book has it.
+#[tactic(auto, unfolding(crate::specs::Answers::verdict_number))]
 pub fn verdict_number(verdict: Verdict) -> u8
     ensures { result ≡ verdict_number verdict }
 {

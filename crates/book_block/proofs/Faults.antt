@@ -1,37 +1,24 @@
 -- The order of a block's faults: the first test that fails decides, and there is no fault exactly where every test is passed.
 -- Assumes nothing.
-use mathlib.Core.Path.{◌≡◌, ◌∙◌}
-use mathlib.Core.Bool.{true, false}
-use mathlib.Core.List.{List}
-use Prim.Native.Nat.{ℕ}
-use Rattle.tape_read.specs.Blocks.{check_bad, number_bad}
-use Rattle.tape_read.proofs.Extra.{first_hit, first_skip, first_end, first_none}
-use Rattle.book_block.specs.Blocks.{verdict_bad, zeros_bad, tests, fault_of}
+use Rattle.std.proofs.Common.{◌≡◌, ◌==◌, not, refl, sym, Bool, true, false, Option, Some, None, List, ℕ}
+use Rattle.std.proofs.lemmas.Option.{none-some}
+use Rattle.slices.specs.Choice.{pick}
+use Rattle.tape_crc.specs.Check.{block_check_of}
+use Rattle.tape_read.specs.Blocks.{check_in, number_in, check_bad, number_bad}
+use Rattle.book_block.specs.Entries.{is_verdict}
+use Rattle.book_block.specs.Blocks.{verdict_in, verdict_bad, zeros_bad, fault_of}
+use Rattle.book_block.specs.declared.Fault.TheVariants.{BadCheck, BadNumber, BadVerdict, BadZeros}
 
-module _ (n : ℕ) (b : List ℕ) where
-  pub fault_check : check_bad b ≡ true → fault_of n b ≡ 3
-  unfolding fault_of tests
-  fault_check check = first_hit _ _ _ check
-
-  module _ (check : check_bad b ≡ false) where
-    pub fault_number : number_bad n b ≡ true → fault_of n b ≡ 4
-    unfolding fault_of tests
-    fault_number number = first_skip _ _ _ check ∙ first_hit _ _ _ number
-
-    module _ (number : number_bad n b ≡ false) where
-      pub fault_verdict : verdict_bad b ≡ true → fault_of n b ≡ 5
-      unfolding fault_of tests
-      fault_verdict verdict = first_skip _ _ _ check ∙ (first_skip _ _ _ number ∙ first_hit _ _ _ verdict)
-
-      module _ (verdict : verdict_bad b ≡ false) where
-        pub fault_zeros : zeros_bad b ≡ true → fault_of n b ≡ 6
-        unfolding fault_of tests
-        fault_zeros zeros = first_skip _ _ _ check ∙ (first_skip _ _ _ number ∙ (first_skip _ _ _ verdict ∙ first_hit _ _ _ zeros))
-
-        pub fault_none : zeros_bad b ≡ false → fault_of n b ≡ 0
-        unfolding fault_of tests
-        fault_none zeros =
-            first_skip _ _ _ check ∙ (first_skip _ _ _ number ∙ (first_skip _ _ _ verdict ∙ (first_skip _ _ _ zeros ∙ first_end)))
+-- the tests themselves, in their order
+pub tests_of : (n : ℕ) (b : List ℕ)
+    → fault_of n b
+    ≡ pick (not (check_in b == block_check_of b)) (Some BadCheck)
+    (pick (not (number_in b == n)) (Some BadNumber)
+    (pick (not (is_verdict (verdict_in b))) (Some BadVerdict)
+    (pick (zeros_bad b) (Some BadZeros)
+    None)))
+unfolding fault_of check_bad number_bad verdict_bad
+tests_of n b = refl
 
 -- every test is passed
 pub record Good (n : ℕ) (b : List ℕ) : Type 0 where
@@ -40,14 +27,21 @@ pub record Good (n : ℕ) (b : List ℕ) : Type 0 where
   pub verdict : verdict_bad b ≡ false
   pub zeros : zeros_bad b ≡ false
 
-pub good_block : (n : ℕ) (b : List ℕ) → Good n b → fault_of n b ≡ 0
-good_block n b g = fault_none n b g.check g.number g.verdict g.zeros
+pub good_block : (n : ℕ) (b : List ℕ) → Good n b → fault_of n b ≡ None
+unfolding fault_of pick
+good_block n b g = rw (g.check, g.number, g.verdict, g.zeros)
 
-pub block_good : (n : ℕ) (b : List ℕ) → fault_of n b ≡ 0 → Good n b
-unfolding fault_of tests
+-- a test before others, where none finds a fault
+passed : {A : Type 0} (t : Bool) (a : A) (r : Option A) → pick t (Some a) r ≡ None → (t ≡ false) × (r ≡ None)
+unfolding pick
+passed true a r e = absurd (none-some a (sym e))
+passed false a r e = (refl, e)
+
+pub block_good : (n : ℕ) (b : List ℕ) → fault_of n b ≡ None → Good n b
+unfolding fault_of
 block_good n b e =
-    let after3 = first_none _ 2 _ e in
-    let after4 = first_none _ 3 _ after3.1 in
-    let after5 = first_none _ 4 _ after4.1 in
-    let after6 = first_none _ 5 _ after5.1 in
-    record { check = after3.0; number = after4.0; verdict = after5.0; zeros = after6.0 }
+    let check = passed _ _ _ e in
+    let number = passed _ _ _ check.1 in
+    let verdict = passed _ _ _ number.1 in
+    let zeros = passed _ _ _ verdict.1 in
+    record { check = check.0; number = number.0; verdict = verdict.0; zeros = zeros.0 }

@@ -1,7 +1,7 @@
 -- One entry as a block of 512 bytes, what any bytes hold, and the tests that a block must pass (02, R-11; the layout is the house's).
 -- Numbers, and the check, are as on a tape (01, "The tape"). Assumes nothing.
-use Rattle.std.specs.Prelude.{Bool, not, ◌&&◌, List, [], ◌∷◌, ◌++◌, ℕ, ◌-◌, take, drop}
-use Rattle.slices.specs.Choice.{first_of}
+use Rattle.std.specs.Prelude.{Bool, Option, Some, None, not, ◌&&◌, List, ◌∷◌, ◌++◌, ℕ, ◌-◌, take, drop}
+use Rattle.slices.specs.Choice.{pick}
 use Rattle.slices.specs.Tests.{alike}
 use Rattle.slices.specs.Writing.{zeros}
 use Rattle.tape_crc.specs.Check.{covered, block_check_of}
@@ -9,6 +9,8 @@ use Rattle.tape_read.specs.Numbers.{bytes_of}
 use Rattle.tape_read.specs.Blocks.{field, check_bad, number_bad}
 use Rattle.book_block.specs.Entries.{is_verdict, made}
 use Rattle.book_block.specs.declared.Entry.{Entry}
+use Rattle.book_block.specs.declared.Fault.{Fault}
+use Rattle.book_block.specs.declared.Fault.TheVariants.{TooLong, Torn, BadCheck, BadNumber, BadVerdict, BadZeros, Twice}
 
 -- block number (0), tape number (4), verdict (8), three zeros (9), place (12), code (16)
 unfoldable pub head : ℕ → Entry → List ℕ
@@ -54,10 +56,21 @@ verdict_bad b = not (is_verdict (verdict_in b))
 unfoldable pub zeros_bad : List ℕ → Bool
 zeros_bad b = not (alike (take 3 (drop 9 b)) (zeros 3) && alike (take padding (drop padding_at b)) (zeros padding))
 
--- what a block is tested for where this block number is due, and the number of each fault; 1 and 2 are faults of the whole book
-unfoldable pub tests : ℕ → List ℕ → List (Bool × ℕ)
-tests n b = (check_bad b, 3) ∷ (number_bad n b, 4) ∷ (verdict_bad b, 5) ∷ (zeros_bad b, 6) ∷ []
+-- the first fault of a block where this block number is due, the tests in this order; none where it passes them all
+unfoldable pub fault_of : ℕ → List ℕ → Option Fault
+fault_of n b =
+    pick (check_bad b) (Some BadCheck)
+    (pick (number_bad n b) (Some BadNumber)
+    (pick (verdict_bad b) (Some BadVerdict)
+    (pick (zeros_bad b) (Some BadZeros)
+    None)))
 
--- the first fault of a block; 0: none
-unfoldable pub fault_of : ℕ → List ℕ → ℕ
-fault_of n b = first_of (tests n b)
+-- the number of each fault (house); 1, 2 and 7 are faults of the whole book
+unfoldable pub fault_number : Fault → ℕ
+fault_number TooLong = 1
+fault_number Torn = 2
+fault_number BadCheck = 3
+fault_number BadNumber = 4
+fault_number BadVerdict = 5
+fault_number BadZeros = 6
+fault_number Twice = 7

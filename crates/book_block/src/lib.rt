@@ -4,9 +4,10 @@
 ghost use Rattle.std.specs.Prelude.{◌≡◌, not};
 ghost use Rattle.tape_read.specs.Blocks.{field};
 ghost use Rattle.book_block.specs.Entries.{is_verdict};
-ghost use Rattle.book_block.specs.Blocks.{head, block, tape_in, entry_in, zeros_bad, fault_of};
+ghost use Rattle.book_block.specs.Blocks.{head, block, tape_in, entry_in, zeros_bad, fault_of, fault_number};
 
 use slices::{alike, lay, part};
+use std::fmt;
 use tape_read::{BLOCK, CHECK_AT, four_bytes, kind, number, session};
 
 // The verdicts as numbers.
@@ -18,14 +19,41 @@ pub const INCONCLUSIVE: u8 = 3;
 
 pub const UNREADABLE: u8 = 4;
 
-// Why a block is no block of a book: its check, its number, its verdict, a byte where zeros belong.
-pub const BAD_CHECK: u8 = 3;
+// Why bytes are no book, in the order of their numbers: more blocks than a book can have, a length that is not whole blocks; of a block
+// its check, its number, its verdict, a byte where zeros belong; and a tape number twice.
+#[derive(Clone, Copy, PartialEq, Eq)]
+pub enum Fault {
+    TooLong = 1,
+    Torn,
+    BadCheck,
+    BadNumber,
+    BadVerdict,
+    BadZeros,
+    Twice,
+}
 
-pub const BAD_NUMBER: u8 = 4;
+impl Fault {
+    #[tactic(auto, unfolding(crate::specs::Blocks::fault_number))]
+    pub fn number(self) -> u8
+        ensures { result ≡ fault_number self }
+    {
+        self as u8
+    }
+}
 
-pub const BAD_VERDICT: u8 = 5;
-
-pub const BAD_ZEROS: u8 = 6;
+impl fmt::Display for Fault {
+    fn fmt<W: fmt::Write>(&self, f: &mut fmt::Formatter<W>) -> fmt::Result {
+        f.write_str(match self {
+            Fault::TooLong => "too long",
+            Fault::Torn => "torn",
+            Fault::BadCheck => "check",
+            Fault::BadNumber => "number",
+            Fault::BadVerdict => "verdict",
+            Fault::BadZeros => "zeros",
+            Fault::Twice => "twice",
+        })
+    }
+}
 
 // Where the zeros stand, and how many: behind the verdict, and behind the code up to the check.
 const SPARE_AT: usize = 9;
@@ -40,19 +68,18 @@ const PADDING: usize = CHECK_AT - PADDING_AT;
 #[derive(Clone, Copy)]
 pub struct Entry {
     pub tape: u32,
+    // Any byte can stand in a block, and the C interface takes any: the book refuses what is none of the four.
     pub verdict: u8,
     pub place: u32,
     pub code: u32,
 }
 
 // Whether a number is none of the four verdicts.
+#[tactic(auto, unfolding(crate::specs::Entries::is_verdict))]
 pub fn no_verdict(v: u8) -> bool
     ensures { result ≡ not (is_verdict v) }
 {
-    if v < PASS {
-        return true;
-    }
-    UNREADABLE < v
+    !(PASS..=UNREADABLE).contains(&v)
 }
 
 // The tape number of a block, where a tape's own block has its session number; a byte past the end of a block counts as 0.
@@ -63,38 +90,36 @@ pub fn tape_in(b: &[u8]) -> u32
 }
 
 // The entry that a block holds.
+#[tactic(auto, unfolding(crate::specs::Blocks::entry_in))]
 pub fn entry_in(b: &[u8]) -> Entry
     ensures { result ≡ entry_in b.now }
 {
-    let tape = tape_in(b);
-    let verdict = kind(b);
-    let place = long_at(b, 12);
-    let code = long_at(b, 16);
     Entry {
-        tape,
-        verdict,
-        place,
-        code,
+        tape: tape_in(b),
+        verdict: kind(b),
+        place: long_at(b, 12),
+        code: long_at(b, 16),
     }
 }
 
-// Whether a block may stand where this number is due: 0, or the first fault.
-pub fn fault_of(b: &[u8], due: usize) -> u8
+// The first fault of a block where this number is due, if it has one.
+#[tactic(auto, using(crate::proofs::Faults::tests_of), unfolding(slices::specs::Choice::pick))]
+pub fn fault_of(b: &[u8], due: usize) -> Option<Fault>
     ensures { result ≡ fault_of due b.now }
 {
     if long_at(b, CHECK_AT) != tape_crc::of_block(b) {
-        return BAD_CHECK;
+        return Some(Fault::BadCheck);
     }
     if number(b) as usize != due {
-        return BAD_NUMBER;
+        return Some(Fault::BadNumber);
     }
     if no_verdict(kind(b)) {
-        return BAD_VERDICT;
+        return Some(Fault::BadVerdict);
     }
     if zeros_bad(b) {
-        return BAD_ZEROS;
+        return Some(Fault::BadZeros);
     }
-    0
+    None
 }
 
 // The block of an entry under a block number.
@@ -112,12 +137,8 @@ pub fn block_of(n: u32, e: Entry) -> [u8; BLOCK]
 fn zeros_bad(b: &[u8]) -> bool
     ensures { result ≡ zeros_bad b.now }
 {
-    if alike(part(b, SPARE_AT, SPARE), &[0u8; SPARE]) {
-        let zeros = [0u8; PADDING];
-        !alike(part(b, PADDING_AT, PADDING), &zeros)
-    } else {
-        true
-    }
+    !(alike(part(b, SPARE_AT, SPARE), &[0; SPARE])
+        && alike(part(b, PADDING_AT, PADDING), &[0; PADDING]))
 }
 
 // The bytes of a block before its zeros.

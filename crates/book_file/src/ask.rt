@@ -1,76 +1,62 @@
 // What is asked for.
-use slices::{alike, part};
+use slices::part;
 use std::rt::Env;
 use text_lines::decimal::{NO_NUMBER, decimal};
 
-pub const NOTHING: u8 = 0;
-
-pub const ADD: u8 = 1;
-
-pub const COUNTS: u8 = 2;
-
-pub const LIST: u8 = 3;
-
-pub const CHECK: u8 = 4;
-
-pub const ADD_MANY: u8 = 5;
-
-// The command, and the tape number behind it.
+// One entry for the tape with this number; many, each with its number on standard input; or what a book holds.
 #[derive(Clone, Copy)]
-pub struct Words {
-    pub what: u8,
-    pub number: usize,
+pub enum Command {
+    Add(u32),
+    AddMany,
+    Show(View),
 }
 
-pub fn asked(rt: &impl Env) -> Words {
-    let mut word = [0u8; 16];
-    let n = rt.arg(2, &mut word).unwrap_or(0);
-    let what = named(part(&word, 0, n));
-    let mut digits = [0u8; 16];
-    match rt.arg(3, &mut digits) {
-        Ok(m) => {
-            let third = part(&digits, 0, m);
-            Words {
-                what: or_many(what, third),
-                number: decimal(third),
-            }
-        }
-        Err(_) => Words {
-            what,
-            number: NO_NUMBER,
-        },
+// What is shown of a book.
+#[derive(Clone, Copy)]
+pub enum View {
+    Counts,
+    List,
+    Check,
+}
+
+// The command that the arguments name, if they name one.
+pub fn asked(rt: &impl Env) -> Option<Command> {
+    let mut bytes = [0u8; 16];
+    let n = rt.arg(2, &mut bytes).ok()?;
+    match part(&bytes, 0, n) {
+        b"add" => asked_to_add(rt),
+        word => view_named(word).map(Command::Show),
     }
 }
 
-// What is to be shown behind many entries.
-pub fn asked_behind(rt: &impl Env) -> u8 {
-    let mut word = [0u8; 16];
-    match rt.arg(4, &mut word) {
-        Ok(n) => named(part(&word, 0, n)),
-        Err(_) => NOTHING,
-    }
+// What is to be shown behind many entries, if anything is.
+pub fn asked_behind(rt: &impl Env) -> Option<View> {
+    let mut bytes = [0u8; 16];
+    let n = rt.arg(4, &mut bytes).ok()?;
+    view_named(part(&bytes, 0, n))
 }
 
 // A dash for the number: the entries, each with its number, come on standard input.
-fn or_many(what: u8, third: &[u8]) -> u8 {
-    if what != ADD {
-        return what;
+fn asked_to_add(rt: &impl Env) -> Option<Command> {
+    let mut bytes = [0u8; 16];
+    let n = rt.arg(3, &mut bytes).ok()?;
+    match part(&bytes, 0, n) {
+        b"-" => Some(Command::AddMany),
+        digits => number_of(digits).map(Command::Add),
     }
-    if alike(third, b"-") { ADD_MANY } else { ADD }
 }
 
-fn named(word: &[u8]) -> u8 {
-    if alike(word, b"add") {
-        return ADD;
+// The tape number that a text is, if it is one.
+pub fn number_of(digits: &[u8]) -> Option<u32> {
+    let n = decimal(digits);
+    if n < NO_NUMBER { Some(n as u32) } else { None }
+}
+
+fn view_named(word: &[u8]) -> Option<View> {
+    match word {
+        b"counts" => Some(View::Counts),
+        b"list" => Some(View::List),
+        b"check" => Some(View::Check),
+        _ => None,
     }
-    if alike(word, b"counts") {
-        return COUNTS;
-    }
-    if alike(word, b"list") {
-        return LIST;
-    }
-    if alike(word, b"check") {
-        return CHECK;
-    }
-    NOTHING
 }

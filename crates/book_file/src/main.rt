@@ -18,13 +18,13 @@ mod one;
 mod say;
 mod store;
 
+use ask::{Command, View};
 use book::Book;
-use book_open::{Opening, reopen};
+use book_open::reopen;
+use one::Shelf;
 use slices::part;
 use std::io;
 use std::rt::{Env, Files};
-use store::Input;
-use text_lines::decimal::NO_NUMBER;
 use text_print::fail;
 
 // One block more than a book can have is enough to know that a file is too long.
@@ -32,138 +32,97 @@ const ROOM: usize = 2_097_664;
 
 fn main(rt: HostRuntime) -> io::Result<()> {
     let mut bytes = [0u8; ROOM];
-    let words = ask::asked(&rt);
-    let what = words.what;
-    match what {
-        ask::NOTHING => {
-            say::usage(&rt);
+    run(&rt, &mut bytes)
+}
+
+// Lent as an array here, so that no proof looks at its two million zeros.
+fn run(rt: &(impl Env + Files + Input + Print + Eprint), bytes: &mut [u8; ROOM]) -> io::Result<()> {
+    match ask::asked(rt) {
+        Some(Command::Add(number)) => add(rt, number, bytes),
+        Some(Command::AddMany) => add_and_show(rt, bytes),
+        Some(Command::Show(view)) => show(rt, view, bytes),
+        None => {
+            say::usage(rt);
             Ok(())
         }
-        ask::ADD => add(&rt, words.number, &mut bytes),
-        ask::ADD_MANY => add_and_look(&rt, &mut bytes),
-        _ => look(&rt, what, &mut bytes),
     }
 }
 
 // One entry, or a refusal.
 fn add(
-    rt: &(impl Env + Files + std::io::Input + Print + Eprint),
-    number: usize,
-    bytes: &mut [u8; ROOM],
+    rt: &(impl Env + Files + Input + Print + Eprint),
+    number: u32,
+    bytes: &mut [u8],
 ) -> io::Result<()> {
-    if NO_NUMBER <= number {
-        say::usage(rt);
-        return Ok(());
-    }
     let mut line = [0u8; 128];
-    let size = store::line(rt, &mut line);
-    if line.len() <= size {
+    let Some(size) = store::line(rt, &mut line) else {
         say::no_line(rt);
         return Ok(());
+    };
+    if let Some(mut shelf) = opened(rt, bytes)? {
+        shelf.enter(rt, number, part(&line, 0, size), bytes)?;
     }
-    match store::read(rt, bytes) {
-        Input::Bytes(n) => enter(rt, number as u32, part(&line, 0, size), n, false, bytes),
-        Input::Missing(_) => enter(rt, number as u32, part(&line, 0, size), 0, true, bytes),
-        Input::Failed(e) => failed(rt, &e),
-    }
-}
-
-fn failed(rt: &impl Eprint, error: &io::Error) -> io::Result<()> {
-    fail(rt, "book", error);
-    Ok(())
-}
-
-fn enter(
-    rt: &(impl Env + Files + Print + Eprint),
-    number: u32,
-    line: &[u8],
-    size: usize,
-    new: bool,
-    bytes: &mut [u8; ROOM],
-) -> io::Result<()> {
-    let opened = reopen(part(bytes, 0, size));
-    match opened {
-        Opening::Refused(place, fault) => say::refused(rt, place, fault),
-        Opening::Opened(book) => enter_one(rt, book, number, line, new, bytes),
-    }
-}
-
-fn enter_one(
-    rt: &(impl Env + Files + Print + Eprint),
-    book: Book,
-    number: u32,
-    line: &[u8],
-    new: bool,
-    bytes: &mut [u8; ROOM],
-) -> io::Result<()> {
-    one::enter(rt, book, number, line, new, bytes)?;
     Ok(())
 }
 
 // What was entered, and then what the file holds of it.
-fn add_and_look(
-    rt: &(impl Env + Files + std::io::Input + Print + Eprint),
-    bytes: &mut [u8; ROOM],
+fn add_and_show(
+    rt: &(impl Env + Files + Input + Print + Eprint),
+    bytes: &mut [u8],
 ) -> io::Result<()> {
-    add_many(rt, bytes)?;
-    let what = ask::asked_behind(rt);
-    if ask::ADD < what {
-        look(rt, what, bytes)
-    } else {
-        Ok(())
+    if let Some(mut shelf) = opened(rt, bytes)? {
+        many::enter_all(rt, &mut shelf, bytes)?;
+    }
+    match ask::asked_behind(rt) {
+        Some(view) => show(rt, view, bytes),
+        None => Ok(()),
     }
 }
 
-// One entry after the other, in a book that is opened once.
-fn add_many(
-    rt: &(impl Env + Files + std::io::Input + Print + Eprint),
-    bytes: &mut [u8; ROOM],
-) -> io::Result<()> {
-    match store::read(rt, bytes) {
-        Input::Bytes(n) => enter_many(rt, n, false, bytes),
-        Input::Missing(_) => enter_many(rt, 0, true, bytes),
-        Input::Failed(e) => failed(rt, &e),
+// The book that is added to: empty where there is no file yet, none where the file cannot be read or is no book, which is said.
+fn opened(rt: &(impl Env + Files + Print + Eprint), bytes: &mut [u8]) -> io::Result<Option<Shelf>> {
+    match store::read_if_there(rt, bytes) {
+        Ok(found) => {
+            let book = reopened(rt, part(bytes, 0, found.unwrap_or(0)))?;
+            let new = found.is_none();
+            Ok(book.map(|book| Shelf { book, new }))
+        }
+        Err(e) => {
+            fail(rt, "book", &e);
+            Ok(None)
+        }
     }
 }
 
-fn enter_many(
-    rt: &(impl Env + Files + std::io::Input + Print + Eprint),
-    size: usize,
-    new: bool,
-    bytes: &mut [u8; ROOM],
-) -> io::Result<()> {
-    let opened = reopen(part(bytes, 0, size));
-    match opened {
-        Opening::Refused(place, fault) => say::refused(rt, place, fault),
-        Opening::Opened(book) => many::enter_all(rt, book, new, bytes),
+// The book that bytes hold; none where they are refused, which is said.
+fn reopened(rt: &impl Print, bytes: &[u8]) -> io::Result<Option<Book>> {
+    match reopen(bytes) {
+        Ok(book) => Ok(Some(book)),
+        Err(refused) => {
+            say::refused(rt, refused)?;
+            Ok(None)
+        }
     }
 }
 
 // What a book holds.
-fn look(
-    rt: &(impl Env + Files + Print + Eprint),
-    what: u8,
-    bytes: &mut [u8; ROOM],
-) -> io::Result<()> {
+fn show(rt: &(impl Env + Files + Print + Eprint), view: View, bytes: &mut [u8]) -> io::Result<()> {
     match store::read(rt, bytes) {
-        Input::Bytes(n) => show(rt, what, part(bytes, 0, n)),
-        Input::Missing(e) => failed(rt, &e),
-        Input::Failed(e) => failed(rt, &e),
+        Ok(n) => show_book(rt, view, part(bytes, 0, n)),
+        Err(e) => {
+            fail(rt, "book", &e);
+            Ok(())
+        }
     }
 }
 
-fn show(rt: &impl Print, what: u8, bytes: &[u8]) -> io::Result<()> {
-    let opened = reopen(bytes);
-    match opened {
-        Opening::Refused(place, fault) => say::refused(rt, place, fault),
-        Opening::Opened(book) => show_book(rt, what, book, bytes),
-    }
-}
-
-fn show_book(rt: &impl Print, what: u8, book: Book, bytes: &[u8]) -> io::Result<()> {
-    match what {
-        ask::COUNTS => say::counts(rt, book),
-        ask::LIST => say::list(rt, bytes, book.used as usize),
-        _ => say::good(rt, book),
+fn show_book(rt: &impl Print, view: View, bytes: &[u8]) -> io::Result<()> {
+    let Some(book) = reopened(rt, bytes)? else {
+        return Ok(());
+    };
+    match view {
+        View::Counts => say::counts(rt, book),
+        View::List => say::list(rt, bytes),
+        View::Check => say::good(rt, book),
     }
 }

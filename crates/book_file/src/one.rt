@@ -1,58 +1,56 @@
 // One entry: handed to the book, stored, said.
 use crate::{say, store};
-use book::Book;
+use book::{Book, Refusal};
 use book_block::Entry;
 use book_line::entry_said;
-use slices::byte;
 use std::io;
+use std::ops::ControlFlow;
 use std::rt::{Env, Files};
 use tape_read::block_at;
 use text_lines::line_end;
 
-// The book afterwards, and whether more can be entered: not where a block could not be stored.
-#[derive(Drop)]
-pub struct Turn {
+// A book that is added to, and whether its file is still to be made: the first block makes it.
+#[derive(Clone, Copy)]
+pub struct Shelf {
     pub book: Book,
-    pub goes_on: bool,
+    pub new: bool,
 }
 
-const SPACE: usize = 0x20;
-
-// The block is stored before it is said to be entered. A file that was missing is made for the first.
-pub fn enter(
-    rt: &(impl Env + Files + Print + Eprint),
-    book: Book,
-    number: u32,
-    line: &[u8],
-    missing: bool,
-    bytes: &mut [u8],
-) -> io::Result<Turn> {
-    let used = book.used;
-    let step = book.enter(entry_in(number, line), bytes);
-    let reply = step.reply;
-    let next = step.book;
-    if say::is_entered(reply) {
-        if !store::add(rt, missing & (used == 0), block_at(bytes, used as usize)) {
-            return Ok(Turn {
-                book: next,
-                goes_on: false,
-            });
+impl Shelf {
+    // The block is stored before it is said to be entered. Where it could not be stored no more is entered.
+    pub fn enter(
+        &mut self,
+        rt: &(impl Env + Files + Print + Eprint),
+        number: u32,
+        line: &[u8],
+        bytes: &mut [u8],
+    ) -> io::Result<ControlFlow<()>> {
+        let used = self.book.used;
+        let reply = match entry_in(number, line) {
+            Some(entry) => self.book.enter(entry, bytes),
+            None => Err(Refusal::NoVerdict),
+        };
+        match reply {
+            Ok(()) => {
+                if let Err(why) = store::add(rt, self.new, block_at(bytes, used as usize)) {
+                    say::not_stored(rt, &why);
+                    return Ok(ControlFlow::Break(()));
+                }
+                self.new = false;
+                println!(rt; "entered")?;
+            }
+            Err(refusal) => println!(rt; "{refusal}")?,
         }
+        Ok(ControlFlow::Continue(()))
     }
-    say::replied(rt, reply)?;
-    Ok(Turn {
-        book: next,
-        goes_on: true,
-    })
 }
 
-// What a line says; no verdict where a space stands at its end, which the judge never writes.
-fn entry_in(number: u32, line: &[u8]) -> Entry {
+// What a line says; nothing where a space stands at its end, which the judge never writes.
+fn entry_in(number: u32, line: &[u8]) -> Option<Entry> {
     let end = line_end(line, 0);
-    if 0 < end {
-        if byte(line, end - 1) == SPACE {
-            return entry_said(number, b"");
-        }
+    if 0 < end && line[end - 1] == b' ' {
+        None
+    } else {
+        entry_said(number, line)
     }
-    entry_said(number, line)
 }

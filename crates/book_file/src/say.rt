@@ -1,11 +1,11 @@
-// What is written to standard output, and how to use the program.
-use book::{Book, Reply};
-use book_block::entry_in;
-use slices::part;
+// What is written: to standard output what a book holds, to standard error what went wrong.
+use crate::store::NotStored;
+use book::Book;
+use book_block::{FAIL, INCONCLUSIVE, PASS, entry_in};
+use book_open::Refused;
 use std::io;
-use tape_read::block_at;
-use text_lines::line_end;
-use text_print::{number, text};
+use tape_read::BLOCK;
+use text_print::fail;
 
 pub fn usage(rt: &impl Eprint) {
     let _ = rt.eprint(
@@ -17,92 +17,46 @@ pub fn no_line(rt: &impl Eprint) {
     let _ = rt.eprint("book: standard input is not a line of the judge's\n");
 }
 
-pub fn is_entered(reply: Reply) -> bool {
-    match reply {
-        Reply::Entered => true,
-        Reply::NoVerdict => false,
-        Reply::AlreadyEntered => false,
-        Reply::Full => false,
+// A part of a block leaves no reason behind, so it is said in words.
+pub fn not_stored(rt: &impl Eprint, why: &NotStored) {
+    match why {
+        NotStored::Part => {
+            let _ = rt.eprint("book: only a part of the block could be stored\n");
+        }
+        NotStored::Failed(error) => fail(rt, "book: the block could not be stored", error),
     }
 }
 
-pub fn replied(rt: &impl Print, reply: Reply) -> io::Result<()> {
-    match reply {
-        Reply::Entered => text(rt, b"entered\n"),
-        Reply::NoVerdict => text(rt, b"no verdict\n"),
-        Reply::AlreadyEntered => text(rt, b"already entered\n"),
-        Reply::Full => text(rt, b"full\n"),
-    }
-}
-
-pub fn no_number(rt: &impl Print) -> io::Result<()> {
-    text(rt, b"no number\n")
-}
-
-// The faults stand in one text, nine bytes each: a text for each arm is dear to prove.
-pub fn refused(rt: &impl Print, place: usize, fault: u8) -> io::Result<()> {
-    let faults = b"too long\ntorn\n    check\n   number\n  verdict\n zeros\n   twice\n";
-    let name = part(faults, place_of(fault), 9);
-    text(rt, b"refused ")?;
-    number(rt, place)?;
-    text(rt, b" ")?;
-    text(rt, part(name, 0, line_end(name, 0)))?;
-    text(rt, b"\n")
-}
-
-fn place_of(fault: u8) -> usize {
-    match fault {
-        1 => 0,
-        2 => 9,
-        3 => 18,
-        4 => 27,
-        5 => 36,
-        6 => 45,
-        _ => 54,
-    }
+pub fn refused(rt: &impl Print, refused: Refused) -> io::Result<()> {
+    println!(rt; "refused {} {}", refused.place, refused.fault)
 }
 
 pub fn good(rt: &impl Print, book: Book) -> io::Result<()> {
-    text(rt, b"good ")?;
-    number(rt, book.used as usize)?;
-    text(rt, b"\n")
+    println!(rt; "good {}", book.used)
 }
 
 pub fn counts(rt: &impl Print, book: Book) -> io::Result<()> {
-    text(rt, b"PASS ")?;
-    number(rt, book.pass as usize)?;
-    text(rt, b" FAIL ")?;
-    number(rt, book.fail as usize)?;
-    text(rt, b" INCONCLUSIVE ")?;
-    number(rt, book.inconclusive as usize)?;
-    text(rt, b" UNREADABLE ")?;
-    number(rt, book.unreadable as usize)?;
-    text(rt, b" TOTAL ")?;
-    number(rt, book.total())?;
-    text(rt, b"\n")
+    print!(rt;
+        "PASS {} FAIL {} INCONCLUSIVE {} ",
+        book.pass, book.fail, book.inconclusive
+    )?;
+    println!(rt; "UNREADABLE {} TOTAL {}", book.unreadable, book.total())
 }
 
-pub fn list(rt: &impl Print, bytes: &[u8], used: usize) -> io::Result<()> {
-    let mut k = 0;
-    while k < used {
-        entry(rt, block_at(bytes, k))?;
-        k += 1;
+pub fn list(rt: &impl Print, bytes: &[u8]) -> io::Result<()> {
+    for block in bytes.chunks_exact(BLOCK) {
+        entry(rt, block)?;
     }
     Ok(())
 }
 
 fn entry(rt: &impl Print, block: &[u8]) -> io::Result<()> {
     let e = entry_in(block);
-    number(rt, e.tape as usize)?;
-    let verdict = e.verdict;
-    match verdict {
-        1 => text(rt, b" PASS ")?,
-        2 => text(rt, b" FAIL ")?,
-        3 => text(rt, b" INCONCLUSIVE ")?,
-        _ => text(rt, b" UNREADABLE ")?,
-    }
-    number(rt, e.place as usize)?;
-    text(rt, b" ")?;
-    number(rt, e.code as usize)?;
-    text(rt, b"\n")
+    let verdict = match e.verdict {
+        PASS => "PASS",
+        FAIL => "FAIL",
+        INCONCLUSIVE => "INCONCLUSIVE",
+        _ => "UNREADABLE",
+    };
+    println!(rt; "{} {verdict} {} {}", e.tape, e.place, e.code)
 }

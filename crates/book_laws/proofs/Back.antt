@@ -5,6 +5,7 @@ use mathlib.Core.List.{List, [], ◌∷◌, ◌++◌, append_assoc, append-nil}
 use Prim.Native.Nat.{ℕ, ◌*◌, ◌^◌, ◌≤◌, ◌<◌}
 use native.Mathlib.Nat.{mul-one, add-zero}
 use native.Mathlib.Omega.{arith}
+use Rattle.std.proofs.Common.{None}
 use lib.Dec.{leb}
 use lib.ListN.{take, drop}
 use lib.Pow.{are_bytes}
@@ -124,7 +125,7 @@ module _ (n : ℕ) (e : Entry) where
         (zeros_bytes padding)
 
     -- a block of an entry has no fault
-    pub block_fine : n < 2 ^ 32 → fault_of n (block n e) ≡ 0
+    pub block_fine : n < 2 ^ 32 → fault_of n (block n e) ≡ None
     unfolding check_bad number_bad verdict_bad
     block_fine h =
         good_block n (block n e)

@@ -6,6 +6,7 @@ use mathlib.Core.List.{List, [], ◌∷◌, ◌++◌}
 use Prim.Native.Nat.{ℕ, ◌+◌, ◌*◌, ◌≤◌}
 use native.Mathlib.Nat.{zero-add}
 use native.Mathlib.Omega.{arith}
+use Rattle.std.proofs.Common.{Ok, Err}
 use lib.ListN.{length, take, drop, length-append, take-append-drop}
 use lib.Seq.{take-add}
 use Rattle.slices.specs.Writing.{put}
@@ -16,10 +17,9 @@ use Rattle.book_block.specs.Blocks.{block}
 use Rattle.book_block.specs.declared.Entry.{Entry}
 use Rattle.book_block.proofs.Filling.{block_length}
 use Rattle.book.specs.Counting.{entries_most, count_of, end_of, empty, counted}
-use Rattle.book.specs.Entering.{entries_in, stored, reply_to, reply_of, end_after, bytes_by}
+use Rattle.book.specs.Entering.{Reply, entries_in, stored, reply_to, reply_of, end_after, bytes_by}
 use Rattle.book.specs.declared.Book.{Book}
-use Rattle.book.specs.declared.Reply.{Reply}
-use Rattle.book.specs.declared.Reply.TheVariants.{Entered, NoVerdict, AlreadyEntered, Full}
+use Rattle.book.specs.declared.Refusal.TheVariants.{NoVerdict, AlreadyEntered, Full}
 use Rattle.book.proofs.Counting.{counted_more}
 use Rattle.book.proofs.Refusals.{accepted}
 use Rattle.book.proofs.Searching.{stored_there}
@@ -83,7 +83,7 @@ module _ (es : List Entry) (b : Book) (t : List ℕ) (s : Stands es b t) where
   pub stands_by : (e : Entry) → fits e ≡ true → (r : Reply) → reply_to es (length es) (length t) e ≡ r
       → Stands (joined_by r es e) (end_after r e b) (bytes_by r b.used e t)
   unfolding joined_by end_after bytes_by
-  stands_by e f Entered h =
+  stands_by e f (Ok entered) h =
       let a = accepted es (length es) (length t) e h in
       let one = length-append es (e ∷ []) in
       let size = kept_length e a.fits in
@@ -94,14 +94,12 @@ module _ (es : List Entry) (b : Book) (t : List ℕ) (s : Stands es b t) where
         room = omega arith;
         holds = holds_more [] es e s.holds (record { verdict = a.verdict; numbers = f; first = a.first });
       }
-  stands_by e f NoVerdict h = s
-  stands_by e f AlreadyEntered h = s
-  stands_by e f Full h = s
+  stands_by e f (Err NoVerdict) h = s
+  stands_by e f (Err AlreadyEntered) h = s
+  stands_by e f (Err Full) h = s
 
   -- the lent bytes keep their length
   pub length_by : (e : Entry) (r : Reply) → reply_to es (length es) (length t) e ≡ r → length (bytes_by r b.used e t) ≡ length t
   unfolding bytes_by
-  length_by e Entered h = kept_length e (accepted es (length es) (length t) e h).fits
-  length_by e NoVerdict h = refl
-  length_by e AlreadyEntered h = refl
-  length_by e Full h = refl
+  length_by e (Ok entered) h = kept_length e (accepted es (length es) (length t) e h).fits
+  length_by e (Err why) h = refl

@@ -7,6 +7,7 @@ use mathlib.Core.List.{List, []}
 use Prim.Native.Nat.{ℕ, ◌*◌, ◌/◌, ◌%◌, ◌≤◌}
 use native.Mathlib.Decide.{dec_le, ℕ_discrete}
 use native.Mathlib.Omega.{arith}
+use Rattle.std.proofs.Common.{Ok}
 use lib.ListN.{length, take, length-take}
 use lib.Pow.{are_bytes}
 use Rattle.tape_read.specs.Entries.{block_size}
@@ -15,7 +16,6 @@ use Rattle.book_block.specs.Entries.{all_fit}
 use Rattle.book_block.specs.declared.Entry.{Entry}
 use Rattle.book.specs.Counting.{entries_most, end_of, total_of}
 use Rattle.book_open.specs.Reopening.{good, read_on, read_book, opening_of, written}
-use Rattle.book_open.specs.declared.Opening.TheVariants.{Opened}
 use Rattle.book_open.proofs.Blockwise.{too_long, torn, blockwise}
 use Rattle.book_laws.specs.History.{history, book_of, accepted, replies_from}
 use Rattle.book_laws.proofs.Written.{Holds, holds_take, written_length, written_cut, reads_written, Wrote, read_is, good_bad}
@@ -68,12 +68,12 @@ module _ (t : List ℕ) (es : List Entry) (f : all_fit es ≡ true) where
   whole_reopens = ap read_book book_is ∙ reopens taken led.stands.holds led.stands.most
 
   -- and so with the end that the book had
-  pub end_reopens : opening_of (read_book (book_of (history t es))) ≡ Opened (history t es).book
+  pub end_reopens : opening_of (read_book (book_of (history t es))) ≡ Ok (history t es).book
   unfolding opening_of
-  end_reopens = ap opening_of whole_reopens ∙ ap Opened (sym counts_each)
+  end_reopens = ap opening_of whole_reopens ∙ ap Ok (sym counts_each)
 
   -- with the counts of the entries before the cut
-  pub cut_counts : (k : ℕ) → opening_of (read_book (take (k * block_size) (book_of (history t es)))) ≡ Opened (end_of (take k taken))
+  pub cut_counts : (k : ℕ) → opening_of (read_book (take (k * block_size) (book_of (history t es)))) ≡ Ok (end_of (take k taken))
   unfolding opening_of
   cut_counts k = ap opening_of (cut_reopens k)
 

@@ -5,15 +5,14 @@ use mathlib.Core.Bool.{true, and-eq-true_iff}
 use mathlib.Core.List.{List, [], ◌∷◌, ◌++◌, append_assoc, append-nil}
 use Prim.Native.Nat.{ℕ, ◌+◌, ◌*◌, ◌≤◌}
 use native.Mathlib.Omega.{arith}
+use Rattle.std.proofs.Common.{Ok}
 use lib.ListN.{length, length-append}
 use Rattle.tape_read.specs.Entries.{block_size}
 use Rattle.book_block.specs.Entries.{fits, all_fit}
 use Rattle.book_block.specs.declared.Entry.{Entry}
 use Rattle.book.specs.Counting.{entries_most}
-use Rattle.book.specs.Entering.{reply_to, reply_of, end_after, bytes_by, step_of, bytes_after}
+use Rattle.book.specs.Entering.{Reply, reply_to, reply_of, end_after, bytes_by, book_after, bytes_after}
 use Rattle.book.specs.declared.Book.{Book}
-use Rattle.book.specs.declared.Reply.{Reply}
-use Rattle.book.specs.declared.Reply.TheVariants.{Entered}
 use Rattle.book.proofs.Refusals.{accepts}
 use Rattle.book_laws.specs.History.{Left, handed_in, joined_by, accepted_from, replies_from}
 use Rattle.book_laws.proofs.Written.{Holds}
@@ -27,8 +26,8 @@ pub record Led (room : ℕ) (done es : List Entry) (l : Left) : Type 0 where
 
 -- after one entry
 module _ (done : List Entry) (b : Book) (t : List ℕ) (s : Stands done b t) (e : Entry) (f : fits e ≡ true) where
-  next_stands : Stands (joined_by (reply_to done (length done) (length t) e) done e) (step_of b e t).book (bytes_after b e t)
-  unfolding step_of bytes_after
+  next_stands : Stands (joined_by (reply_to done (length done) (length t) e) done e) (book_after b e t) (bytes_after b e t)
+  unfolding book_after bytes_after
   next_stands =
       subst (λ (r : Reply). Stands (joined_by (reply_to done (length done) (length t) e) done e) (end_after r e b) (bytes_by r b.used e t))
       (sym (reply_is done b t s e))
@@ -38,8 +37,7 @@ module _ (done : List Entry) (b : Book) (t : List ℕ) (s : Stands done b t) (e 
   unfolding bytes_after
   next_length = length_by done b t s e (reply_of b.used e t) (sym (reply_is done b t s e))
 
-  next_reply : (step_of b e t).reply ≡ reply_to done (length done) (length t) e
-  unfolding step_of
+  next_reply : reply_of b.used e t ≡ reply_to done (length done) (length t) e
   next_reply = reply_is done b t s e
 
 pub tracked : (done es : List Entry) (b : Book) (t : List ℕ) → Stands done b t → all_fit es ≡ true
@@ -50,9 +48,9 @@ tracked done (e ∷ es) b t s f =
     let both = (and-eq-true_iff (fits e) (all_fit es)).0 f in
     let joined = joined_by (reply_to done (length done) (length t) e) done e in
     let size = next_length done b t s e both.0 in
-    let later : Led (length t) joined es (handed_in (step_of b e t).book (bytes_after b e t) es) =
-    subst (λ (n : ℕ). Led n joined es (handed_in (step_of b e t).book (bytes_after b e t) es)) size
-    (tracked joined es (step_of b e t).book (bytes_after b e t) (next_stands done b t s e both.0) both.1) in
+    let later : Led (length t) joined es (handed_in (book_after b e t) (bytes_after b e t) es) =
+    subst (λ (n : ℕ). Led n joined es (handed_in (book_after b e t) (bytes_after b e t) es)) size
+    (tracked joined es (book_after b e t) (bytes_after b e t) (next_stands done b t s e both.0) both.1) in
     record {
       stands = later.stands;
       replies = ap₂ ◌∷◌ (next_reply done b t s e both.0) later.replies;
@@ -65,7 +63,7 @@ pub all_accepted : (room : ℕ) (done es : List Entry) → Holds done es → len
 unfolding accepted_from Holds joined_by
 all_accepted room done [] h most fit = sym (append-nil done)
 all_accepted room done (e ∷ es) h most fit =
-    let taken : reply_to done (length done) room e ≡ Entered =
+    let taken : reply_to done (length done) room e ≡ Ok tt =
     accepts done (length done) room e
     (record { verdict = h.0.verdict; first = h.0.first; entries = omega arith; fits = omega arith }) in
     let one = length-append done (e ∷ []) in

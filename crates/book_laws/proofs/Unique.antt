@@ -5,6 +5,7 @@ use mathlib.Core.Bool.{true}
 use mathlib.Core.List.{List, ◌∷◌, ◌++◌, append_assoc}
 use Prim.Native.Nat.{ℕ, ◌^◌}
 use native.Mathlib.Omega.{arith}
+use Rattle.std.proofs.Common.{None}
 use lib.ListN.{length, take, drop, length-drop, take-append-drop}
 use lib.Pow.{are_bytes}
 use lib.Seq.{take_all, drop-drop, take-append-le}
@@ -30,7 +31,7 @@ field_long : (at : ℕ) (b : List ℕ) → are_bytes b ≡ true → is_long (fie
 unfolding field is_long window
 field_long at b e = lt-ltb (field at 4 b) (2 ^ 32) (number_below (window 4 at b) (window_bytes 4 at b e))
 
-module _ (n : ℕ) (b : List ℕ) (bytes : are_bytes b ≡ true) (fine : fault_of n b ≡ 0) where
+module _ (n : ℕ) (b : List ℕ) (bytes : are_bytes b ≡ true) (fine : fault_of n b ≡ None) where
   -- the entry in a block without a fault
   pub entry_fits : fits (entry_in b) ≡ true
   unfolding fits entry_in

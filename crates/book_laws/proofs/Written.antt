@@ -4,14 +4,12 @@ use mathlib.Core.Path.{◌≡◌, refl, sym, ap, ap₂, ◌∙◌, subst}
 use mathlib.Core.Bool.{true, false}
 use mathlib.Core.List.{List, [], ◌∷◌, ◌++◌, append_assoc, append-nil}
 use Prim.Native.Nat.{ℕ, zero, suc, ◌+◌, ◌*◌, ◌^◌, ◌≤◌, ◌<◌}
-use native.Mathlib.Decide.{ℕ_discrete}
 use native.Mathlib.Nat.{add-zero}
 use native.Mathlib.Omega.{arith}
+use Rattle.std.proofs.Common.{Option, Some, None}
 use lib.ListN.{length, take, drop, length-append, length-drop, take-append-drop}
 use lib.Pow.{are_bytes}
 use lib.Seq.{take_at, drop_at, take-nil, take-append-add, length-take-le}
-use borrow.Author.Tests.{eq-eqb, ne_eqb}
-use Rattle.slices.proofs.Choice.{pick_yes, pick_no}
 use Rattle.slices.proofs.Cutting.{none_left}
 use Rattle.tape_crc.proofs.Bytes.{bytes_take, bytes_drop}
 use Rattle.tape_read.specs.Entries.{block_size}
@@ -19,10 +17,11 @@ use Rattle.tape_read.specs.Tapes.{cut}
 use Rattle.book_block.specs.Entries.{is_verdict, fits}
 use Rattle.book_block.specs.Blocks.{block, tape_in, entry_in}
 use Rattle.book_block.specs.declared.Entry.{Entry}
+use Rattle.book_block.specs.declared.Fault.{Fault}
 use Rattle.book_block.proofs.Filling.{block_length}
 use Rattle.book.specs.Counting.{entries_most}
 use Rattle.book.specs.Entering.{entries_in, entered}
-use Rattle.book_open.specs.Reopening.{Reading, good, bad, fault_after, read_on, written}
+use Rattle.book_open.specs.Reopening.{Reading, good, bad, fault_after, unless_bad, read_on, written}
 use Rattle.book_open.proofs.Faults.{no_fault, faultless}
 use Rattle.book_laws.proofs.Back.{fitting, block_fine, entry_back}
 use Rattle.book_laws.proofs.Unique.{entry_fits, entry_verdict, block_is}
@@ -94,7 +93,7 @@ unfolding entry_in
 tape_of_lem b = refl
 
 -- the next block of a writing has no fault
-written_fine : (done : List Entry) (e : Entry) → Fit done e → length done < 2 ^ 32 → fault_after done (block (length done) e) ≡ 0
+written_fine : (done : List Entry) (e : Entry) → Fit done e → length done < 2 ^ 32 → fault_after done (block (length done) e) ≡ None
 unfolding entry_in
 written_fine done e f h =
     let tape : tape_in (block (length done) e) ≡ e.tape =
@@ -104,7 +103,7 @@ written_fine done e f h =
 -- what was written reads back, after the entries before it
 pub reads_written : (done es : List Entry) → Holds done es → length done + length es ≤ entries_most
     → read_on done (cut (length es) (written (length done) es)) ≡ good (done ++ es)
-unfolding written cut read_on Holds
+unfolding written cut read_on unless_bad Holds
 reads_written done [] h most = ap good (sym (append-nil done))
 reads_written done (e ∷ es) h most =
     let n = length done in
@@ -112,9 +111,9 @@ reads_written done (e ∷ es) h most =
     let front = take_at (block n e) rest block_size (block_length n e) in
     let back = drop_at (block n e) rest block_size (block_length n e) in
     let next : n + 1 ≡ length (done ++ (e ∷ [])) = sym (length-append done (e ∷ [])) in
-    let fine : fault_after done (block n e) ≡ 0 = written_fine done e h.0 (omega arith) in
+    let fine : fault_after done (block n e) ≡ None = written_fine done e h.0 (omega arith) in
     ap₂ (λ (b t : List ℕ). read_on done (b ∷ cut (length es) t)) front back
-    ∙ (pick_yes _ _ _ (eq-eqb _ _ fine)
+    ∙ (rw fine refl
     ∙ (ap₂ (λ (d : Entry) (k : ℕ). read_on (done ++ (d ∷ [])) (cut (length es) (written k es)))
     (entry_back n e (fitting e h.0.numbers)) next
     ∙ (reads_written (done ++ (e ∷ [])) es h.1 (omega arith) ∙ ap good (append_assoc done (e ∷ []) es))))
@@ -126,7 +125,7 @@ pub record Wrote (done : List Entry) (t : List ℕ) (es : List Entry) : Type 0 w
   pub bytes : t ≡ written (length done) more
   pub holds : Holds done more
 
-pub good_bad : (r : Reading) (es : List Entry) (place fault : ℕ) → r ≡ good es → r ≡ bad place fault → ⊥
+pub good_bad : (r : Reading) (es : List Entry) (place : ℕ) (fault : Fault) → r ≡ good es → r ≡ bad place fault → ⊥
 good_bad r es place fault p q =
     let z : ◌≡◌ {A = ℕ} 0 1 = cc in
     omega arith
@@ -139,16 +138,16 @@ block_wrote : (n : ℕ) (done : List Entry) (t : List ℕ) (es : List Entry) →
     → read_on done (cut (suc n) t) ≡ good es
     → ((e : Entry) → read_on (done ++ (e ∷ [])) (cut n (drop block_size t)) ≡ good es → Wrote (done ++ (e ∷ [])) (drop block_size t) es)
     → Wrote done t es
-unfolding written cut read_on Holds
-block_wrote n done t es bytes more r rest = go (ℕ_discrete (fault_after done (take block_size t)) 0)
+unfolding written cut read_on unless_bad Holds
+block_wrote n done t es bytes more r rest = go (fault_after done (take block_size t)) refl
   where
-    go : Dec (fault_after done (take block_size t) ≡ 0) → Wrote done t es
-    go (no fault) = absurd (good_bad _ es _ _ r (pick_no _ _ _ (ne_eqb _ _ fault)))
-    go (yes fine) =
+    go : (fault : Option Fault) → fault_after done (take block_size t) ≡ fault → Wrote done t es
+    go (Some fault) is = absurd (good_bad _ es (length done) fault (rw is at r) refl)
+    go None fine =
         let b = take block_size t in
         let own = faultless done b fine in
         let are = bytes_take block_size t bytes in
-        let later = rest (entry_in b) (sym (pick_yes _ _ _ (eq-eqb _ _ fine)) ∙ r) in
+        let later = rest (entry_in b) (rw fine at r) in
         record {
           more = entry_in b ∷ later.more;
           entries = later.entries ∙ append_assoc done (entry_in b ∷ []) later.more;

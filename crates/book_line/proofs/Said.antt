@@ -6,6 +6,7 @@ use mathlib.Core.List.{List, [], ◌∷◌, ◌++◌, append_assoc, append-nil}
 use Prim.Native.Nat.{ℕ, ◌+◌, ◌^◌, ◌≤◌, ◌<◌}
 use native.Mathlib.Nat.{mod-eq_of_lt}
 use native.Mathlib.Omega.{arith}
+use Rattle.std.proofs.Common.{Some}
 use lib.ListN.{length, take, length-append}
 use lib.Seq.{take_at}
 use borrow.Author.Tests.{le-leb, lt-leb, eq-eqb, ne_eqb}
@@ -20,7 +21,7 @@ use Rattle.verdict_line.specs.Line.{word_of, decimal, field_of, line_of}
 use Rattle.book_block.specs.Entries.{made}
 use Rattle.book_answer.specs.Answers.{verdict_number, entry_of}
 use Rattle.text_lines.specs.Decimal.{no_number, number_in}
-use Rattle.book_line.specs.Lines.{word_in, verdict_named, closes, fields_said, entry_said}
+use Rattle.book_line.specs.Lines.{word_in, number_said, verdict_named, closes, fields_said, entry_said}
 use Rattle.book_line.proofs.Words.{free, free_append, first_end, word_first, word_after, word_last, word_end}
 use Rattle.book_line.proofs.Decimals.{some_digits, number_back, decimal_free}
 
@@ -38,8 +39,8 @@ word_on_line Fail = refl
 word_on_line Inconclusive = refl
 word_on_line Unreadable = refl
 
-named_back : (v : Verdict) → verdict_named (word_of v) ≡ verdict_number v
-unfolding verdict_named verdict_number word_of alike pick
+named_back : (v : Verdict) → verdict_named (word_of v) ≡ Some v
+unfolding verdict_named word_of alike pick
 named_back Pass = refl
 named_back Fail = refl
 named_back Inconclusive = refl
@@ -63,6 +64,11 @@ unfolding free
 tail_on_line r without = refl
 tail_on_line r (fourth k h) = field_on_line k
 
+-- a number that is said
+said_number : (s : List ℕ) (n : ℕ) → number_in (word_in s) ≡ n → n < no_number → number_said s ≡ Some n
+unfolding number_said
+said_number s n is h = rw is (pick_no _ _ _ (lt-leb no_number n h))
+
 module _ (c : ℕ) where
   code_word : (r : List ℕ) → Tail r → word_in (decimal c ++ r) ≡ decimal c
   unfolding field_of
@@ -78,8 +84,7 @@ module _ (c : ℕ) where
       let word : number_in (word_in (decimal k)) ≡ k = ap number_in (word_last (decimal k) (digits_word k)) ∙ number_back k h in
       ap closes (word_after (decimal c) (digits_word c) (decimal k))
       ∙ (pick_no _ _ _ (ne_eqb _ _ (some_digits k))
-      ∙ (pick_no _ _ _ (lt-leb no_number (number_in (word_in (decimal k))) (omega arith))
-      ∙ eq-eqb _ _ (ap length (word_end (decimal k) (digits_word k)))))
+      ∙ rw (said_number (decimal k) k word h) (eq-eqb _ _ (ap length (word_end (decimal k) (digits_word k)))))
 
 -- a line without its line feed
 abbrev line : Verdict → ℕ → ℕ → List ℕ → List ℕ
@@ -94,24 +99,24 @@ module _ (tape : ℕ) (v : Verdict) (p c : ℕ) (r : List ℕ) (t : Tail r) (hp 
   unfolding field_of
   third = ap after_word second ∙ word_after (decimal p) (digits_word p) (decimal c ++ r)
 
-  place_said : number_in (word_in (after_word (line v p c r))) ≡ p
+  place_said : number_said (after_word (line v p c r)) ≡ Some p
   unfolding field_of
-  place_said = ap number_in (ap word_in second ∙ word_first (decimal p) (digits_word p) (decimal c ++ r)) ∙ number_back p hp
+  place_said =
+      said_number _ p (ap number_in (ap word_in second ∙ word_first (decimal p) (digits_word p) (decimal c ++ r)) ∙ number_back p hp) hp
 
-  code_said : number_in (word_in (after_word (after_word (line v p c r)))) ≡ c
-  code_said = ap number_in (ap word_in third ∙ code_word c r t) ∙ number_back c hc
+  code_said : number_said (after_word (after_word (line v p c r))) ≡ Some c
+  code_said = said_number _ c (ap number_in (ap word_in third ∙ code_word c r t) ∙ number_back c hc) hc
 
-  verdict_said : verdict_named (word_in (line v p c r)) ≡ verdict_number v
+  verdict_said : verdict_named (word_in (line v p c r)) ≡ Some v
   unfolding field_of
   verdict_said = ap verdict_named (word_first (word_of v) (word_free v) (decimal p ++ (field_of c ++ r))) ∙ named_back v
 
-  line_said : fields_said tape (line v p c r) ≡ made tape (verdict_number v) p c
+  closed : closes (after_word (after_word (after_word (line v p c r)))) ≡ true
+  closed = ap (λ (s : List ℕ). closes (after_word s)) third ∙ code_closed c r t
+
+  line_said : fields_said tape (line v p c r) ≡ Some (made tape (verdict_number v) p c)
   unfolding fields_said
-  line_said =
-      pick_no _ _ _ (lt-leb no_number (number_in (word_in (after_word (line v p c r)))) (omega (arith, place_said)))
-      ∙ (pick_no _ _ _ (lt-leb no_number (number_in (word_in (after_word (after_word (line v p c r))))) (omega (arith, code_said)))
-      ∙ (pick_yes _ _ _ (ap (λ (s : List ℕ). closes (after_word s)) third ∙ code_closed c r t)
-      ∙ (λ i. record { tape = tape; verdict = verdict_said i; place = place_said i; code = code_said i })))
+  line_said = rw (verdict_said, place_said, code_said, closed)
 
   -- with its line feed
   one_line : free 0x0A 0x0A (line v p c r) ≡ true
@@ -119,7 +124,7 @@ module _ (tape : ℕ) (v : Verdict) (p c : ℕ) (r : List ℕ) (t : Tail r) (hp 
       free_append 0x0A 0x0A (word_of v) _ (word_on_line v)
       (free_append 0x0A 0x0A (field_of p) _ (field_on_line p) (free_append 0x0A 0x0A (field_of c) r (field_on_line c) (tail_on_line r t)))
 
-  pub text_said : entry_said tape (line v p c r ++ (0x0A ∷ [])) ≡ made tape (verdict_number v) p c
+  pub text_said : entry_said tape (line v p c r ++ (0x0A ∷ [])) ≡ Some (made tape (verdict_number v) p c)
   unfolding entry_said
   text_said =
       let l = line v p c r in
@@ -132,14 +137,14 @@ module _ (tape : ℕ) (v : Verdict) (p c : ℕ) (r : List ℕ) (t : Tail r) (hp 
 
 -- the line that the judge's program writes gives the entry of the answer that it says; the fourth number is not entered
 pub answer_said : (tape : ℕ) (f : Finding) → f.ruling.place < 2 ^ 32 → f.ruling.code < 2 ^ 32 → f.zeros < 2 ^ 32
-    → entry_said tape (line_of f) ≡ entry_of tape f.ruling
+    → entry_said tape (line_of f) ≡ Some (entry_of tape f.ruling)
 unfolding line_of entry_of
 answer_said tape f p c z =
     let a = f.ruling in
     let v = a.verdict in
     ap (entry_said tape) (sym (regrouped (word_of v) (field_of a.place) (field_of a.code) (field_of f.zeros) (0x0A ∷ [])))
     ∙ (text_said tape v a.place a.code (field_of f.zeros) (fourth f.zeros z) p c
-    ∙ ap₂ (made tape (verdict_number v)) (sym (mod-eq_of_lt p)) (sym (mod-eq_of_lt c)))
+    ∙ ap₂ (λ (x y : ℕ). Some (made tape (verdict_number v) x y)) (sym (mod-eq_of_lt p)) (sym (mod-eq_of_lt c)))
   where
     regrouped : (w x y k z : List ℕ) → (w ++ (x ++ (y ++ k))) ++ z ≡ w ++ (x ++ (y ++ (k ++ z)))
     regrouped w x y k z = simp append_assoc

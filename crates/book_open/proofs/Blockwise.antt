@@ -6,6 +6,7 @@ use mathlib.Core.List.{List, [], ◌∷◌}
 use Prim.Native.Nat.{ℕ, suc, ◌+◌, ◌-◌, ◌*◌, ◌/◌, ◌%◌, ◌≤◌, ◌<◌}
 use native.Mathlib.Numerals.{add-one}
 use native.Mathlib.Omega.{arith}
+use Rattle.std.proofs.Common.{Some, None}
 use lib.ListN.{length, drop}
 use borrow.Author.Tests.{lt-ltb, le-ltb, eq-eqb, ne_eqb}
 use Rattle.slices.proofs.Choice.{pick_yes, pick_no}
@@ -14,11 +15,13 @@ use Rattle.tape_read.specs.Tapes.{block_at, cut, blocks_of}
 use Rattle.tape_read.proofs.Steps.{rest_next}
 use Rattle.book_block.specs.Blocks.{entry_in}
 use Rattle.book_block.specs.declared.Entry.{Entry}
+use Rattle.book_block.specs.declared.Fault.{Fault}
+use Rattle.book_block.specs.declared.Fault.TheVariants.{TooLong, Torn}
 use Rattle.book.specs.Counting.{entries_most, end_of, counted}
 use Rattle.book.specs.Entering.{entries_in}
 use Rattle.book.proofs.Counting.{counted_more}
 use Rattle.book.proofs.Searching.{entries_length, entries_more}
-use Rattle.book_open.specs.Reopening.{Reading, good, bad, fault_after, read_on, read_book}
+use Rattle.book_open.specs.Reopening.{Reading, good, bad, fault_after, unless_bad, read_on, read_book}
 
 -- what is read from block k on
 unfoldable pub onward : ℕ → List ℕ → Reading
@@ -47,19 +50,16 @@ module _ (t : List ℕ) where
         ∙ ap (λ (l : List ℕ). block_at k t ∷ cut (length t / block_size - (k + 1)) l) (rest_next k t)
 
     -- the next block is bad: it is the one named
-    pub at_fault : (fault_after (entries_in k t) (block_at k t) ≡ 0 → ⊥) → onward k t ≡ bad k (fault_after (entries_in k t) (block_at k t))
-    unfolding onward read_on
-    at_fault fault =
-        ap (read_on (entries_in k t)) next_block
-        ∙ (pick_no _ _ _ (ne_eqb _ _ fault) ∙ ap (λ (n : ℕ). bad n (fault_after (entries_in k t) (block_at k t))) (entries_length k t))
+    pub at_fault : (fault : Fault) → fault_after (entries_in k t) (block_at k t) ≡ Some fault → onward k t ≡ bad k fault
+    unfolding onward read_on unless_bad
+    at_fault fault h = ap (read_on (entries_in k t)) next_block ∙ rw h (ap (λ (n : ℕ). bad n fault) (entries_length k t))
 
     -- the next block is good
-    pub one_on : fault_after (entries_in k t) (block_at k t) ≡ 0 → onward k t ≡ onward (k + 1) t
-    unfolding onward read_on
+    pub one_on : fault_after (entries_in k t) (block_at k t) ≡ None → onward k t ≡ onward (k + 1) t
+    unfolding onward read_on unless_bad
     one_on fine =
         ap (read_on (entries_in k t)) next_block
-        ∙ (pick_yes _ _ _ (eq-eqb _ _ fine)
-        ∙ ap (λ (es : List Entry). read_on es (cut (length t / block_size - (k + 1)) (drop ((k + 1) * block_size) t)))
+        ∙ rw fine (ap (λ (es : List Entry). read_on es (cut (length t / block_size - (k + 1)) (drop ((k + 1) * block_size) t)))
         (sym (entries_more k t) ∙ ap (λ (n : ℕ). entries_in n t) (sym (add-one k))))
 
   -- and it is counted
@@ -69,12 +69,12 @@ module _ (t : List ℕ) where
       counted_more (entries_in k t) (entry_in (block_at k t)) (omega (arith, entries_length k t))
       ∙ ap end_of (sym (entries_more k t) ∙ ap (λ (n : ℕ). entries_in n t) (sym (add-one k)))
 
-  pub too_long : entries_most * block_size < length t → read_book t ≡ bad 0 1
+  pub too_long : entries_most * block_size < length t → read_book t ≡ bad 0 TooLong
   unfolding read_book
   too_long h = pick_yes _ _ _ (lt-ltb _ _ h)
 
   module _ (fits : length t ≤ entries_most * block_size) where
-    pub torn : (length t % block_size ≡ 0 → ⊥) → read_book t ≡ bad (length t / block_size) 2
+    pub torn : (length t % block_size ≡ 0 → ⊥) → read_book t ≡ bad (length t / block_size) Torn
     unfolding read_book
     torn h = pick_no _ _ _ (le-ltb _ _ fits) ∙ pick_yes _ _ _ (ap not (ne_eqb _ _ h))
 

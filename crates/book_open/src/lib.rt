@@ -8,64 +8,52 @@ ghost use Rattle.book.specs.Entering.{entries_in};
 ghost use Rattle.book_open.specs.Reopening.{fault_after, read_book, opening_of};
 
 use book::{Book, ENTRIES, holds};
-use book_block::{entry_in, fault_of, tape_in};
+use book_block::{Fault, entry_in, fault_of, tape_in};
 use tape_read::{BLOCK, block_at};
-
-// Why bytes are no book: more blocks than a book can have, a length that is not whole blocks, a tape number twice; 3 to 6 are the
-// faults of a block.
-pub const TOO_LONG: u8 = 1;
-
-pub const TORN: u8 = 2;
-
-pub const TWICE: u8 = 7;
 
 // The most bytes of a book.
 pub const MOST: usize = ENTRIES as usize * BLOCK;
 
-#[derive(Clone, Copy)]
-pub enum Opening {
-    Opened(Book),
-    Refused(usize, u8),
+// Where bytes are no book: the block, and what is wrong.
+#[derive(Clone, Copy, PartialEq, Eq)]
+pub struct Refused {
+    pub place: usize,
+    pub fault: Fault,
 }
 
 // Any bytes, read block by block.
-pub fn reopen(bytes: &[u8]) -> Opening
+pub fn reopen(bytes: &[u8]) -> Result<Book, Refused>
     ensures { result ≡ opening_of (read_book bytes.now) }
 {
     if MOST < bytes.len() {
-        return Opening::Refused(0, TOO_LONG);
+        return Err(Refused {
+            place: 0,
+            fault: Fault::TooLong,
+        });
     }
+    let blocks = bytes.len() / BLOCK;
     if bytes.len() % BLOCK != 0 {
-        return Opening::Refused(bytes.len() / BLOCK, TORN);
+        return Err(Refused {
+            place: blocks,
+            fault: Fault::Torn,
+        });
     }
     let mut book = Book::new();
-    let mut k = 0;
-    while k < bytes.len() / BLOCK {
-        let fault = fault_at(bytes, k);
-        if fault != 0 {
-            return Opening::Refused(k, fault);
+    for k in 0..blocks {
+        if let Some(fault) = fault_at(bytes, k) {
+            return Err(Refused { place: k, fault });
         }
-        let e = entry_in(block_at(bytes, k));
-        let next = book.count(e.verdict);
-        book = next;
-        k += 1;
+        book = book.count(entry_in(block_at(bytes, k)).verdict);
     }
-    Opening::Opened(book)
+    Ok(book)
 }
 
 // The fault of a block that is there, after those before it.
-fn fault_at(bytes: &[u8], k: usize) -> u8
+#[tactic(auto, using(crate::proofs::Faults::fault_there))]
+fn fault_at(bytes: &[u8], k: usize) -> Option<Fault>
     requires { (k + 1) * block_size ≤ length bytes.now }
     ensures { result ≡ fault_after (entries_in k bytes.now) (block_at k bytes.now) }
 {
     let block = block_at(bytes, k);
-    let fault = fault_of(block, k);
-    if fault != 0 {
-        return fault;
-    }
-    if holds(bytes, k, tape_in(block)) {
-        TWICE
-    } else {
-        0
-    }
+    fault_of(block, k).or_else(|| holds(bytes, k, tape_in(block)).then_some(Fault::Twice))
 }

@@ -5,18 +5,18 @@ ghost use Rattle.book.specs.Entering.{reply_of, bytes_after};
 ghost use Rattle.book_open.specs.Reopening.{read_book, opening_of};
 ghost use Rattle.lab.specs.Books.{fault_in, laid_end, reply_number, book_at};
 
-use book::{Book, Reply};
+use book::{Book, Refusal};
 use book_block::Entry;
-use book_open::{Opening, reopen};
+use book_open::reopen;
 
 // Any bytes reopened. 0: the blocks used and the four counts, PASS, FAIL, INCONCLUSIVE, UNREADABLE. Else the fault, and the block first.
+#[tactic(auto, unfolding(crate::specs::Books::fault_in, crate::specs::Books::laid_end))]
 pub fn lab_book_open(bytes: &[u8], end: &mut [u64; 5]) -> u8
     ensures value { result ≡ fault_in (opening_of (read_book bytes.now)) }
     ensures end_after { end.new ≡ laid_end (opening_of (read_book bytes.now)) }
 {
-    let opening = reopen(bytes);
-    match opening {
-        Opening::Opened(book) => {
+    match reopen(bytes) {
+        Ok(book) => {
             *end = [
                 book.used as u64,
                 book.pass as u64,
@@ -26,9 +26,9 @@ pub fn lab_book_open(bytes: &[u8], end: &mut [u64; 5]) -> u8
             ];
             0
         }
-        Opening::Refused(place, fault) => {
-            *end = [place as u64, 0, 0, 0, 0];
-            fault
+        Err(refused) => {
+            *end = [refused.place as u64, 0, 0, 0, 0];
+            refused.fault.number()
         }
     }
 }
@@ -45,7 +45,7 @@ pub fn lab_book_enter(
     ensures value { result ≡ reply_number (reply_of used (made tape verdict place code) bytes.old) }
     ensures bytes_after { bytes.new ≡ bytes_after (book_at used) (made tape verdict place code) bytes.old }
 {
-    let book = Book {
+    let mut book = Book {
         used,
         pass: 0,
         fail: 0,
@@ -58,18 +58,17 @@ pub fn lab_book_enter(
         place,
         code,
     };
-    let step = book.enter(e, bytes);
-    let reply = step.reply;
-    reply_number(reply)
+    reply_number(book.enter(e, bytes))
 }
 
-fn reply_number(reply: Reply) -> u8
+#[tactic(auto, unfolding(crate::specs::Books::reply_number))]
+fn reply_number(reply: Result<(), Refusal>) -> u8
     ensures { result ≡ reply_number reply }
 {
     match reply {
-        Reply::Entered => 0,
-        Reply::NoVerdict => 1,
-        Reply::AlreadyEntered => 2,
-        Reply::Full => 3,
+        Ok(()) => 0,
+        Err(Refusal::NoVerdict) => 1,
+        Err(Refusal::AlreadyEntered) => 2,
+        Err(Refusal::Full) => 3,
     }
 }

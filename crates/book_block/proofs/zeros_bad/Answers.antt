@@ -1,35 +1,23 @@
 -- `book_block::zeros_bad` meets its contract: both runs are compared with zeros. Assumes nothing.
-use mathlib.Core.Path.{◌≡◌, sym, ap, ◌∙◌}
-use mathlib.Core.Bool.{Bool, not, ◌&&◌}
-use mathlib.Core.List.{List}
-use Prim.Native.Nat.{ℕ}
-use lib.ListN.{take, drop}
+use Rattle.std.proofs.Common.{◌≡◌, sym, ap, ◌∙◌, Bool, not, ◌&&◌, List, ℕ, take, drop}
 use Rattle.slices.specs.Tests.{alike}
 use Rattle.slices.specs.Writing.{zeros}
 use Rattle.book_block.specs.Blocks.{padding, padding_at, zeros_bad}
 use Rattle.book_block.proofs.zeros_bad.Goals as goal
+use Rattle.book_block.proofs.zeros_bad.Goals.{then-alike, else-alike}
 
-pub returns-then-alike : goal.returns-then-alike
+pub returns : goal.returns
 unfolding zeros_bad zeros
-returns-then-alike c =
-    let bytes : List ℕ =
-    c.args.b.now
+returns c =
+    let b = c.args.b.now in
+    let spare : c.alike.result ≡ alike (take 3 (drop 9 b)) (zeros 3) =
+    c.alike.ensures ∙ ap (λ (s : List ℕ). alike s (zeros 3)) c.part.ensures
     in
-    let spare : alike (take 3 (drop 9 (bytes))) (zeros 3) ≡ c.alike.result =
-    sym (c.alike.ensures ∙ ap (λ (s : List ℕ). alike s (zeros 3)) c.part.ensures)
-    in
-    let b = bytes in
-    sym (ap (λ (t : Bool). not (t && alike (take padding (drop padding_at b)) (zeros padding))) (spare ∙ c.if-alike.true)
-    ∙ sym (ap not (c.alike-then-alike.ensures ∙ ap (λ (s : List ℕ). alike s (zeros padding)) c.part-then-alike.ensures)))
-
-pub returns-else-alike : goal.returns-else-alike
-unfolding zeros_bad zeros
-returns-else-alike c =
-    let bytes : List ℕ =
-    c.args.b.now
-    in
-    let spare : alike (take 3 (drop 9 (bytes))) (zeros 3) ≡ c.alike.result =
-    sym (c.alike.ensures ∙ ap (λ (s : List ℕ). alike s (zeros 3)) c.part.ensures)
-    in
-    let b = bytes in
-    sym (ap (λ (t : Bool). not (t && alike (take padding (drop padding_at b)) (zeros padding))) (spare ∙ c.if-alike.false))
+    let both = λ (t : Bool). t && alike (take padding (drop padding_at b)) (zeros padding) in
+    ap not
+    (elim c.if-alike.branch [
+      | then-alike w ↦ w.result-is
+          ∙ (w.alike-then-alike.ensures ∙ (ap (λ (s : List ℕ). alike s (zeros padding)) w.part-then-alike.ensures
+          ∙ ap both (sym w.if-alike.true ∙ spare)))
+      | else-alike w ↦ w.result-is ∙ (w.if-alike.false ∙ ap both (sym w.if-alike.false ∙ spare))
+    ])

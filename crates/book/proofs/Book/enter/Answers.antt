@@ -1,31 +1,21 @@
--- `book::Book::enter` meets its contract: each arm is what its reply says. Assumes nothing.
-use Rattle.book.proofs.Stepping.{no_verdict, already_entered, full, taken}
+-- `book::Book::enter` meets its contract: what is left is what the reply says. Assumes nothing.
+use Rattle.std.proofs.Common.{sym, ap, ◌∙◌, List, ℕ, ◌*◌}
+use Rattle.slices.specs.Writing.{laid}
+use Rattle.tape_read.specs.Entries.{block_size}
+use Rattle.book.proofs.Stepping.{book_kept, bytes_kept, book_counted, block_laid}
 use Rattle.book.proofs.Book.enter.Goals as goal
 
-pub returns-in-Entered : goal.returns-in-Entered
-returns-in-Entered c =
-    let a = c.args in
-    let done =
-    taken a.self a.e a.bytes.now _ c.reply_to-reply.ensures c.in-Entered.is _ _ _
-    c.count.ensures
-    c.block_of.ensures
-    c.lay.ensures in
-    record { value = done.step; bytes_after = done.bytes }
+pub returns-in_err-reply_to-clause-book_after : goal.returns-in_err-reply_to-clause-book_after
+returns-in_err-reply_to-clause-book_after c = sym (book_kept _ _ _ _ (sym c.reply_to.ensures ∙ c.in_err-reply_to.was))
 
-pub returns-in-NoVerdict : goal.returns-in-NoVerdict
-returns-in-NoVerdict c =
-    let a = c.args in
-    let done = no_verdict a.self a.e a.bytes.now _ c.reply_to-reply.ensures c.in-NoVerdict.is in
-    record { value = done.step; bytes_after = done.bytes }
+pub returns-in_err-reply_to-clause-bytes_after : goal.returns-in_err-reply_to-clause-bytes_after
+returns-in_err-reply_to-clause-bytes_after c = sym (bytes_kept _ _ _ _ (sym c.reply_to.ensures ∙ c.in_err-reply_to.was))
 
-pub returns-in-AlreadyEntered : goal.returns-in-AlreadyEntered
-returns-in-AlreadyEntered c =
-    let a = c.args in
-    let done = already_entered a.self a.e a.bytes.now _ c.reply_to-reply.ensures c.in-AlreadyEntered.is in
-    record { value = done.step; bytes_after = done.bytes }
+pub returns-clause-book_after : goal.returns-clause-book_after
+returns-clause-book_after c = c.count.ensures ∙ sym (book_counted _ _ _ (sym c.reply_to.ensures ∙ c.in_ok-reply_to.was))
 
-pub returns-in-Full : goal.returns-in-Full
-returns-in-Full c =
-    let a = c.args in
-    let done = full a.self a.e a.bytes.now _ c.reply_to-reply.ensures c.in-Full.is in
-    record { value = done.step; bytes_after = done.bytes }
+pub returns-clause-bytes_after : goal.returns-clause-bytes_after
+returns-clause-bytes_after c =
+    c.lay.ensures
+    ∙ (ap (λ (b : List ℕ). laid b (c.args.self.now.used * block_size) c.args.bytes.now) c.block_of.ensures
+    ∙ sym (block_laid _ _ _ (sym c.reply_to.ensures ∙ c.in_ok-reply_to.was)))

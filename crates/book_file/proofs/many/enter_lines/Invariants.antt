@@ -1,9 +1,0 @@
--- `many::enter_lines` is safe and ends: the lines are counted down. Assumes nothing.
-use Rattle.std.proofs.Common.{length, ◌≡◌}
-use Rattle.book_file.proofs.many.enter_lines.Given as goal
-
-abbrev pub invariant-loop-left : goal.invariant-loop-left
-invariant-loop-left g l = (length l.line ≡ length l.initial.line) × (length l.bytes ≡ length l.initial.bytes)
-
-abbrev pub decreases-loop-left : goal.decreases-loop-left
-decreases-loop-left g l = l.left
