@@ -39,8 +39,5 @@ pub fn are_results(count: usize, payload: &[u8]) -> bool
 pub fn in_application_currency(there: bool, application: &[u8], currency: &[u8]) -> bool
     ensures { result ≡ in_application_currency (pick there (some application.now) none) currency.now }
 {
-    if there {
-        return slices::alike(application, currency);
-    }
-    false
+    there && slices::alike(application, currency)
 }

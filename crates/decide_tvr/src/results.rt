@@ -17,11 +17,7 @@ use start_fields::fields::Field;
 fn different_versions(start: &[u8], told: &[u8]) -> bool
     ensures { result ≡ different_versions (reading_of start.now) (told_in told.now 0x9F08) }
 {
-    if has(told, 0x9F08) {
-        !slices::alike(value(told, 0x9F08), fields::bytes(start, Field::Version))
-    } else {
-        false
-    }
+    has(told, 0x9F08) && !slices::alike(value(told, 0x9F08), fields::bytes(start, Field::Version))
 }
 
 fn expired(start: &[u8], told: &[u8]) -> bool
@@ -33,11 +29,7 @@ fn expired(start: &[u8], told: &[u8]) -> bool
 fn not_yet_effective(start: &[u8], told: &[u8]) -> bool
     ensures { result ≡ not_yet_effective (reading_of start.now) (told_in told.now 0x5F25) }
 {
-    if has(told, 0x5F25) {
-        date_key(fields::bytes(start, Field::Date)) < date_key(value(told, 0x5F25))
-    } else {
-        false
-    }
+    has(told, 0x5F25) && date_key(fields::bytes(start, Field::Date)) < date_key(value(told, 0x5F25))
 }
 
 fn risk_managed(aip: [u8; 2]) -> bool

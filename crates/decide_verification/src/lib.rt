@@ -43,8 +43,7 @@ pub fn wanted(told: &[u8]) -> usize
 fn octet(start: &[u8], f: Field, i: usize) -> u8
     ensures { result ≡ get_or (bytes_of f (reading_of start.now)) i 0 }
 {
-    let s = fields::bytes(start, f);
-    if i < s.len() { s[i] } else { 0 }
+    slices::byte(fields::bytes(start, f), i) as u8
 }
 
 // Whether the application's currency is told, and is the transaction's.

@@ -25,16 +25,9 @@ pub fn first_alone(s: &[u8]) -> [u8; FULL]
     alone
 }
 
+#[tactic(auto, unfolding(crate::specs::Start::valid_listing, crate::specs::Start::alone_in, crate::specs::Start::is_listing, slices::specs::Tests::every, slices::specs::Choice::pick))]
 pub fn valid_listing(s: &[u8]) -> bool
     ensures { result ≡ valid_listing s.now }
 {
-    if s.len() != LISTING {
-        return false;
-    }
-    let alone = first_alone(s);
-    if valid_start(&alone) {
-        valid_list(s)
-    } else {
-        false
-    }
+    s.len() == LISTING && valid_start(&first_alone(s)) && valid_list(s)
 }

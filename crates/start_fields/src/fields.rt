@@ -8,7 +8,7 @@ ghost use Rattle.slices.specs.Tests.{is_some};
 ghost use Rattle.decimal_dates.specs.Decimal.{decimal as decimal_of, six_bytes_limit};
 
 use decimal_dates::decimal::two_digits;
-use slices::part;
+use slices::{byte, part};
 
 // The bytes of the shortest START and of the longest, which has Terminal Capabilities behind it.
 const LENGTH: usize = 74;
@@ -49,63 +49,67 @@ pub enum Octet {
     Maximum,
 }
 
-fn begin(f: Field) -> usize
-    ensures { result ≡ begin_of f }
-{
-    match f {
-        Field::Amount => 1,
-        Field::OtherAmount => 7,
-        Field::Country => 13,
-        Field::Currency => 15,
-        Field::Date => 17,
-        Field::TransactionType => 20,
-        Field::Unpredictable => 21,
-        Field::FloorLimit => 25,
-        Field::Threshold => 33,
-        Field::Version => 40,
-        Field::Denial => 42,
-        Field::Online => 47,
-        Field::Default => 52,
-        Field::Capabilities => 74,
+impl Field {
+    fn begin(self) -> usize
+        ensures { result ≡ begin_of self }
+    {
+        match self {
+            Field::Amount => 1,
+            Field::OtherAmount => 7,
+            Field::Country => 13,
+            Field::Currency => 15,
+            Field::Date => 17,
+            Field::TransactionType => 20,
+            Field::Unpredictable => 21,
+            Field::FloorLimit => 25,
+            Field::Threshold => 33,
+            Field::Version => 40,
+            Field::Denial => 42,
+            Field::Online => 47,
+            Field::Default => 52,
+            Field::Capabilities => 74,
+        }
+    }
+
+    fn size(self) -> usize
+        ensures { result ≡ size_of self }
+    {
+        match self {
+            Field::Amount => 6,
+            Field::OtherAmount => 6,
+            Field::Country => 2,
+            Field::Currency => 2,
+            Field::Date => 3,
+            Field::TransactionType => 1,
+            Field::Unpredictable => 4,
+            Field::FloorLimit => 6,
+            Field::Threshold => 6,
+            Field::Version => 2,
+            Field::Denial => 5,
+            Field::Online => 5,
+            Field::Default => 5,
+            Field::Capabilities => 3,
+        }
     }
 }
 
-fn size(f: Field) -> usize
-    ensures { result ≡ size_of f }
-{
-    match f {
-        Field::Amount => 6,
-        Field::OtherAmount => 6,
-        Field::Country => 2,
-        Field::Currency => 2,
-        Field::Date => 3,
-        Field::TransactionType => 1,
-        Field::Unpredictable => 4,
-        Field::FloorLimit => 6,
-        Field::Threshold => 6,
-        Field::Version => 2,
-        Field::Denial => 5,
-        Field::Online => 5,
-        Field::Default => 5,
-        Field::Capabilities => 3,
-    }
-}
-
-fn octet_at(o: Octet) -> usize
-    ensures { result ≡ octet_at o }
-{
-    match o {
-        Octet::Kind => 0,
-        Octet::Random => 31,
-        Octet::Target => 32,
-        Octet::Maximum => 39,
+impl Octet {
+    fn place(self) -> usize
+        ensures { result ≡ octet_at self }
+    {
+        match self {
+            Octet::Kind => 0,
+            Octet::Random => 31,
+            Octet::Target => 32,
+            Octet::Maximum => 39,
+        }
     }
 }
 
 pub fn bytes(s: &[u8], f: Field) -> &[u8]
     ensures { result.now ≡ bytes_of f (reading_of s.now) }
 {
-    part(s, begin(f), size(f))
+    part(s, f.begin(), f.size())
 }
 
 // The fields from the amount up to the unpredictable number, which are written in digits.
@@ -114,8 +118,8 @@ pub fn digits(s: &[u8]) -> &[u8]
 {
     part(
         s,
-        begin(Field::Amount),
-        begin(Field::Unpredictable) - begin(Field::Amount),
+        Field::Amount.begin(),
+        Field::Unpredictable.begin() - Field::Amount.begin(),
     )
 }
 
@@ -123,14 +127,13 @@ pub fn digits(s: &[u8]) -> &[u8]
 pub fn has_capabilities(s: &[u8]) -> bool
     ensures { result ≡ is_some (reading_of s.now).capabilities }
 {
-    bytes(s, Field::Capabilities).len() != 0
+    !bytes(s, Field::Capabilities).is_empty()
 }
 
 fn octet_in(s: &[u8], o: Octet) -> u8
     ensures { result ≡ octet_of o (reading_of s.now) }
 {
-    let i = octet_at(o);
-    if i < s.len() { s[i] } else { 0 }
+    byte(s, o.place()) as u8
 }
 
 pub fn kind(s: &[u8]) -> u8
@@ -209,7 +212,7 @@ pub const AID_ROOM: usize = 16;
 pub fn aid_length(s: &[u8]) -> usize
     ensures { result ≡ aid_length_in s.now }
 {
-    slices::byte(s, AID_LENGTH)
+    byte(s, AID_LENGTH)
 }
 
 fn aid_room(s: &[u8]) -> &[u8]

@@ -43,17 +43,13 @@ fn unused_zero(s: &[u8]) -> bool
     zeros_only(part(room, ROW * n, room.len()))
 }
 
+#[tactic(auto, unfolding(crate::specs::Valid::valid_list, slices::specs::Tests::every, slices::specs::Choice::pick))]
 pub fn valid_list(s: &[u8]) -> bool
     ensures { result ≡ valid_list s.now }
 {
-    if !between(1, 8, listing::count_byte(s) as u64) {
-        return false;
-    }
-    if !valid_fields(s) {
-        return false;
-    }
-    if !unused_zero(s) {
-        return false;
-    }
-    listing::choice_byte(s) <= 1 && listing::edition(s) == 1
+    between(1, 8, listing::count_byte(s) as u64)
+        && valid_fields(s)
+        && unused_zero(s)
+        && listing::choice_byte(s) <= 1
+        && listing::edition(s) == 1
 }

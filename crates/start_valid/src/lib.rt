@@ -18,13 +18,12 @@ fn valid_kind(s: &[u8]) -> bool
     fields::kind(s) <= 2
 }
 
+#[tactic(auto, unfolding(crate::specs::Start::valid_digits, slices::specs::Tests::every, slices::specs::Choice::pick))]
 fn valid_digits(s: &[u8]) -> bool
     ensures { result ≡ valid_digits s.now }
 {
-    if !digits_only(fields::digits(s)) {
-        return false;
-    }
-    digits_only(fields::bytes(s, Field::FloorLimit))
+    digits_only(fields::digits(s))
+        && digits_only(fields::bytes(s, Field::FloorLimit))
         && digits_only(fields::bytes(s, Field::Threshold))
 }
 
@@ -54,28 +53,18 @@ fn valid_aid(s: &[u8]) -> bool
     between(5, AID_ROOM as u64, fields::aid_length(s) as u64) && zeros_only(fields::aid_padding(s))
 }
 
+#[tactic(auto, unfolding(crate::specs::Start::valid_start, slices::specs::Tests::every, slices::specs::Choice::pick))]
 pub fn valid_start(s: &[u8]) -> bool
     ensures { result ≡ valid_start s.now }
 {
-    if !fields::is_length(s.len()) {
-        return false;
-    }
-    if !valid_kind(s) {
-        return false;
-    }
-    if !valid_digits(s) {
-        return false;
-    }
-    if !valid_start_date(fields::bytes(s, Field::Date)) {
-        return false;
-    }
-    if !valid_random(s) {
-        return false;
-    }
-    if !valid_percentages(s) {
-        return false;
-    }
-    valid_threshold(s) && valid_aid(s)
+    fields::is_length(s.len())
+        && valid_kind(s)
+        && valid_digits(s)
+        && valid_start_date(fields::bytes(s, Field::Date))
+        && valid_random(s)
+        && valid_percentages(s)
+        && valid_threshold(s)
+        && valid_aid(s)
 }
 
 // Whether a session can be begun with it: the shorter START is only judged.

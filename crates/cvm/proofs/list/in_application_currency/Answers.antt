@@ -15,6 +15,6 @@ pub returns-then-there : goal.returns-then-there
 unfolding in_application_currency
 returns-then-there c = c.alike.ensures ∙ chosen _ (pick_yes _ _ _ c.if-there.true)
 
-pub returns : goal.returns
+pub returns-else-there : goal.returns-else-there
 unfolding in_application_currency
-returns c = chosen _ (pick_no _ _ _ c.if-there.false)
+returns-else-there c = c.if-there.false ∙ chosen _ (pick_no _ _ _ c.if-there.false)

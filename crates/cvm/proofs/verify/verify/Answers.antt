@@ -49,7 +49,7 @@ returns-then-turn c =
     let a = c.args in
     let whole = there a.list.now l.i _ (omega arith) c.rules_in-i-end.ensures in
     let turn =
-    rule a.c _ _ _ _ _ l.bits l.i _ a.list.now a.results.now c.turn_of-turn.ensures c.octet-first.ensures c.octet-code.ensures c.octet.ensures
+    rule a.c _ _ _ _ _ l.bits l.i _ a.list.now a.results.now c.turn_of-turn.ensures c.byte-first.ensures.0 c.byte-code.ensures.0 c.byte.ensures.0
     in
     sym (rule_ends a.c _ _ a.list.now a.results.now l.i l.bits _ turn whole c.if-turn.true) ∙ l.invariant
 
@@ -59,7 +59,7 @@ loop-i-preserved c =
     let a = c.args in
     let whole = there a.list.now l.i _ (omega arith) c.rules_in-i-end.ensures in
     let turn =
-    rule a.c _ _ _ _ _ l.bits l.i _ a.list.now a.results.now c.turn_of-turn.ensures c.octet-first.ensures c.octet-code.ensures c.octet.ensures
+    rule a.c _ _ _ _ _ l.bits l.i _ a.list.now a.results.now c.turn_of-turn.ensures c.byte-first.ensures.0 c.byte-code.ensures.0 c.byte.ensures.0
     in
     sym (rule_goes_on a.c _ _ a.list.now a.results.now l.i l.bits _ turn whole c.if-turn.false) ∙ l.invariant
 

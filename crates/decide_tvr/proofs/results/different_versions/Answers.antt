@@ -24,5 +24,5 @@ pub returns-else-has : goal.returns-else-has
 unfolding different_versions
 returns-else-has c =
     let a = c.args in
-    sym (ap (different_versions (reading_of a.start.now))
+    c.if-has.false ∙ sym (ap (different_versions (reading_of a.start.now))
     (is_none (told_in a.told.now 0x9F08) (sym c.has.ensures ∙ c.if-has.false)))

@@ -24,5 +24,5 @@ pub returns-else-has : goal.returns-else-has
 unfolding not_yet_effective
 returns-else-has c =
     let a = c.args in
-    sym (ap (not_yet_effective (reading_of a.start.now))
+    c.if-has.false ∙ sym (ap (not_yet_effective (reading_of a.start.now))
     (is_none (told_in a.told.now 0x5F25) (sym c.has.ensures ∙ c.if-has.false)))

@@ -16,4 +16,5 @@ pub returns : goal.returns
 unfolding reading_of
 returns c =
     let s = c.args.s.now in
-    ap (λ (v : List ℕ). not (eqb (length v) 0)) (c.bytes.ensures ∙ bytes_read Capabilities s) ∙ sym (is_there_lem (run_in Capabilities s))
+    ap not c.is_empty.ensures
+    ∙ ap (λ (v : List ℕ). not (eqb (length v) 0)) (c.bytes.ensures ∙ bytes_read Capabilities s) ∙ sym (is_there_lem (run_in Capabilities s))

@@ -2,17 +2,11 @@
 -- Assumes nothing.
 use mathlib.Core.Path.{sym, ap, ◌∙◌}
 use Prim.Native.Nat.{ℕ}
-use lib.ListN.{get_or, get_or-eq_default}
+use lib.ListN.{get_or}
 use Rattle.start_fields.proofs.Reading.{octet_read}
 use Rattle.start_fields.proofs.fields.octet_in.Goals as goal
 
-pub returns-then-i-s : goal.returns-then-i-s
-returns-then-i-s c =
+pub returns : goal.returns
+returns c =
     let a = c.args in
-    ap (λ (i : ℕ). get_or a.s.now i 0) c.octet_at-i.ensures ∙ sym (octet_read a.o a.s.now)
-
-pub returns-else-i-s : goal.returns-else-i-s
-returns-else-i-s c =
-    let a = c.args in
-    sym (get_or-eq_default a.s.now 0 c.if-i-s.false)
-    ∙ (ap (λ (i : ℕ). get_or a.s.now i 0) c.octet_at-i.ensures ∙ sym (octet_read a.o a.s.now))
+    c.byte.ensures.0 ∙ (ap (λ (i : ℕ). get_or a.s.now i 0) c.place.ensures ∙ sym (octet_read a.o a.s.now))
