@@ -1,4 +1,3 @@
-
 -- What is said of whole exchanges: the outcome of a capture, how long an exchange can be, what it moves.
 pub mod Outcomes
 pub mod Bounds

@@ -7,6 +7,11 @@ ghost use Rattle.t0_procedure.specs.Procedure.{refused, onward, moving, on_all, 
 use t0_state::bytes::{Meaning, meaning_of};
 use t0_state::{Act, Counts, Header, Phase, Refusal, State, Turn};
 
+// How many '60' and how many '61' one command takes.
+const WAITS_MOST: usize = 255;
+
+const GETS_MOST: usize = 16;
+
 #[tactic(auto, unfolding(crate::specs::Procedure::by_meaning, crate::specs::Procedure::on_procedure))]
 pub fn on_procedure(s: State, b: u8) -> Turn
     ensures { result ≡ on_procedure s b }
@@ -86,7 +91,7 @@ fn on_wait(s: State) -> Turn
     ensures { result ≡ on_wait s }
 {
     let waits = s.counts.waits;
-    if waits < 255 {
+    if waits < WAITS_MOST {
         let counts = Counts {
             waits: waits + 1,
             ..s.counts
@@ -105,7 +110,7 @@ fn on_get(s: State) -> Turn
     ensures { result ≡ on_get s }
 {
     let gets = s.counts.gets;
-    if 16 <= gets {
+    if GETS_MOST <= gets {
         return refuse(s, Refusal::Many61);
     }
     if s.header.may_get() {
