@@ -1,42 +1,20 @@
--- The tests of a block with LEN by another name, and a block laid into a buffer field by field. Assumes nothing.
+-- A block laid into a buffer field by field. Assumes nothing.
 use mathlib.Core.Path.{◌≡◌, refl, sym, ap, ◌∙◌}
 use mathlib.Core.List.{List, [], ◌∷◌, ◌++◌}
-use Prim.Native.Nat.{ℕ, ◌+◌, ◌≤◌, ◌<◌}
+use Prim.Native.Nat.{ℕ, ◌+◌, ◌≤◌}
 use native.Mathlib.Omega.{arith}
-use lib.Dec.{eqb}
-use lib.ListN.{length, get_or, take, drop, length-append}
+use lib.ListN.{length, take, drop, length-append}
 use lib.Seq.{take_at}
-use borrow.Author.Tests.{le-leb, lt-leb}
-use Rattle.slices.specs.Choice.{pick}
+use borrow.Author.Tests.{le-leb}
 use Rattle.slices.specs.Writing.{put, laid}
-use Rattle.slices.proofs.Choice.{pick_yes, pick_no, picked}
+use Rattle.slices.proofs.Choice.{pick_yes, picked}
 use Rattle.slices.proofs.Writing.{put_step, put_start, put_length, put_nothing, laid_fits}
-use Rattle.t1_block.specs.Blocks.{nad_of, pcb_of, len_of, lrc_of, kind_of, inf_most, body_of, framed, written}
-use Rattle.t1_block.specs.Faults.{of_kind, in_frame}
-use Rattle.std.specs.Prelude.{Result, Err}
-use Rattle.t1_block.specs.declared.Kind.{Kind}
-use Rattle.t1_block.specs.declared.Fault.{Fault}
-use Rattle.t1_block.specs.declared.Fault.TheVariants.{Len, Nad, Edc}
-
--- the tests with LEN by another name
-abbrev pub tested_with : List ℕ → ℕ → ℕ → Result Kind Fault
-tested_with b n most =
-    pick (eqb (lrc_of (take (3 + n) b)) (get_or b (3 + n) 0))
-    (pick (eqb n 0xFF) (Err Len) (pick (eqb (nad_of b) 0x00) (of_kind (kind_of (pcb_of b)) n most) (Err Nad)))
-    (Err Edc)
-
-pub framed_as : (b : List ℕ) (n most : ℕ) → n ≡ len_of b → tested_with b n most ≡ in_frame b most
-unfolding in_frame
-framed_as b n most e = ap (λ (k : ℕ). tested_with b k most) e
+use Rattle.t1_block.specs.Blocks.{lrc_of, inf_most, body_of, framed, written}
 
 -- nothing laid, nothing changed
 pub laid_nothing : (p : ℕ) (d : List ℕ) → laid [] p d ≡ d
 unfolding laid
 laid_nothing p d = picked (λ (x : List ℕ). x ≡ d) _ _ _ (λ e. put_nothing p d) (λ e. refl)
-
-pub too_long : (pcb : ℕ) (inf : List ℕ) → inf_most < length inf → written pcb inf ≡ []
-unfolding written
-too_long pcb inf h = pick_no _ _ _ (lt-leb _ _ h)
 
 pub not_too_long : (pcb : ℕ) (inf : List ℕ) → length inf ≤ inf_most → written pcb inf ≡ framed pcb inf
 unfolding written

@@ -9,13 +9,9 @@ use crate::{Kind, What};
 pub fn kind_of(pcb: u8) -> Option<Kind>
     ensures { result ≡ kind_of pcb }
 {
-    if pcb / 16 == 8 {
-        return Some(Kind::Ready(false));
-    }
-    if pcb / 16 == 9 {
-        return Some(Kind::Ready(true));
-    }
     match pcb {
+        0x80..=0x8F => Some(Kind::Ready(false)),
+        0x90..=0x9F => Some(Kind::Ready(true)),
         0x00 => Some(Kind::Information(false, false)),
         0x20 => Some(Kind::Information(false, true)),
         0x40 => Some(Kind::Information(true, false)),

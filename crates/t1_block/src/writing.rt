@@ -10,6 +10,7 @@ use slices::{lay, part};
 pub const LONGEST: usize = 258;
 
 // Answers how many bytes the block has; a field that is too long is not written, and nothing changes.
+#[tactic(auto, using(crate::proofs::Framing::laid_nothing), unfolding(crate::specs::Blocks::written, slices::specs::Choice::pick))]
 pub fn write(pcb: u8, inf: &[u8], out: &mut [u8; LONGEST]) -> usize
     ensures value { result ≡ length (written pcb inf.now) }
     ensures out_after { out.new ≡ laid (written pcb inf.now) 0 out.old }

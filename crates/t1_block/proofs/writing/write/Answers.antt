@@ -6,17 +6,8 @@ use native.Mathlib.Omega.{arith}
 use lib.ListN.{length, take, drop}
 use Rattle.slices.specs.Writing.{laid}
 use Rattle.t1_block.specs.Blocks.{lrc_of, body_of}
-use Rattle.t1_block.proofs.Framing.{laid_nothing, too_long, not_too_long, framed_length, body_there, with_lrc}
+use Rattle.t1_block.proofs.Framing.{not_too_long, framed_length, body_there, with_lrc}
 use Rattle.t1_block.proofs.writing.write.Goals as goal
-
-pub returns-then-n-gt254 : goal.returns-then-n-gt254
-returns-then-n-gt254 c =
-    let a = c.args in
-    let none = too_long a.pcb a.inf.now (omega arith) in
-    record {
-      value = sym (ap length none);
-      out_after = sym (ap (λ (x : List ℕ). laid x 0 a.out.now) none ∙ laid_nothing 0 a.out.now);
-    }
 
 pub returns : goal.returns
 returns c =
