@@ -1,7 +1,7 @@
 -- A level that announces anything was itself read inside the capture, so that no level ends more than four places past the
 -- capture's end; and going on by one level is one step of the walk.
 -- Assumes nothing.
-use mathlib.Core.Path.{◌≡◌, ap}
+use mathlib.Core.Path.{◌≡◌, sym, ap, subst, ◌∙◌}
 use mathlib.Core.Bool.{Bool, ◌||◌}
 use mathlib.Core.List.{List, [], ◌∷◌}
 use Rattle.std.proofs.Common.{Option}
@@ -48,6 +48,18 @@ past (a ∷ b ∷ s) h = omega arith
 
 pub first_reach : (s : List ℕ) → Reach s (get_or s 1 0) 2
 first_reach s = record { near = omega arith; inside = past s }
+
+-- so reaches the first level, and each level behind one that does
+abbrev pub Reaches : List ℕ → Level → Type 0
+Reaches s l = Reach s (value l.td) l.next
+
+pub first_reaches : (s : List ℕ) (t0 : ℕ) (l : Level) → t0 ≡ get_or s 1 0 → l ≡ level_of s t0 2 → Reaches s l
+first_reaches s t0 l e made = subst (Reaches s) (sym (made ∙ ap (λ (y : ℕ). level_of s y 2) e)) (level_reach s _ 2 (first_reach s))
+
+pub next_reaches : (s : List ℕ) (before l : Level) (td : ℕ)
+    → Reaches s before → td ≡ value before.td → l ≡ level_of s td before.next → Reaches s l
+next_reaches s before l td r e made =
+    subst (Reaches s) (sym (made ∙ ap (λ (y : ℕ). level_of s y before.next) e)) (level_reach s _ _ r)
 
 -- one level on
 pub walked_on : (s : List ℕ) (l : Level) (other : Bool) (n i : ℕ) → i < n

@@ -5,11 +5,11 @@ use mathlib.Core.Path.{◌≡◌}
 use Prim.Native.Nat.{◌-◌}
 use lib.ListN.{length}
 use Rattle.atr_characters.specs.Data.{data_of}
-use Rattle.atr_characters.specs.Levels.{value, walked, interface_of}
-use Rattle.atr_characters.proofs.Reach.{Reach}
+use Rattle.atr_characters.specs.Levels.{walked, interface_of}
+use Rattle.atr_characters.proofs.Reach.{Reaches}
 use Rattle.atr_characters.proofs.walk.Given as goal
 
 abbrev pub invariant-loop : goal.invariant-loop
 invariant-loop l =
     let s = data_of l.inverse l.capture in
-    Reach s (value l.l.td) l.l.next × (walked (length s - l.index) s l.l l.other ≡ interface_of s)
+    Reaches s l.l × (walked (length s - l.index) s l.l l.other ≡ interface_of s)
