@@ -1,6 +1,7 @@
 -- One entry handed in: the three refusals in their order, and what an accepted entry changes (02, R-11).
 -- Assumes nothing.
-use Rattle.std.specs.Prelude.{Result, Ok, Err, Bool, true, false, not, List, [], ◌∷◌, ℕ, zero, suc, min, ◌+◌, ◌*◌, ◌/◌, eqb, leb, ltb, length, take, drop}
+use Rattle.std.specs.Prelude.{Bool, true, false, not, Result, Ok, Err, List, [], ◌∷◌, length, take, drop}
+use Rattle.std.specs.Prelude.{ℕ, zero, suc, min, ◌+◌, ◌*◌, ◌/◌, eqb, leb, ltb}
 use Rattle.slices.specs.Choice.{pick}
 use Rattle.slices.specs.Writing.{put}
 use Rattle.tape_read.specs.Entries.{block_size}

@@ -25,7 +25,8 @@ unfolding is_verdict
 verdicts = (refl, refl, refl, refl)
 
 -- the 4,096th entry and the next, with room for more; the last block of a room, and one byte too few for it
-pub limits : (reply_to [] 4095 (4097 * block_size) (made 7 1 0 0) ≡ Ok tt) × (reply_to [] 4096 (4097 * block_size) (made 7 1 0 0) ≡ Err Full)
+pub limits : (reply_to [] 4095 (4097 * block_size) (made 7 1 0 0) ≡ Ok tt)
+    × (reply_to [] 4096 (4097 * block_size) (made 7 1 0 0) ≡ Err Full)
     × (reply_to [] 1 1024 (made 7 1 0 0) ≡ Ok tt) × (reply_to [] 1 1023 (made 7 1 0 0) ≡ Err Full)
 unfolding reply_to entered is_verdict pick
 limits = (refl, refl, refl, refl)
