@@ -11,8 +11,8 @@ ghost use Rattle.quick_ask.specs.Standing.{situation_in};
 
 use crate::ending::end;
 use answer_cryptogram as cryptogram;
-use decide_cryptogram::{Cryptogram, Given, Request};
-use decide_requests::reply::{HostHeard, HostReply, code_in, reply_of, response_code};
+use decide_cryptogram::{Cryptogram, Request};
+use decide_requests::reply::{HostReply, code_in, reply_of, response_code};
 use decide_requests::requests::second_request;
 use decide_tvr::results::tsi_after_first_answer;
 use dol_fill::count::{sum, unsupplied};
@@ -26,16 +26,16 @@ use start_fields::fields;
 use verdict::Finding;
 use words::{Word, is_allowed};
 
-fn by_second(given: Given) -> u8
+fn by_second(given: Option<Cryptogram>) -> u8
     ensures { result ≡ by_second given }
 {
     match given {
-        Given::Of(cryptogram) => match cryptogram {
+        Some(cryptogram) => match cryptogram {
             Cryptogram::Tc => 1,
             Cryptogram::Aac => 2,
             Cryptogram::Arqc => 2,
         },
-        Given::Reserved => 2,
+        None => 2,
     }
 }
 
@@ -111,10 +111,7 @@ fn second(
 fn reply_made(h: &[u8]) -> HostReply
     ensures { result ≡ reply_made (reply_of h.now) }
 {
-    match reply_of(h) {
-        HostHeard::Said(reply) => reply,
-        HostHeard::Nothing => HostReply::Unable,
-    }
+    reply_of(h).unwrap_or(HostReply::Unable)
 }
 
 // Where the issuer's reply is due.
@@ -190,7 +187,7 @@ fn online(
 fn by_first(
     tape: &[u8],
     k: usize,
-    given: Given,
+    given: Option<Cryptogram>,
     start: &[u8],
     told: &[u8],
     profile: [u8; 2],
@@ -203,12 +200,12 @@ fn by_first(
         ≡ found_from (by_first given (situation_in start.now told.now profile tvr tsi)) k zeros tape.now }
 {
     match given {
-        Given::Of(cryptogram) => match cryptogram {
+        Some(cryptogram) => match cryptogram {
             Cryptogram::Tc => decided(tape, k, 1, 0, tvr, tsi, zeros),
             Cryptogram::Aac => decided(tape, k, 2, 0, tvr, tsi, zeros),
             Cryptogram::Arqc => online(tape, k, start, told, profile, tvr, tsi, zeros),
         },
-        Given::Reserved => decided(tape, k, 2, 0, tvr, tsi, zeros),
+        None => decided(tape, k, 2, 0, tvr, tsi, zeros),
     }
 }
 

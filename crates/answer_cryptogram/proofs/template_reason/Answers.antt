@@ -12,7 +12,7 @@ use Rattle.slices.proofs.Lines.{line_yes, line_no}
 use Rattle.tlv_list.specs.Objects.{between}
 use Rattle.tlv_list.specs.Place.{data_field}
 use Rattle.decide_cryptogram.specs.Cryptograms.{allowed_by}
-use Rattle.decide_cryptogram.specs.declared.Given.{Given}
+use Rattle.decide_cryptogram.specs.Cryptograms.{Given}
 use Rattle.answer_common.specs.Answer.{frame}
 use Rattle.answer_common.specs.Forms.{template, both_forms, lacks}
 use Rattle.answer_common.specs.Named.{direct, any_times}
