@@ -7,8 +7,8 @@ use lib.ListN.{replicate}
 use Rattle.slices.specs.Choice.{pick}
 use Rattle.decide_cryptogram.specs.Cryptograms.{given_by, allowed_by}
 use Rattle.decide_cryptogram.specs.declared.Cryptogram.TheVariants.{Aac, Tc, Arqc}
-use Rattle.decide_cryptogram.specs.declared.Given.{Given}
-use Rattle.decide_cryptogram.specs.declared.Given.TheVariants.{Of, Reserved}
+use Rattle.decide_cryptogram.specs.Cryptograms.{Given}
+use Rattle.std.specs.Prelude.{Some, None}
 use Rattle.decide_cryptogram.specs.declared.Request.{Request}
 use Rattle.decide_cryptogram.specs.declared.Request.TheVariants.{First, Second}
 use Rattle.answer_common.specs.Forms.{lacks}
@@ -108,6 +108,6 @@ unfolding judge
 read a = cryptogram_of a
 
 types : map (λ b. read (good (one 0x77 (counter ++ information b ++ cryptogram)))) (0x3F ∷ 0x40 ∷ 0x8A ∷ 0xFF ∷ [])
-    ≡ Of Aac ∷ Of Tc ∷ Of Arqc ∷ Reserved ∷ []
+    ≡ Some Aac ∷ Some Tc ∷ Some Arqc ∷ None ∷ []
 unfolding read
 types = refl

@@ -18,7 +18,7 @@ use Rattle.tlv_list.specs.Lookup.{Lookup, found_value, members_of}
 use Rattle.tlv_list.specs.declared.Found.{Found}
 use Rattle.tlv_list.specs.declared.Members.{Members}
 use Rattle.decide_cryptogram.specs.Cryptograms.{given_by}
-use Rattle.decide_cryptogram.specs.declared.Given.{Given}
+use Rattle.decide_cryptogram.specs.Cryptograms.{Given}
 use Rattle.answer_common.specs.Answer.{is_one, inside, frame}
 use Rattle.answer_common.specs.Forms.{template, joined, both_forms, lacks}
 use Rattle.answer_common.specs.Named.{among, direct, times, found_times, value_of, wrong_value, any_times, any_wrong}

@@ -8,7 +8,7 @@ use lib.ListN.{take, get_or}
 use Rattle.slices.specs.Choice.{pick}
 use Rattle.slices.proofs.Choice.{pick_ap}
 use Rattle.decide_cryptogram.specs.Cryptograms.{given_by}
-use Rattle.decide_cryptogram.specs.declared.Given.{Given}
+use Rattle.decide_cryptogram.specs.Cryptograms.{Given}
 use Rattle.answer_common.specs.Answer.{is_one, inside}
 use Rattle.answer_common.specs.Forms.{template, joined, both_forms}
 use Rattle.answer_common.specs.Named.{direct, value_of}

@@ -9,7 +9,7 @@ use Rattle.answer_common.specs.Answer.{is_one, inside, frame}
 use Rattle.answer_common.specs.Named.{direct, value_of, any_twice, any_wrong}
 use Rattle.answer_common.specs.Forms.{template, joined, both_forms, lacks, read_form}
 use Rattle.decide_cryptogram.specs.Cryptograms.{given_by}
-use Rattle.decide_cryptogram.specs.declared.Given.{Given}
+use Rattle.decide_cryptogram.specs.Cryptograms.{Given}
 
 -- those that must be there, and all that are named
 abbrev pub mandatory_names : List ℕ

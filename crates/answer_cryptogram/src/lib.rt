@@ -17,7 +17,7 @@ ghost use Rattle.answer_cryptogram.specs.Cryptogram.{information_of, cryptogram_
 use answer_common::answer::{Single, inside, is_one, single_of};
 use answer_common::forms::{JOINED, TEMPLATE, read_form};
 use answer_common::named::{any_times, is_wrong, value_in_checked, value_of};
-use decide_cryptogram::{Given, Request, allowed, given_by};
+use decide_cryptogram::{Cryptogram, Request, allowed, given_by};
 use numbers::{FOR_CONTENT, FOR_CRYPTOGRAM, FOR_MISSING, FOR_OBJECT, FOR_TWICE};
 use slices::byte;
 use tlv_list::Found;
@@ -35,14 +35,14 @@ fn information(answer: &[u8]) -> &[u8]
     }
 }
 
-pub fn cryptogram(answer: &[u8]) -> Given
+pub fn cryptogram(answer: &[u8]) -> Option<Cryptogram>
     ensures { result ≡ cryptogram_of answer.now }
 {
     given_by(byte(information(answer), 0) as u8)
 }
 
 // The same by place, for an answer that `cryptogram_reason` has nothing against: it is not checked again.
-pub fn cryptogram_read(answer: &[u8]) -> Given
+pub fn cryptogram_read(answer: &[u8]) -> Option<Cryptogram>
     ensures { result ≡ cryptogram_read answer.now }
 {
     given_by(byte(read_form(answer, 0, 1, 0x9F27), 0) as u8)

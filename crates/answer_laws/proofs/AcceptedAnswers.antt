@@ -30,7 +30,7 @@ use Rattle.answer_select.specs.Select.{select_tag, select_names, inner_names, in
 use Rattle.answer_select.specs.Select.{name_wrong, select_twice, select_wrong, select_lines, select_reason}
 use Rattle.answer_gpo.specs.Options.{option_names, profile_of, locator_of, options_wrong, options_lines, options_reason}
 use Rattle.answer_record.specs.Records.{again, any_again, record_twice, record_lines, record_reason, value_in, incomplete, complete_reason}
-use Rattle.decide_cryptogram.specs.declared.Given.{Given}
+use Rattle.decide_cryptogram.specs.Cryptograms.{Given}
 use Rattle.answer_cryptogram.specs.Cryptogram.{cryptogram_of, cryptogram_lines, cryptogram_reason}
 
 -- the first lines pass, and so do the others

@@ -16,7 +16,7 @@ use Rattle.slices.specs.Tables.{any_of}
 use Rattle.answer_select.specs.Select.{select_lines, select_reason}
 use Rattle.answer_gpo.specs.Options.{options_lines, options_reason}
 use Rattle.answer_record.specs.Records.{record_lines, record_reason, complete_reason, after_records}
-use Rattle.decide_cryptogram.specs.declared.Given.{Given}
+use Rattle.decide_cryptogram.specs.Cryptograms.{Given}
 use Rattle.answer_cryptogram.specs.Cryptogram.{cryptogram_lines, cryptogram_reason}
 
 small : (lines : List (Bool × ℕ)) → any_of (map (λ l. leb 256 l.1) lines) ≡ false → first_of lines < 256

@@ -26,7 +26,7 @@ use Rattle.answer_common.proofs.Accepted.{or_clear}
 use Rattle.answer_common.proofs.Present.{of_size, there_so, may_be_so, must_be, may_be, none_twice, none_wrong, none_missing, by_name}
 use Rattle.answer_common.specs.Forms.{template, joined, both_forms, lacks}
 use Rattle.answer_gpo.specs.Options.{option_names, locator_of, options_wrong, options_lines, options_reason}
-use Rattle.decide_cryptogram.specs.declared.Given.{Given}
+use Rattle.decide_cryptogram.specs.Cryptograms.{Given}
 use Rattle.answer_cryptogram.specs.Cryptogram.{mandatory_names, cryptogram_names}
 use Rattle.answer_cryptogram.specs.Cryptogram.{cryptogram_wrong, cryptogram_lines, cryptogram_reason}
 use Rattle.answer_common.proofs.Absent.{not_direct, one_form}

@@ -8,7 +8,7 @@ use Rattle.answer_common.specs.Named.{direct}
 use Rattle.answer_common.specs.Right.{Framed, There, MayBe, Sized}
 use Rattle.answer_common.specs.Forms.{template, joined, both_forms}
 use Rattle.answer_gpo.specs.Options.{locator_of}
-use Rattle.decide_cryptogram.specs.declared.Given.{Given}
+use Rattle.decide_cryptogram.specs.Cryptograms.{Given}
 use Rattle.answer_cryptogram.specs.Cryptogram.{cryptogram_of}
 
 -- GPO: 77 with 82 and 94, or 80 with both values joined

@@ -1,6 +1,6 @@
 // Answers to GENERATE AC.
 use answer_cryptogram::cryptogram_reason;
-use decide_cryptogram::{Cryptogram, Given, Request};
+use decide_cryptogram::{Cryptogram, Request};
 use slices::byte;
 use std::io;
 use text_hex::unhex;
@@ -36,13 +36,13 @@ fn print_answer(rt: &impl Print, request: Request, answer: &[u8]) -> io::Result<
     Ok(())
 }
 
-fn print_type(rt: &impl Print, given: Given) -> io::Result<()> {
+fn print_type(rt: &impl Print, given: Option<Cryptogram>) -> io::Result<()> {
     match given {
-        Given::Of(cryptogram) => match cryptogram {
+        Some(cryptogram) => match cryptogram {
             Cryptogram::Aac => text_print::text(rt, b" AAC"),
             Cryptogram::Tc => text_print::text(rt, b" TC"),
             Cryptogram::Arqc => text_print::text(rt, b" ARQC"),
         },
-        Given::Reserved => text_print::text(rt, b" ?"),
+        None => text_print::text(rt, b" ?"),
     }
 }

@@ -26,7 +26,7 @@ use Rattle.answer_common.proofs.Alike.{times_alike, wrong_alike}
 use Rattle.answer_common.proofs.Limits.{between_in, between_below, between_above}
 use Rattle.answer_common.proofs.Names.{listed_more}
 use Rattle.decide_cryptogram.specs.Cryptograms.{given_by}
-use Rattle.decide_cryptogram.specs.declared.Given.{Given}
+use Rattle.decide_cryptogram.specs.Cryptograms.{Given}
 use Rattle.answer_cryptogram.specs.Cryptogram.{mandatory_names, cryptogram_names, information_of, cryptogram_of}
 use Rattle.answer_cryptogram.specs.Cryptogram.{cryptogram_wrong, cryptogram_lines, cryptogram_reason}
 use Rattle.card_seen.specs.Seen.{names_at, expected_at, objects_at, named_at, generation, if_left, apart_cryptogram, in_forms}

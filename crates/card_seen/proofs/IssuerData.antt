@@ -15,7 +15,7 @@ use Rattle.answer_common.specs.Content.{meets, rules, rule_for, right_value}
 use Rattle.answer_common.specs.Named.{listed, times, value_of, wrong_value, any_times, any_twice, any_missing, any_wrong}
 use Rattle.answer_cryptogram.specs.Cryptogram.{mandatory_names, cryptogram_names}
 use Rattle.decide_cryptogram.specs.Cryptograms.{given_by, allowed_by}
-use Rattle.decide_cryptogram.specs.declared.Given.{Given}
+use Rattle.decide_cryptogram.specs.Cryptograms.{Given}
 use Rattle.decide_cryptogram.specs.declared.Request.TheVariants.{First, Second}
 use Rattle.rulebook.specs.Phase.{Asked, selecting, optioning, reading as reading_record, first, second, decided}
 use Rattle.rulebook.specs.Turn.{goes_on, answered, by_first, by_second, turn}

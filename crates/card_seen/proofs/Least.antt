@@ -5,7 +5,7 @@ use mathlib.Core.List.{List}
 use Prim.Native.Nat.{ℕ}
 use Rattle.answer_common.specs.Content.{names_for}
 use Rattle.answer_record.specs.Records.{named_in}
-use Rattle.decide_cryptogram.specs.declared.Given.{Given}
+use Rattle.decide_cryptogram.specs.Cryptograms.{Given}
 use Rattle.facts.specs.Facts.{Facts, or_else}
 use Rattle.rulebook.specs.Situation.{Situation}
 use Rattle.rulebook.specs.Phase.{Asked, selecting, optioning, reading, first, second, Phase, asks, decided}

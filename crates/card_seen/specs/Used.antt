@@ -9,7 +9,7 @@ use Rattle.answer_select.specs.Select.{pdol_of}
 use Rattle.answer_gpo.specs.Options.{profile_of, locator_of}
 use Rattle.answer_record.specs.Records.{named_in}
 use Rattle.answer_cryptogram.specs.Cryptogram.{cryptogram_of}
-use Rattle.decide_cryptogram.specs.declared.Given.{Given}
+use Rattle.decide_cryptogram.specs.Cryptograms.{Given}
 use Rattle.facts.specs.Facts.{Facts}
 use Rattle.rulebook.specs.Phase.{Asked, selecting, optioning, reading, first, second}
 

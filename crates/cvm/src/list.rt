@@ -22,10 +22,7 @@ pub fn limit(s: &[u8]) -> u64
 pub fn rules_in(list: &[u8]) -> usize
     ensures { result ≡ rules_in list.now }
 {
-    if list.len() < RULES_AT {
-        return 0;
-    }
-    (list.len() - RULES_AT) / 2
+    list.len().saturating_sub(RULES_AT) / 2
 }
 
 // Whether a payload has so many bytes from 0 to 4, and no more.

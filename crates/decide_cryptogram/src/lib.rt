@@ -12,13 +12,6 @@ pub enum Cryptogram {
     Arqc,
 }
 
-// What 9F27 says: a cryptogram, or the type that stands for none.
-#[derive(Clone, Copy)]
-pub enum Given {
-    Of(Cryptogram),
-    Reserved,
-}
-
 // The first GENERATE AC or the second, and what it asks for.
 #[derive(Clone, Copy)]
 pub enum Request {
@@ -37,14 +30,15 @@ pub fn p1(asked: Cryptogram) -> u8
     }
 }
 
-pub fn given_by(cid: u8) -> Given
+// What 9F27 says: a cryptogram, or the type that stands for none.
+pub fn given_by(cid: u8) -> Option<Cryptogram>
     ensures { result ≡ given_by cid }
 {
     match cid / 64 {
-        0 => Given::Of(Cryptogram::Aac),
-        1 => Given::Of(Cryptogram::Tc),
-        2 => Given::Of(Cryptogram::Arqc),
-        _ => Given::Reserved,
+        0 => Some(Cryptogram::Aac),
+        1 => Some(Cryptogram::Tc),
+        2 => Some(Cryptogram::Arqc),
+        _ => None,
     }
 }
 
@@ -80,14 +74,14 @@ fn answers_second(asked: Cryptogram, answer: Cryptogram) -> bool
     }
 }
 
-pub fn allowed(request: Request, given: Given) -> bool
+pub fn allowed(request: Request, given: Option<Cryptogram>) -> bool
     ensures { result ≡ allowed_by request given }
 {
     match given {
-        Given::Of(answer) => match request {
+        Some(answer) => match request {
             Request::First(asked) => answers_first(asked, answer),
             Request::Second(asked) => answers_second(asked, answer),
         },
-        Given::Reserved => false,
+        None => false,
     }
 }

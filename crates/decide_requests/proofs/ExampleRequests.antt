@@ -11,15 +11,14 @@ use Rattle.start_fields.specs.Bare.{bare}
 use Rattle.start_fields.specs.Reading.{Terminal}
 use Rattle.decide_requests.specs.declared.reply.HostReply.{HostReply}
 use Rattle.decide_requests.specs.declared.reply.HostReply.TheVariants.{Approve, Decline, Unable}
-use Rattle.decide_requests.specs.declared.reply.HostHeard.{HostHeard}
-use Rattle.decide_requests.specs.declared.reply.HostHeard.TheVariants.{Said, Nothing}
+use Rattle.std.specs.Prelude.{Some, None}
 use Rattle.decide_cryptogram.specs.declared.Cryptogram.{Cryptogram}
 use Rattle.decide_cryptogram.specs.declared.Cryptogram.TheVariants.{Aac, Tc, Arqc}
 use Rattle.decide_tvr.specs.Bits.{joined, meet}
 use Rattle.slices.specs.Tables.{beside}
 use Rattle.facts.specs.Facts.{Facts}
 use Rattle.decide_requests.specs.Requests.{issuer_code, code_match, by_type, first_request, when_unable, second_request}
-use Rattle.decide_requests.specs.Replies.{code_in, said_by, reply_of, response_code}
+use Rattle.decide_requests.specs.Replies.{HostHeard, code_in, said_by, reply_of, response_code}
 
 -- ---- requests
 
@@ -86,11 +85,11 @@ seconds_right = refl
 -- bytes, and what they say
 abbrev replies : List (List ℕ × HostHeard)
 replies =
-    (1 ∷ 0 ∷ 0 ∷ [], Said Approve) ∷ (1 ∷ 0xFF ∷ 0x30 ∷ [], Said Approve)
-    ∷ (2 ∷ 0 ∷ 0 ∷ [], Said Decline) ∷ (2 ∷ 0x30 ∷ 0x35 ∷ [], Said Decline)
-    ∷ (3 ∷ 0 ∷ 0 ∷ [], Said Unable) ∷ (3 ∷ 1 ∷ 0 ∷ [], Nothing) ∷ (3 ∷ 0 ∷ 1 ∷ [], Nothing)
-    ∷ (0 ∷ 0 ∷ 0 ∷ [], Nothing) ∷ (4 ∷ 0 ∷ 0 ∷ [], Nothing)
-    ∷ ([], Nothing) ∷ (1 ∷ 0 ∷ [], Nothing) ∷ (1 ∷ 0 ∷ 0 ∷ 0 ∷ [], Nothing)
+    (1 ∷ 0 ∷ 0 ∷ [], Some Approve) ∷ (1 ∷ 0xFF ∷ 0x30 ∷ [], Some Approve)
+    ∷ (2 ∷ 0 ∷ 0 ∷ [], Some Decline) ∷ (2 ∷ 0x30 ∷ 0x35 ∷ [], Some Decline)
+    ∷ (3 ∷ 0 ∷ 0 ∷ [], Some Unable) ∷ (3 ∷ 1 ∷ 0 ∷ [], None) ∷ (3 ∷ 0 ∷ 1 ∷ [], None)
+    ∷ (0 ∷ 0 ∷ 0 ∷ [], None) ∷ (4 ∷ 0 ∷ 0 ∷ [], None)
+    ∷ ([], None) ∷ (1 ∷ 0 ∷ [], None) ∷ (1 ∷ 0 ∷ 0 ∷ 0 ∷ [], None)
     ∷ []
 
 replies_right : map (λ row. reply_of row.0) replies ≡ map (λ row. row.1) replies

@@ -12,46 +12,37 @@ pub enum HostReply {
     Unable,
 }
 
-// What three bytes say: a reply, or nothing that is one.
-#[derive(Clone, Copy)]
-pub enum HostHeard {
-    Said(HostReply),
-    Nothing,
-}
-
 fn zero_code(s: &[u8]) -> bool
     ensures { result ≡ zeros_only (code_in s.now) }
 {
     slices::byte(s, 1) == 0 && slices::byte(s, 2) == 0
 }
 
-pub fn reply_of(s: &[u8]) -> HostHeard
+// What three bytes say: a reply, or nothing that is one.
+pub fn reply_of(s: &[u8]) -> Option<HostReply>
     ensures { result ≡ reply_of s.now }
 {
     if s.len() != 3 {
-        return HostHeard::Nothing;
+        return None;
     }
     match slices::byte(s, 0) {
-        1 => HostHeard::Said(HostReply::Approve),
-        2 => HostHeard::Said(HostReply::Decline),
+        1 => Some(HostReply::Approve),
+        2 => Some(HostReply::Decline),
         3 => {
             if zero_code(s) {
-                HostHeard::Said(HostReply::Unable)
+                Some(HostReply::Unable)
             } else {
-                HostHeard::Nothing
+                None
             }
         }
-        _ => HostHeard::Nothing,
+        _ => None,
     }
 }
 
 pub fn is_reply(s: &[u8]) -> bool
     ensures { result ≡ is_reply (reply_of s.now) }
 {
-    match reply_of(s) {
-        HostHeard::Said(_) => true,
-        HostHeard::Nothing => false,
-    }
+    reply_of(s).is_some()
 }
 
 // The response code that came with a reply.

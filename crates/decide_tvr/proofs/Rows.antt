@@ -3,12 +3,11 @@
 use mathlib.Core.Path.{◌≡◌, refl, sym, ap, ap₂, ◌∙◌}
 use mathlib.Core.Bool.{Bool, true, false, ◌&&◌, ◌||◌, or-true, or-false}
 use mathlib.Core.List.{List, [], ◌∷◌}
-use Prim.Native.Nat.{ℕ, zero, suc, ◌+◌, ◌/◌, ◌%◌, ◌^◌}
+use Prim.Native.Nat.{ℕ, zero, suc, ◌/◌, ◌%◌, ◌^◌}
 use native.Mathlib.Omega.{arith}
 use lib.Bits.{bit_and, bit_or, or_self, or_zero_l, or_zero_r, or_shr, or_mod}
 use lib.Dec.{eqb}
-use lib.ListN.{length, drop, get_or, drop_of_length-le}
-use lib.Seq.{drop-cons}
+use lib.ListN.{length, get_or}
 use borrow.Author.Tests.{eq-eqb, ne_eqb, eqb-true, eqb-false}
 use Rattle.slices.specs.Choice.{pick}
 use Rattle.decide_tvr.specs.Bits.{joined, meet}
@@ -63,18 +62,6 @@ stays_at a b i e = joined_at a b i ∙ (ap (bit_or (get_or a i 0)) e ∙ or_zero
 pub bit_stays : (k : ℕ) (a b : List ℕ) (i : ℕ) → get_or b i 0 / 2 ^ k % 2 ≡ 0 → get_or (joined a b) i 0 / 2 ^ k % 2
     ≡ get_or a i 0 / 2 ^ k % 2
 bit_stays k a b i e = let n = get_or a i 0 / 2 ^ k % 2 in bit_joined k a b i ∙ (ap (bit_or n) e ∙ or_zero_r n)
-
--- n joined bytes of two rows from a place on
-abbrev pub listed : ℕ → ℕ → List ℕ → List ℕ → List ℕ
-listed zero i a b = []
-listed (suc n) i a b = bit_or (get_or a i 0) (get_or b i 0) ∷ listed n (suc i) a b
-
-pub joined_listed : (n i : ℕ) (a b : List ℕ) → length a ≡ i + n → length b ≡ i + n → joined (drop i a) (drop i b) ≡ listed n i a b
-unfolding joined
-joined_listed zero i a b p q = ap₂ joined (drop_of_length-le a {i = i} (omega arith)) (drop_of_length-le b {i = i} (omega arith))
-joined_listed (suc n) i a b p q =
-    ap₂ joined (drop-cons a i 0 (omega arith)) (drop-cons b i 0 (omega arith))
-    ∙ ap (λ (l : List ℕ). bit_or (get_or a i 0) (get_or b i 0) ∷ l) (joined_listed n (suc i) a b (omega arith) (omega arith))
 
 -- two numbers share no bit with a third where their `or` shares none
 apart : (x y z : ℕ) → eqb (bit_and (bit_or x y) z) 0 ≡ (eqb (bit_and x z) 0 && eqb (bit_and y z) 0)

@@ -1,4 +1,4 @@
-// Bytes compared as rows of bits.
+// Rows of bits, compared and joined.
 ghost use Rattle.std.specs.Prelude.{◌≡◌, ◌≤◌};
 ghost use Rattle.decide_tvr.specs.Bits.{joined, meet, flag as flag_of};
 
@@ -15,21 +15,13 @@ pub fn in_both(a: &[u8], b: &[u8]) -> bool
     a.iter().zip(b).any(|(x, y)| *x & *y != 0)
 }
 
-// Two rows of five bytes, bit by bit.
-pub fn join5(a: [u8; 5], b: [u8; 5]) -> [u8; 5]
-    ensures { result ≡ joined a b }
+// Two rows of bytes, bit by bit.
+pub fn join<const N: usize>(a: [u8; N], b: [u8; N]) -> [u8; N]
+    ensures { result ≡ joined a.entry b.entry }
 {
-    [
-        a[0] | b[0],
-        a[1] | b[1],
-        a[2] | b[2],
-        a[3] | b[3],
-        a[4] | b[4],
-    ]
-}
-
-pub fn join2(a: [u8; 2], b: [u8; 2]) -> [u8; 2]
-    ensures { result ≡ joined a b }
-{
-    [a[0] | b[0], a[1] | b[1]]
+    let mut all = a;
+    for (i, bits) in b.iter().enumerate() {
+        all[i] |= *bits;
+    }
+    all
 }

@@ -44,13 +44,13 @@ fn at_floor_limit(start: &[u8]) -> bool
     fields::amount(start) >= fields::floor_limit(start)
 }
 
+#[tactic(auto, unfolding(crate::specs::Results::drawn, slices::specs::Tests::every, slices::specs::Choice::pick))]
 fn drawn(start: &[u8]) -> bool
     ensures { result ≡ drawn_of (reading_of start.now) }
 {
-    if fields::kind(start) != 2 {
-        return false;
-    }
-    fields::amount(start) < fields::floor_limit(start) && selected(start)
+    fields::kind(start) == 2
+        && fields::amount(start) < fields::floor_limit(start)
+        && selected(start)
 }
 
 fn restrictions(start: &[u8], told: &[u8]) -> u8
@@ -76,18 +76,18 @@ pub fn tvr_after_records(start: &[u8], aip: [u8; 2], told: &[u8], tvr: [u8; 5]) 
     ensures { result ≡ tvr_after_records (reading_of start.now) aip (told_in told.now) tvr }
 {
     let set = [0x80, restrictions(start, told), 0, risks(start, aip), 0];
-    bits::join5(tvr, set)
+    bits::join(tvr, set)
 }
 
 pub fn tsi_after_records(aip: [u8; 2], tsi: [u8; 2]) -> [u8; 2]
     ensures { result ≡ tsi_after_records aip tsi }
 {
     let set = [bits::flag(risk_managed(aip), 0x08), 0];
-    bits::join2(tsi, set)
+    bits::join(tsi, set)
 }
 
 pub fn tsi_after_first_answer(tsi: [u8; 2]) -> [u8; 2]
     ensures { result ≡ tsi_after_first_answer tsi }
 {
-    bits::join2(tsi, [0x20, 0])
+    bits::join(tsi, [0x20, 0])
 }

@@ -23,13 +23,11 @@ fn is_supported(aip: [u8; 2]) -> bool
 }
 
 // Given START, the AIP and the slots of what the records told.
+#[tactic(auto, unfolding(crate::specs::Verification::results_due, slices::specs::Tests::every, slices::specs::Choice::pick))]
 pub fn is_due(start: &[u8], aip: [u8; 2], told: &[u8]) -> bool
     ensures { result ≡ results_due (reading_of start.now) aip (told_in told.now) }
 {
-    if !fields::has_capabilities(start) {
-        return false;
-    }
-    is_supported(aip) && has(told, 0x8E)
+    fields::has_capabilities(start) && is_supported(aip) && has(told, 0x8E)
 }
 
 // How many results.
@@ -80,11 +78,11 @@ pub fn tvr_after_results(start: &[u8], told: &[u8], results: &[u8], tvr: [u8; 5]
         0,
         0,
     ];
-    bits::join5(tvr, set)
+    bits::join(tvr, set)
 }
 
 pub fn tsi_after_results(tsi: [u8; 2]) -> [u8; 2]
     ensures { result ≡ tsi_after_results tsi }
 {
-    bits::join2(tsi, [0x40, 0])
+    bits::join(tsi, [0x40, 0])
 }

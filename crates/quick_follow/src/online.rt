@@ -11,8 +11,8 @@ ghost use Rattle.quick_follow.specs.Standing.{situation_of};
 use crate::ending::end;
 use crate::standing::{Place, Standing};
 use answer_cryptogram as cryptogram;
-use decide_cryptogram::{Cryptogram, Given, Request};
-use decide_requests::reply::{HostHeard, HostReply, code_in, reply_of, response_code};
+use decide_cryptogram::{Cryptogram, Request};
+use decide_requests::reply::{HostReply, code_in, reply_of, response_code};
 use decide_requests::requests::second_request;
 use decide_tvr::results::tsi_after_first_answer;
 use dol_fill::count::{sum, unsupplied};
@@ -27,14 +27,14 @@ use verdict::Finding;
 use words::{Word, is_allowed};
 
 #[tactic(auto, unfolding(rulebook::specs::Turn::by_second))]
-fn by_second(given: Given) -> u8
+fn by_second(given: Option<Cryptogram>) -> u8
     ensures { result ≡ by_second given }
 {
     match given {
-        Given::Of(Cryptogram::Tc) => APPROVED,
-        Given::Of(Cryptogram::Aac) => DECLINED,
-        Given::Of(Cryptogram::Arqc) => DECLINED,
-        Given::Reserved => DECLINED,
+        Some(Cryptogram::Tc) => APPROVED,
+        Some(Cryptogram::Aac) => DECLINED,
+        Some(Cryptogram::Arqc) => DECLINED,
+        None => DECLINED,
     }
 }
 
@@ -83,10 +83,7 @@ fn second(tape: &[u8], at: Place, s: Standing, reply: HostReply, code: [u8; 2]) 
 fn reply_made(h: &[u8]) -> HostReply
     ensures { result ≡ reply_made (reply_of h.now) }
 {
-    match reply_of(h) {
-        HostHeard::Said(reply) => reply,
-        HostHeard::Nothing => HostReply::Unable,
-    }
+    reply_of(h).unwrap_or(HostReply::Unable)
 }
 
 // Where the issuer's reply is due.
@@ -120,16 +117,16 @@ fn online(tape: &[u8], at: Place, s: Standing) -> Finding
     host(tape, at, s)
 }
 
-fn by_first(tape: &[u8], at: Place, given: Given, s: Standing) -> Finding
+fn by_first(tape: &[u8], at: Place, given: Option<Cryptogram>, s: Standing) -> Finding
     ensures { result ≡ found_from (by_first given (situation_of s.entry)) at.k at.zeros tape.now }
 {
     match given {
-        Given::Of(cryptogram) => match cryptogram {
+        Some(cryptogram) => match cryptogram {
             Cryptogram::Tc => decided(tape, at.k, APPROVED, 0, s.tvr, s.tsi, at.zeros),
             Cryptogram::Aac => decided(tape, at.k, DECLINED, 0, s.tvr, s.tsi, at.zeros),
             Cryptogram::Arqc => online(tape, at, s),
         },
-        Given::Reserved => decided(tape, at.k, DECLINED, 0, s.tvr, s.tsi, at.zeros),
+        None => decided(tape, at.k, DECLINED, 0, s.tvr, s.tsi, at.zeros),
     }
 }
 

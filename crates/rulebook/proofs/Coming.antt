@@ -16,8 +16,8 @@ use Rattle.answer_afl.proofs.Counting.{read_length}
 use Rattle.answer_gpo.specs.Options.{profile_of, locator_of}
 use Rattle.answer_record.specs.Records.{after_records}
 use Rattle.decide_cryptogram.specs.declared.Cryptogram.TheVariants.{Aac, Tc, Arqc}
-use Rattle.decide_cryptogram.specs.declared.Given.{Given}
-use Rattle.decide_cryptogram.specs.declared.Given.TheVariants.{Of, Reserved}
+use Rattle.decide_cryptogram.specs.Cryptograms.{Given}
+use Rattle.std.specs.Prelude.{Some, None}
 use Rattle.answer_cryptogram.specs.Cryptogram.{cryptogram_of}
 use Rattle.answer_laws.proofs.AcceptedAnswers.{options_entries}
 use Rattle.decide_verification.specs.Verification.{results_due}
@@ -92,10 +92,10 @@ module _ (s : Situation) where
 
   by_first_few : (given : Given) → to_come (by_first given s) ≤ 4
   unfolding by_first settled to_come
-  by_first_few (Of Tc) = omega arith
-  by_first_few (Of Aac) = omega arith
-  by_first_few (Of Arqc) = online_few
-  by_first_few Reserved = omega arith
+  by_first_few (Some Tc) = omega arith
+  by_first_few (Some Aac) = omega arith
+  by_first_few (Some Arqc) = online_few
+  by_first_few None = omega arith
 
 all_read_few : (s : Situation) → to_come (all_read s) ≤ after_last
 unfolding all_read ended to_come

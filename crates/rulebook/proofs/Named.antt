@@ -9,10 +9,9 @@ use Rattle.start_fields.specs.Reading.{reading_of}
 use Rattle.start_valid.specs.Start.{valid_start}
 use Rattle.numbers.specs.Tables.{start, host}
 use Rattle.tape_read.specs.Entries.{entry}
-use Rattle.decide_requests.specs.Replies.{reply_of, is_reply}
+use Rattle.decide_requests.specs.Replies.{HostHeard, reply_of, is_reply}
 use Rattle.decide_requests.specs.declared.reply.HostReply.{HostReply}
-use Rattle.decide_requests.specs.declared.reply.HostHeard.{HostHeard}
-use Rattle.decide_requests.specs.declared.reply.HostHeard.TheVariants.{Said}
+use Rattle.std.specs.Prelude.{Some}
 use Rattle.words.specs.Words.{word_kind, word_allowed}
 use Rattle.words.specs.declared.Word.TheVariants.{Host}
 use Rattle.sessions.specs.Session.{is_payload}
@@ -29,7 +28,7 @@ pub takes_start : (b : List ℕ) → valid_start b ≡ true → is_payload b ≡
 unfolding allowed after due_kind
 takes_start b valid ok = takes_heard rules terminal b valid ok
 
-module _ (s : Situation) (p : List ℕ) (r : HostReply) (said : reply_of p ≡ Said r) where
+module _ (s : Situation) (p : List ℕ) (r : HostReply) (said : reply_of p ≡ Some r) where
   pub reply_allowed : allowed (says Host s) p ≡ true
   unfolding allowed word_allowed is_reply
   reply_allowed = ap is_reply said

@@ -18,8 +18,8 @@ use Rattle.answer_record.specs.Records.{record_reason, after_records}
 use Rattle.decide_cryptogram.specs.Cryptograms.{allowed_by}
 use Rattle.decide_cryptogram.specs.declared.Cryptogram.{Cryptogram}
 use Rattle.decide_cryptogram.specs.declared.Cryptogram.TheVariants.{Aac, Tc, Arqc}
-use Rattle.decide_cryptogram.specs.declared.Given.{Given}
-use Rattle.decide_cryptogram.specs.declared.Given.TheVariants.{Of, Reserved}
+use Rattle.decide_cryptogram.specs.Cryptograms.{Given}
+use Rattle.std.specs.Prelude.{Some, None}
 use Rattle.decide_cryptogram.specs.declared.Request.TheVariants.{First, Second}
 use Rattle.answer_cryptogram.specs.Cryptogram.{cryptogram_reason, cryptogram_of}
 use Rattle.decide_requests.specs.Replies.{code_in, reply_of}
@@ -109,11 +109,11 @@ module _ {Q C : Situation → Type 0} {P : Phase → Type 0} (leads : Leads Q C 
     -- whatever the first cryptogram is
     pub first_leads : (given : Given) → P (by_first given s)
     unfolding by_first decided online Past Due
-    first_leads (Of Tc) = leads.decision _ 0 s q
-    first_leads (Of Aac) = leads.decision _ 0 s q
-    first_leads (Of Arqc) =
+    first_leads (Some Tc) = leads.decision _ 0 s q
+    first_leads (Some Aac) = leads.decision _ 0 s q
+    first_leads (Some Arqc) =
         picked P (eqb s.terminal.kind 0) _ (hears (says Host s)) (λ y. replied_leads Unable []) (λ l. leads.word Host s q tt tt)
-    first_leads Reserved = leads.decision _ 0 s q
+    first_leads None = leads.decision _ 0 s q
 
   -- whatever is said: from what holds of the situation that it leaves
   pub after_leads : (word : Word) (s : Situation) (p : List ℕ) → Q (leaving word s p) → Past C word s → P (after (says word s) p)

@@ -23,15 +23,13 @@ use Rattle.decide_verification.specs.Verification.{results_due, results_wanted, 
 use Rattle.decide_cryptogram.specs.Cryptograms.{allowed_by}
 use Rattle.decide_cryptogram.specs.declared.Cryptogram.{Cryptogram}
 use Rattle.decide_cryptogram.specs.declared.Cryptogram.TheVariants.{Aac, Tc, Arqc}
-use Rattle.decide_cryptogram.specs.declared.Given.{Given}
-use Rattle.decide_cryptogram.specs.declared.Given.TheVariants.{Of, Reserved}
+use Rattle.decide_cryptogram.specs.Cryptograms.{Given}
+use Rattle.std.specs.Prelude.{Some, None}
 use Rattle.decide_cryptogram.specs.declared.Request.TheVariants.{First, Second}
 use Rattle.decide_requests.specs.Requests.{first_request, second_request}
-use Rattle.decide_requests.specs.Replies.{code_in, reply_of, response_code}
+use Rattle.decide_requests.specs.Replies.{HostHeard, code_in, reply_of, response_code}
 use Rattle.decide_requests.specs.declared.reply.HostReply.{HostReply}
 use Rattle.decide_requests.specs.declared.reply.HostReply.TheVariants.{Unable}
-use Rattle.decide_requests.specs.declared.reply.HostHeard.{HostHeard}
-use Rattle.decide_requests.specs.declared.reply.HostHeard.TheVariants.{Said, Nothing}
 use Rattle.rulebook.specs.Situation.{Situation, begun, list_in}
 use Rattle.rulebook.specs.Phase.{Asked, selecting, optioning, reading, first, second, Heard, terminal}
 use Rattle.rulebook.specs.Phase.{says, Phase, asks, hears, decided, ended}
@@ -116,10 +114,10 @@ online s = pick (eqb s.terminal.kind 0) (replied s Unable []) (hears (says Host 
 
 -- a TC approves, an AAC declines, an ARQC goes online; the reserved type does not come here, since no request allows it
 unfoldable pub by_first : Given → Situation → Phase
-by_first (Of Tc) s = decided approved s
-by_first (Of Aac) s = decided declined s
-by_first (Of Arqc) s = online s
-by_first Reserved s = decided declined s
+by_first (Some Tc) s = decided approved s
+by_first (Some Aac) s = decided declined s
+by_first (Some Arqc) s = online s
+by_first None s = decided declined s
 
 -- after the first GENERATE AC
 unfoldable pub first_answered : Situation → Cryptogram → List ℕ → Phase
@@ -127,10 +125,10 @@ first_answered s request a = goes_on (cryptogram_reason (allowed_by (First reque
 
 -- the second answer decides: a TC approves, an AAC declines; the others do not come here, since no second request allows them
 unfoldable pub by_second : Given → ℕ
-by_second (Of Tc) = approved
-by_second (Of Aac) = declined
-by_second (Of Arqc) = declined
-by_second Reserved = declined
+by_second (Some Tc) = approved
+by_second (Some Aac) = declined
+by_second (Some Arqc) = declined
+by_second None = declined
 
 -- after the second
 unfoldable pub second_answered : Situation → Cryptogram → List ℕ → Phase
@@ -156,8 +154,8 @@ allowed (says word s) p = word_allowed word (wanted_in word s) p
 
 -- the reply that is made; what is none is not allowed, and counts as unable
 unfoldable pub reply_made : HostHeard → HostReply
-reply_made (Said reply) = reply
-reply_made Nothing = Unable
+reply_made (Some reply) = reply
+reply_made None = Unable
 
 -- after the issuer's reply
 unfoldable pub issuer_replied : Situation → HostReply → List ℕ → Phase

@@ -14,8 +14,8 @@ use Rattle.facts.specs.Facts.{Facts, or_else}
 use Rattle.decide_cryptogram.specs.Cryptograms.{p1_of, allowed_by}
 use Rattle.decide_cryptogram.specs.declared.Cryptogram.{Cryptogram}
 use Rattle.decide_cryptogram.specs.declared.Cryptogram.TheVariants.{Tc, Aac, Arqc}
-use Rattle.decide_cryptogram.specs.declared.Given.{Given}
-use Rattle.decide_cryptogram.specs.declared.Given.TheVariants.{Of as OfType, Reserved}
+use Rattle.decide_cryptogram.specs.Cryptograms.{Given}
+use Rattle.std.specs.Prelude.{Some, None}
 use Rattle.decide_cryptogram.specs.declared.Request.TheVariants.{First, Second}
 use Rattle.decide_requests.specs.Replies.{code_in, reply_of, response_code}
 use Rattle.decide_requests.specs.Requests.{first_request, second_request}
@@ -177,10 +177,10 @@ module _ (aid : List ℕ) where
 
   first_given_same : (g : Given) (s : Situation) → by_first g (situation_with aid s) ≡ phase_with aid (by_first g s)
   unfolding by_first decided phase_with
-  first_given_same (OfType Tc) s = refl
-  first_given_same (OfType Aac) s = refl
-  first_given_same (OfType Arqc) s = online_same s
-  first_given_same Reserved s = refl
+  first_given_same (Some Tc) s = refl
+  first_given_same (Some Aac) s = refl
+  first_given_same (Some Arqc) s = online_same s
+  first_given_same None s = refl
 
   first_same : (s : Situation) (request : Cryptogram) (a : List ℕ)
       → first_answered (situation_with aid s) request a ≡ phase_with aid (first_answered s request a)

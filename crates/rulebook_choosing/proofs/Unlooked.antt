@@ -10,8 +10,8 @@ use Rattle.numbers.specs.Tables.{terminated, for_missing, for_list}
 use Rattle.tape_read.specs.Entries.{Entry}
 use Rattle.decide_cryptogram.specs.Cryptograms.{allowed_by}
 use Rattle.decide_cryptogram.specs.declared.Cryptogram.TheVariants.{Tc, Aac, Arqc}
-use Rattle.decide_cryptogram.specs.declared.Given.{Given}
-use Rattle.decide_cryptogram.specs.declared.Given.TheVariants.{Of as OfType, Reserved}
+use Rattle.decide_cryptogram.specs.Cryptograms.{Given}
+use Rattle.std.specs.Prelude.{Some, None}
 use Rattle.decide_cryptogram.specs.declared.Request.TheVariants.{First, Second}
 use Rattle.decide_requests.specs.Replies.{code_in, reply_of}
 use Rattle.decide_requests.specs.Requests.{first_request}
@@ -72,11 +72,11 @@ replied_from s reply code = picked FromOptions (fillable (list_in s 0x8D)) (asks
 
 given_from : (g : Given) (s : Situation) → FromOptions (by_first g s)
 unfolding by_first decided online
-given_from (OfType Tc) s = tt
-given_from (OfType Aac) s = tt
-given_from (OfType Arqc) s =
+given_from (Some Tc) s = tt
+given_from (Some Aac) s = tt
+given_from (Some Arqc) s =
     picked FromOptions (eqb s.terminal.kind 0) (replied s Unable []) (hears (says Host s)) (λ y. replied_from s Unable []) (λ n. tt)
-given_from Reserved s = tt
+given_from None s = tt
 
 turn_from : (w : Asked) (a : List ℕ) → FromOptions (asks w) → FromOptions (turn w a)
 unfolding turn optioned recorded first_answered second_answered decided

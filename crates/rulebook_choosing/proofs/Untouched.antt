@@ -14,8 +14,8 @@ use Rattle.decide_requests.specs.Replies.{code_in, reply_of}
 use Rattle.decide_requests.specs.declared.reply.HostReply.{HostReply}
 use Rattle.decide_requests.specs.declared.reply.HostReply.TheVariants.{Unable}
 use Rattle.decide_cryptogram.specs.declared.Cryptogram.TheVariants.{Aac, Tc, Arqc}
-use Rattle.decide_cryptogram.specs.declared.Given.{Given}
-use Rattle.decide_cryptogram.specs.declared.Given.TheVariants.{Of, Reserved}
+use Rattle.decide_cryptogram.specs.Cryptograms.{Given}
+use Rattle.std.specs.Prelude.{Some, None}
 use Rattle.answer_cryptogram.specs.Cryptogram.{cryptogram_of}
 use Rattle.words.specs.declared.Word.{Word}
 use Rattle.words.specs.declared.Word.TheVariants.{Host, Results}
@@ -73,10 +73,10 @@ online_still s = picked Still (eqb s.terminal.kind 0) _ _ (λ y. replied_still s
 
 by_first_still : (given : Given) (s : Situation) → Still (by_first given s)
 unfolding by_first decided as_was
-by_first_still (Of Tc) s = tt
-by_first_still (Of Aac) s = tt
-by_first_still (Of Arqc) s = online_still s
-by_first_still Reserved s = tt
+by_first_still (Some Tc) s = tt
+by_first_still (Some Aac) s = tt
+by_first_still (Some Arqc) s = online_still s
+by_first_still None s = tt
 
 -- ---- each step
 

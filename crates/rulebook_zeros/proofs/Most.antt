@@ -36,8 +36,8 @@ use Rattle.decide_verification.specs.Verification.{results_due}
 use Rattle.decide_requests.specs.Requests.{first_request, second_request}
 use Rattle.decide_cryptogram.specs.declared.Cryptogram.{Cryptogram}
 use Rattle.decide_cryptogram.specs.declared.Cryptogram.TheVariants.{Aac, Tc, Arqc}
-use Rattle.decide_cryptogram.specs.declared.Given.{Given}
-use Rattle.decide_cryptogram.specs.declared.Given.TheVariants.{Of, Reserved}
+use Rattle.decide_cryptogram.specs.Cryptograms.{Given}
+use Rattle.std.specs.Prelude.{Some, None}
 use Rattle.decide_requests.specs.declared.reply.HostReply.{HostReply}
 use Rattle.decide_requests.specs.declared.reply.HostReply.TheVariants.{Unable}
 use Rattle.decide_requests.specs.Replies.{code_in, reply_of, response_code}
@@ -174,10 +174,10 @@ module _ (s : Situation) (short : Short s) where
 
   by_first_within : (given : Given) → Within most_entries (by_first given s)
   unfolding by_first decided unsupplied_in left_in
-  by_first_within (Of Tc) = (tt, omega arith)
-  by_first_within (Of Aac) = (tt, omega arith)
-  by_first_within (Of Arqc) = online_within
-  by_first_within Reserved = (tt, omega arith)
+  by_first_within (Some Tc) = (tt, omega arith)
+  by_first_within (Some Aac) = (tt, omega arith)
+  by_first_within (Some Arqc) = online_within
+  by_first_within None = (tt, omega arith)
 
 all_read_within : (s : Situation) → Short s → Within (2 * most_entries) (all_read s)
 unfolding all_read ended unsupplied_in left_in

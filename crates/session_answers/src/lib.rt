@@ -12,7 +12,7 @@ ghost use Rattle.session_answers.specs.Keeping.{keeping, answered_state};
 use answer_common::content::{NAMES, names_for};
 use answer_cryptogram as cryptogram;
 use answer_gpo::options_reason;
-use decide_cryptogram::{Cryptogram, Given, Request};
+use decide_cryptogram::{Cryptogram, Request};
 use decide_tvr::results::tsi_after_first_answer;
 use numbers::{APPROVED, DECLINED};
 use session_moves::Step;
@@ -98,16 +98,16 @@ pub fn on_first(s: State, request: Cryptogram, a: &[u8], buf: &mut [u8]) -> Step
     by_first(cryptogram::cryptogram(a), answered, buf)
 }
 
-fn by_second(given: Given) -> u8
+fn by_second(given: Option<Cryptogram>) -> u8
     ensures { result ≡ by_second given }
 {
     match given {
-        Given::Of(cryptogram) => match cryptogram {
+        Some(cryptogram) => match cryptogram {
             Cryptogram::Tc => APPROVED,
             Cryptogram::Aac => DECLINED,
             Cryptogram::Arqc => DECLINED,
         },
-        Given::Reserved => DECLINED,
+        None => DECLINED,
     }
 }
 

@@ -12,7 +12,7 @@ ghost use Rattle.session_moves.specs.Moves.{played, moved};
 ghost use Rattle.session_events.specs.Events.{answer_step, word_step, step as step_of};
 
 use commands::write;
-use decide_requests::reply::{HostHeard, HostReply, code_in, reply_of};
+use decide_requests::reply::{HostReply, code_in, reply_of};
 use numbers::REFUSED_EVENT;
 use session_first::on_results;
 use session_moves::Step;
@@ -40,10 +40,7 @@ fn on_start(terminal: &[u8], buf: &mut [u8]) -> Step
 fn reply_made(h: &[u8]) -> HostReply
     ensures { result ≡ reply_made (reply_of h.now) }
 {
-    match reply_of(h) {
-        HostHeard::Said(reply) => reply,
-        HostHeard::Nothing => HostReply::Unable,
-    }
+    reply_of(h).unwrap_or(HostReply::Unable)
 }
 
 fn on_reply(s: State, h: &[u8], buf: &mut [u8]) -> Step

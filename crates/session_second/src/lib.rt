@@ -8,7 +8,7 @@ ghost use Rattle.rulebook.specs.Turn.{replied, online as online_turn, by_first};
 ghost use Rattle.session_state.specs.Reading.{start_in, late};
 ghost use Rattle.session_moves.specs.Moves.{played, moved};
 
-use decide_cryptogram::{Cryptogram, Given};
+use decide_cryptogram::Cryptogram;
 use decide_requests::reply::{HostReply, response_code};
 use decide_requests::requests::second_request;
 use dol_wanted::is_fillable;
@@ -67,15 +67,15 @@ fn go_online(s: State, buf: &mut [u8]) -> Step
     }
 }
 
-pub fn by_first(given: Given, s: State, buf: &mut [u8]) -> Step
+pub fn by_first(given: Option<Cryptogram>, s: State, buf: &mut [u8]) -> Step
     ensures { played result buf.new ≡ moved (by_first given (late s)) s buf.old }
 {
     match given {
-        Given::Of(cryptogram) => match cryptogram {
+        Some(cryptogram) => match cryptogram {
             Cryptogram::Tc => decide(s, APPROVED),
             Cryptogram::Aac => decide(s, DECLINED),
             Cryptogram::Arqc => go_online(s, buf),
         },
-        Given::Reserved => decide(s, DECLINED),
+        None => decide(s, DECLINED),
     }
 }

@@ -48,8 +48,7 @@ pub fn fields(s: &[u8]) -> &[u8]
 pub fn count(s: &[u8]) -> usize
     ensures { (result ≡ count_in s.now) × (result ≤ 8) }
 {
-    let n = count_byte(s);
-    if n <= MOST { n } else { MOST }
+    count_byte(s).min(MOST)
 }
 
 // How many AIDs are listed.

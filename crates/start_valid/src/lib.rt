@@ -12,6 +12,7 @@ use decimal_dates::limits::between;
 use start_fields::fields;
 use start_fields::fields::{AID_ROOM, FULL, Field};
 
+#[tactic(auto, unfolding(crate::specs::Start::valid_kind))]
 fn valid_kind(s: &[u8]) -> bool
     ensures { result ≡ valid_kind (reading_of s.now) }
 {
@@ -27,12 +28,14 @@ fn valid_digits(s: &[u8]) -> bool
         && digits_only(fields::bytes(s, Field::Threshold))
 }
 
+#[tactic(auto, unfolding(crate::specs::Start::valid_random))]
 fn valid_random(s: &[u8]) -> bool
     ensures { result ≡ valid_random (reading_of s.now) }
 {
     between(1, 99, fields::random(s) as u64)
 }
 
+#[tactic(auto, unfolding(crate::specs::Start::valid_percentages, slices::specs::Tests::every, slices::specs::Choice::pick))]
 fn valid_percentages(s: &[u8]) -> bool
     ensures { result ≡ valid_percentages (reading_of s.now) }
 {
@@ -40,6 +43,7 @@ fn valid_percentages(s: &[u8]) -> bool
     fields::target(s) <= maximum && maximum <= 99
 }
 
+#[tactic(auto, unfolding(crate::specs::Start::valid_threshold, slices::specs::Choice::pick))]
 fn valid_threshold(s: &[u8]) -> bool
     ensures { result ≡ valid_threshold (reading_of s.now) }
 {
@@ -47,6 +51,7 @@ fn valid_threshold(s: &[u8]) -> bool
     threshold == 0 || threshold < fields::floor_limit(s)
 }
 
+#[tactic(auto, unfolding(crate::specs::Start::valid_aid, slices::specs::Tests::every, slices::specs::Choice::pick))]
 fn valid_aid(s: &[u8]) -> bool
     ensures { result ≡ valid_aid (aid_length_in s.now) (aid_room_in s.now) }
 {
@@ -68,6 +73,7 @@ pub fn valid_start(s: &[u8]) -> bool
 }
 
 // Whether a session can be begun with it: the shorter START is only judged.
+#[tactic(auto, unfolding(crate::specs::Start::begins_session, slices::specs::Tests::every, slices::specs::Choice::pick))]
 pub fn begins_session(s: &[u8]) -> bool
     ensures { result ≡ begins_session s.now }
 {

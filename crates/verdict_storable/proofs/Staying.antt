@@ -33,8 +33,8 @@ use Rattle.decide_requests.specs.Replies.{code_in, response_code}
 use Rattle.decide_cryptogram.specs.Cryptograms.{allowed_by}
 use Rattle.decide_cryptogram.specs.declared.Cryptogram.{Cryptogram}
 use Rattle.decide_cryptogram.specs.declared.Cryptogram.TheVariants.{Aac, Tc, Arqc}
-use Rattle.decide_cryptogram.specs.declared.Given.{Given}
-use Rattle.decide_cryptogram.specs.declared.Given.TheVariants.{Of, Reserved}
+use Rattle.decide_cryptogram.specs.Cryptograms.{Given}
+use Rattle.std.specs.Prelude.{Some, None}
 use Rattle.decide_cryptogram.specs.declared.Request.TheVariants.{First, Second}
 use Rattle.decide_requests.specs.declared.reply.HostReply.{HostReply}
 use Rattle.decide_requests.specs.declared.reply.HostReply.TheVariants.{Approve, Decline, Unable}
@@ -199,11 +199,11 @@ module _ (s : Situation) (k : Knows s) where
 
   first_stays : (given : Given) → Stays (by_first given s)
   unfolding by_first decided online
-  first_stays (Of Tc) = (k, (omega arith, omega arith))
-  first_stays (Of Aac) = (k, (omega arith, omega arith))
-  first_stays (Of Arqc) =
+  first_stays (Some Tc) = (k, (omega arith, omega arith))
+  first_stays (Some Aac) = (k, (omega arith, omega arith))
+  first_stays (Some Arqc) =
       picked Stays (eqb s.terminal.kind 0) (replied s Unable []) (hears (says Host s)) (λ y. replied_stays Unable [] refl) (λ l. k)
-  first_stays Reserved = (k, (omega arith, omega arith))
+  first_stays None = (k, (omega arith, omega arith))
 
 -- ---- the records, and verification
 
@@ -237,10 +237,10 @@ after_stays (says Results s) p k bytes = requested_stays s.facts (verified_by s 
 
 outcome_byte : (given : Given) → by_second given < 256
 unfolding by_second
-outcome_byte (Of Tc) = omega arith
-outcome_byte (Of Aac) = omega arith
-outcome_byte (Of Arqc) = omega arith
-outcome_byte Reserved = omega arith
+outcome_byte (Some Tc) = omega arith
+outcome_byte (Some Aac) = omega arith
+outcome_byte (Some Arqc) = omega arith
+outcome_byte None = omega arith
 
 pub turn_stays : (w : Asked) (a : List ℕ) → Asking w → are_bytes a ≡ true → Stays (turn w a)
 unfolding turn selected optioned recorded first_answered second_answered decided

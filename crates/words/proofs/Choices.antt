@@ -1,7 +1,7 @@
 -- A choice is one byte; and choices worked out: two are shown, or nobody.
 -- Assumes nothing.
 use mathlib.Core.Path.{◌≡◌, refl, sym, ap, ◌∙◌}
-use mathlib.Core.Bool.{Bool, true, false, not, ◌||◌}
+use mathlib.Core.Bool.{Bool, true, false, ◌||◌}
 use mathlib.Core.List.{List, [], ◌∷◌}
 use Prim.Native.Nat.{ℕ}
 use lib.Dec.{eqb, ltb}
@@ -9,12 +9,8 @@ use lib.ListN.{length, get_or}
 use borrow.Author.Tests.{eqb-true, eq-eqb, ne_eqb}
 use Rattle.slices.specs.Choice.{pick}
 use Rattle.slices.specs.Tests.{every}
-use Rattle.slices.proofs.Tests.{held, last, refused, first_held}
+use Rattle.slices.proofs.Tests.{held, last, first_held}
 use Rattle.words.specs.Choice.{is_choice}
-
-or_true : (b : Bool) → (b || true) ≡ true
-or_true true = refl
-or_true false = refl
 
 or_false : (b : Bool) → (b || false) ≡ b
 or_false true = refl
@@ -27,17 +23,10 @@ module _ (shown : ℕ) (p : List ℕ) where
   abbrev among : Bool
   among = ltb place shown || eqb place 0xFF
 
-  pub other_size : (length p ≡ 1 → ⊥) → false ≡ is_choice shown p
-  unfolding is_choice
-  other_size h = sym (refused refl (among ∷ []) (ap not (ne_eqb (length p) 1 h)))
-
   module _ (one : length p ≡ 1) where
     by_place : is_choice shown p ≡ among
     unfolding is_choice
     by_place = held refl (among ∷ []) (eq-eqb (length p) 1 one) ∙ last refl
-
-    pub none_chosen : place ≡ 0xFF → true ≡ is_choice shown p
-    none_chosen e = sym (by_place ∙ (ap (λ (b : Bool). ltb place shown || b) (eq-eqb place 0xFF e) ∙ or_true (ltb place shown)))
 
     pub one_chosen : (place ≡ 0xFF → ⊥) → ltb place shown ≡ is_choice shown p
     one_chosen n = sym (by_place ∙ (ap (λ (b : Bool). ltb place shown || b) (ne_eqb place 0xFF n) ∙ or_false (ltb place shown)))

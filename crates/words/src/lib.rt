@@ -48,15 +48,10 @@ pub fn refusal(word: Word) -> usize
 }
 
 // Whether the shopper may choose so, of as many as were shown.
+#[tactic(auto, unfolding(crate::specs::Choice::is_choice, slices::specs::Tests::every, slices::specs::Choice::pick))]
 pub fn is_choice(shown: usize, p: &[u8]) -> bool
     ensures { result ≡ is_choice shown p.now }
 {
     let place = byte(p, 0);
-    if p.len() != 1 {
-        return false;
-    }
-    if place == 0xFF {
-        return true;
-    }
-    place < shown
+    p.len() == 1 && (place < shown || place == 0xFF)
 }

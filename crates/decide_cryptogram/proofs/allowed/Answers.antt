@@ -7,15 +7,15 @@ use Rattle.decide_cryptogram.proofs.allowed.Goals as goal
 pub returns-in-First : goal.returns-in-First
 unfolding allowed_by
 returns-in-First c =
-    let given = c.in-Of.is in
+    let given = c.in-Some.is in
     c.answers_first.ensures ∙ sym (ap₂ allowed_by c.in-First.is given)
 
 pub returns-in-Second : goal.returns-in-Second
 unfolding allowed_by
 returns-in-Second c =
-    let given = c.in-Of.is in
+    let given = c.in-Some.is in
     c.answers_second.ensures ∙ sym (ap₂ allowed_by c.in-Second.is given)
 
-pub returns-in-Reserved : goal.returns-in-Reserved
+pub returns-in-None : goal.returns-in-None
 unfolding allowed_by
-returns-in-Reserved c = sym (ap (allowed_by c.args.request) c.in-Reserved.is)
+returns-in-None c = sym (ap (allowed_by c.args.request) c.in-None.is)

@@ -5,4 +5,4 @@ use Rattle.decide_verification.proofs.tsi_after_results.Goals as goal
 
 pub returns : goal.returns
 unfolding tsi_after_results
-returns c = c.join2.ensures
+returns c = c.join.ensures

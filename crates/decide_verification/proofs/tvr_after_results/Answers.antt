@@ -18,4 +18,4 @@ returns c =
     c.verify.ensures
     ∙ ap₂ (λ (l : List ℕ) (x : Circumstances). verified x l a.results.now)
     (c.value.ensures ∙ sym (list_whole a.told.now)) c.circumstances.ensures in
-    c.join5.ensures ∙ ap (λ (b : ℕ). joined a.tvr (0 ∷ 0 ∷ b ∷ 0 ∷ 0 ∷ [])) bits
+    c.join.ensures ∙ ap (λ (b : ℕ). joined a.tvr (0 ∷ 0 ∷ b ∷ 0 ∷ 0 ∷ [])) bits

@@ -2,7 +2,7 @@
 -- Assumes nothing.
 use mathlib.Core.Path.{◌≡◌, refl, sym, ap, ◌∙◌}
 use Rattle.decide_cryptogram.specs.Cryptograms.{allowed_by}
-use Rattle.decide_cryptogram.specs.declared.Given.{Given}
+use Rattle.decide_cryptogram.specs.Cryptograms.{Given}
 use Rattle.decide_cryptogram.specs.declared.Request.TheVariants.{First}
 use Rattle.answer_cryptogram.specs.Cryptogram.{cryptogram_reason, cryptogram_of}
 use Rattle.rulebook.specs.Situation.{Situation}

@@ -3,8 +3,8 @@
 use mathlib.Core.Path.{◌≡◌, sym, ap, ◌∙◌}
 use mathlib.Core.List.{List}
 use Prim.Native.Nat.{ℕ}
-use Rattle.decide_cryptogram.specs.declared.Given.{Given}
-use Rattle.decide_cryptogram.specs.declared.Given.TheVariants.{Of}
+use Rattle.decide_cryptogram.specs.Cryptograms.{Given}
+use Rattle.std.specs.Prelude.{Some}
 use Rattle.rulebook.specs.Phase.{decided}
 use Rattle.rulebook.specs.Turn.{by_first}
 use Rattle.session_state.specs.declared.State.{State}
@@ -23,7 +23,7 @@ returns-in-Tc c =
     let args = c.args in
     let s = args.s in
     let buf = args.buf.now in
-    late_decided s buf 1 0 c.decide.ensures ∙ at s buf (c.in-Of.is ∙ ap Of c.in-Tc.is)
+    late_decided s buf 1 0 c.decide.ensures ∙ at s buf (c.in-Some.is ∙ ap Some c.in-Tc.is)
 
 pub returns-in-Aac : goal.returns-in-Aac
 unfolding by_first decided
@@ -31,18 +31,18 @@ returns-in-Aac c =
     let args = c.args in
     let s = args.s in
     let buf = args.buf.now in
-    late_decided s buf 2 0 c.decide-in-Aac.ensures ∙ at s buf (c.in-Of.is ∙ ap Of c.in-Aac.is)
+    late_decided s buf 2 0 c.decide-in-Aac.ensures ∙ at s buf (c.in-Some.is ∙ ap Some c.in-Aac.is)
 
 pub returns-in-Arqc : goal.returns-in-Arqc
 unfolding by_first
 returns-in-Arqc c =
     let args = c.args in
-    c.go_online.ensures ∙ at args.s args.buf.now (c.in-Of.is ∙ ap Of c.in-Arqc.is)
+    c.go_online.ensures ∙ at args.s args.buf.now (c.in-Some.is ∙ ap Some c.in-Arqc.is)
 
-pub returns-in-Reserved : goal.returns-in-Reserved
+pub returns-in-None : goal.returns-in-None
 unfolding by_first decided
-returns-in-Reserved c =
+returns-in-None c =
     let args = c.args in
     let s = args.s in
     let buf = args.buf.now in
-    late_decided s buf 2 0 c.decide-in-Reserved.ensures ∙ at s buf c.in-Reserved.is
+    late_decided s buf 2 0 c.decide-in-None.ensures ∙ at s buf c.in-None.is

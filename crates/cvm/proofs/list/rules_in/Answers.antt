@@ -3,10 +3,6 @@ use native.Mathlib.Omega.{arith}
 use Rattle.cvm.specs.Lists.{rules_in}
 use Rattle.cvm.proofs.list.rules_in.Goals as goal
 
-pub returns-then-list-lt-RULES_AT : goal.returns-then-list-lt-RULES_AT
-unfolding rules_in
-returns-then-list-lt-RULES_AT c = omega arith
-
 pub returns : goal.returns
 unfolding rules_in
 returns c = omega arith

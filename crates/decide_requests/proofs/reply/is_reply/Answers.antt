@@ -1,13 +1,14 @@
 -- `decide_requests::reply::is_reply` meets its contract.
 -- Assumes nothing.
-use mathlib.Core.Path.{sym, ap, ◌∙◌}
-use Rattle.decide_requests.specs.Replies.{is_reply}
+use Rattle.std.proofs.Common.{◌≡◌, refl, ap, ◌∙◌}
+use Rattle.std.specs.Prelude.{Some, None, is_some}
+use Rattle.decide_requests.specs.Replies.{HostHeard, is_reply}
 use Rattle.decide_requests.proofs.reply.is_reply.Goals as goal
 
-pub returns-in-Said : goal.returns-in-Said
+there : (h : HostHeard) → is_some h ≡ is_reply h
 unfolding is_reply
-returns-in-Said c = sym (ap is_reply (sym c.reply_of.ensures ∙ c.in-Said.is))
+there (Some reply) = refl
+there None = refl
 
-pub returns-in-Nothing : goal.returns-in-Nothing
-unfolding is_reply
-returns-in-Nothing c = sym (ap is_reply (sym c.reply_of.ensures ∙ c.in-Nothing.is))
+pub returns : goal.returns
+returns c = c.is_some.ensures ∙ (ap is_some c.reply_of.ensures ∙ there _)

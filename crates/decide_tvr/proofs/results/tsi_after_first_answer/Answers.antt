@@ -5,4 +5,4 @@ use Rattle.decide_tvr.proofs.results.tsi_after_first_answer.Goals as goal
 
 pub returns : goal.returns
 unfolding tsi_after_first_answer
-returns c = c.join2.ensures
+returns c = c.join.ensures

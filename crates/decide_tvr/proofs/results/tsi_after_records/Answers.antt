@@ -12,4 +12,4 @@ pub returns : goal.returns
 unfolding tsi_after_records
 returns c =
     let set = c.flag.ensures.0 ∙ ap (λ (t : Bool). flag t 0x08) c.risk_managed.ensures in
-    c.join2.ensures ∙ ap (λ (b : ℕ). joined c.args.tsi (b ∷ 0 ∷ [])) set
+    c.join.ensures ∙ ap (λ (b : ℕ). joined c.args.tsi (b ∷ 0 ∷ [])) set

@@ -11,5 +11,5 @@ pub returns : goal.returns
 unfolding tvr_after_records
 returns c =
     let tvr = c.args.tvr in
-    c.join5.ensures
+    c.join.ensures
     ∙ ap₂ (λ (b d : ℕ). joined tvr (0x80 ∷ b ∷ 0 ∷ d ∷ 0 ∷ [])) c.restrictions.ensures c.risks.ensures

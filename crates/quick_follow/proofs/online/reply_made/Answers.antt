@@ -1,13 +1,16 @@
 -- `online::reply_made` meets its contract: what is no reply counts as unable.
 -- Assumes nothing.
-use mathlib.Core.Path.{sym, ap, ◌∙◌}
+use Rattle.std.proofs.Common.{◌≡◌, refl, ap, ◌∙◌}
+use Rattle.std.specs.Prelude.{Some, None, unwrap_or}
+use Rattle.decide_requests.specs.Replies.{HostHeard}
+use Rattle.decide_requests.specs.declared.reply.HostReply.TheVariants.{Unable}
 use Rattle.rulebook.specs.Turn.{reply_made}
 use Rattle.quick_follow.proofs.online.reply_made.Goals as goal
 
-pub returns-in-Said : goal.returns-in-Said
+made : (h : HostHeard) → unwrap_or h Unable ≡ reply_made h
 unfolding reply_made
-returns-in-Said c = sym (ap reply_made (sym c.reply_of.ensures ∙ c.in-Said.is))
+made (Some reply) = refl
+made None = refl
 
-pub returns-in-Nothing : goal.returns-in-Nothing
-unfolding reply_made
-returns-in-Nothing c = sym (ap reply_made (sym c.reply_of.ensures ∙ c.in-Nothing.is))
+pub returns : goal.returns
+returns c = c.unwrap_or.ensures ∙ (ap (λ (h : HostHeard). unwrap_or h Unable) c.reply_of.ensures ∙ made _)
