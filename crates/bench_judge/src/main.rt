@@ -7,15 +7,18 @@ use std::io;
 use text_input::read_full;
 use verdict_line::{LONGEST, line};
 
-// More tapes than there can be: nothing says that the input ends.
+// At most so many tapes are judged: nothing says that the input ends.
 const MOST: usize = 100000;
 
+// More than the longest tape.
+const ROOM: usize = 530000;
+
 fn main(rt: HostRuntime) -> io::Result<()> {
-    let mut tape = [0u8; 530000];
+    let mut tape = [0u8; ROOM];
     tell_all(&rt, &mut tape)
 }
 
-fn tell_all(rt: &(impl Input + Print), tape: &mut [u8]) -> io::Result<()> {
+fn tell_all(rt: &(impl Input + Print), tape: &mut [u8; ROOM]) -> io::Result<()> {
     for _ in 0..MOST {
         let Some(n) = size(rt) else {
             return Ok(());

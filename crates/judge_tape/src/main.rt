@@ -5,7 +5,7 @@
 // asked for.
 #![tactic(auto)]
 
-use judge_reading::{Judged, judge_file};
+use judge_reading::judge_file;
 use slices::part;
 use text_print::fail;
 use verdict::Finding;
@@ -13,8 +13,8 @@ use verdict_line::{LONGEST, line};
 
 fn main(rt: HostRuntime) {
     match judge_file(&mut rt.reader()) {
-        Judged::Found(found) => tell(&rt, found),
-        Judged::Failed(e) => fail(&rt, "judge_tape: standard input", &e),
+        Ok(found) => tell(&rt, found),
+        Err(e) => fail(&rt, "judge_tape: standard input", &e),
     }
 }
 
