@@ -1,9 +1,7 @@
 // The register of a block's check: eight bytes in a turn, and many zeros at once.
-ghost use Rattle.std.specs.Prelude.{◌≡◌, ◌+◌, ◌*◌, ◌%◌, ◌≤◌, ◌<◌, length};
+ghost use Rattle.std.specs.Prelude.{◌≡◌, ℕ, ◌+◌, ◌*◌, ◌%◌, ◌≤◌, ◌<◌, length, get_or};
 ghost use Rattle.tape_crc.specs.Check.{divided, running_of, ones};
 ghost use Rattle.quick_check.specs.Tables.{Rows, Behind, step};
-
-use tape_crc::word;
 
 // Where the register starts.
 const ONES: u32 = 0xFFFF_FFFF;
@@ -45,4 +43,14 @@ pub fn past(register: u32, times: usize, behind: &[u32; 512]) -> u32
         r = r ^ (register >> k) % 2 * behind[32 * times + k as usize];
     }
     r
+}
+
+// Four bytes as a number, the first one lowest. The check itself has the same for its own use: a public one would require that four bytes
+// are there, and no public function requires anything.
+fn word(s: &[u8], i: usize) -> u32
+    requires { i + 4 ≤ length s.now }
+    ensures { let at : ℕ → ℕ = λ k. get_or s.now k 0 in
+        result ≡ at i + at (i + 1) * 0x100 + at (i + 2) * 0x1_0000 + at (i + 3) * 0x100_0000 }
+{
+    u32::from_le_bytes([s[i], s[i + 1], s[i + 2], s[i + 3]])
 }

@@ -148,7 +148,7 @@ fn turn(x: u32, t: Stored<'_>) -> u32
 }
 
 // Four bytes as a number, the first one lowest.
-pub fn word(s: &[u8], i: usize) -> u32
+fn word(s: &[u8], i: usize) -> u32
     requires { i + 4 ≤ length s.now }
     ensures { let at : ℕ → ℕ = λ k. get_or s.now k 0 in
         result ≡ at i + at (i + 1) * 0x100 + at (i + 2) * 0x1_0000 + at (i + 3) * 0x100_0000 }
