@@ -1,6 +1,7 @@
 -- What an answer to reset tells. 000, I-4.
 -- Assumes nothing.
-use Rattle.std.specs.Prelude.{Bool, ◌&&◌, not, List, map, Option, is_some, unwrap_or, Result, Ok, Err, ℕ, ◌+◌, ◌-◌, ◌/◌, ◌%◌, ltb, eqb, length, get_or, take, drop}
+use Rattle.std.specs.Prelude.{Option, is_some, unwrap_or, Result, Ok, Err}
+use Rattle.std.specs.Prelude.{Bool, ◌&&◌, not, List, map, ℕ, ◌+◌, ◌-◌, ◌/◌, ◌%◌, ltb, eqb, length, get_or, take, drop}
 use Rattle.slices.specs.Choice.{pick}
 use Rattle.slices.specs.Tables.{any_of}
 use Rattle.atr_characters.specs.Data.{data_of}

@@ -129,7 +129,9 @@ module _ (tc1 ta3 tb3 : ℕ) (h : List ℕ) (few : length h ≤ 15) (x : ℕ) wh
 
   second_is₁ : level_of s₁ 0x81 5 ≡ second₁
   unfolding found_at pick
-  second_is₁ = level_is s₁ 0x81 5 0 0 0 1 refl refl refl refl None None None (Some 0x31) refl refl refl (found_there s₁ 5 (omega arith))
+  second_is₁ =
+      level_is s₁ 0x81 5 0 0 0 1 refl refl refl refl None None None (Some 0x31)
+      refl refl refl (found_there s₁ 5 (omega arith))
 
   third_is₁ : level_of s₁ 0x31 6 ≡ third₁
   unfolding found_at pick

@@ -255,7 +255,8 @@ module _ (l : Located) (warm : Bool) (s : Stairs l) (t : There l) where
       (up_to l.size _ _ (λ e. let h = t.ta1 (one_of (is_there l.first.ta) _ _ e) in omega arith)
       (up_to l.size _ _
       (λ e. let h = leb-true l.first.c l.size (three_of (not warm) (is_absent l.first.tb) _ e) in omega arith)
-      (up_to l.size _ _ (λ e. let h = t.tb1 (and_left (is_there l.first.tb) _ (and_right (not warm) (is_other l.first.tb 0) e)) in omega arith)
+      (up_to l.size _ _
+      (λ e. let h = t.tb1 (and_left (is_there l.first.tb) _ (and_right (not warm) (is_other l.first.tb 0) e)) in omega arith)
       (up_to l.size _ _ (λ e. let h = t.td1 (named_there l.first.td e) in omega arith)
       (up_to l.size _ _ (λ e. let h = t.ta2 (and_left (is_there l.second.ta) (eqb (bit5 (value l.second.ta)) 1) e) in omega arith)
       (up_to l.size _ _ (λ e. let h = t.tb2 e in omega arith)

@@ -80,7 +80,9 @@ module _ (t : List ℕ) where
   unfolding taken
   next_later f g =
       by_steps (steps t) (λ k. ((j : ℕ) → k < j → f j ≡ g j) → taken t (next_from t k) f ≡ taken t (next_from t k) g)
-      (λ k past same. ap (λ (x : Option Block). taken t x f) (next_end t k past) ∙ sym (ap (λ (x : Option Block). taken t x g) (next_end t k past)))
+      (λ k past same.
+      ap (λ (x : Option Block). taken t x f) (next_end t k past)
+      ∙ sym (ap (λ (x : Option Block). taken t x g) (next_end t k past)))
       (λ k there rest same.
       either (is_good (block_at k t))
       (λ good.
