@@ -22,15 +22,15 @@ mod follow;
 mod say;
 mod whole;
 
-use follow::{Followed, follow_file};
-use judge_reading::{Judged, judge_file};
+use follow::follow_file;
+use judge_reading::judge_file;
 use say::say;
-use slices::{alike, part};
-use std::io::ErrorKind;
+use slices::part;
+use std::io;
 use std::rt::Files;
-use std::{fs, io};
-use text_input::{Line, read_line};
+use text_input::{Line, open, read_line};
 use text_lines::{after_word, line_end};
+use text_print::fail;
 use verdict::Finding;
 use verdict_line::line;
 use whole::{ROOM, judge_whole};
@@ -41,131 +41,108 @@ const LONGEST: usize = 4102;
 // More lines than there can be: nothing says that the input ends.
 const MOST: usize = 0x7FFF_FFFF_FFFF_FFFF;
 
+// Why there is no verdict.
+#[derive(Clone, Copy)]
+enum Failure {
+    Opening,
+    Reading,
+    Changed,
+}
+
 fn main(rt: HostRuntime) {
     let mut asked = [0u8; LONGEST];
     let mut tape = [0u8; ROOM];
-    answer_lines(&rt, &mut asked, &mut tape);
+    if let Err(e) = answer_lines(&rt, &mut asked, &mut tape) {
+        fail(&rt, "lab_tapes: a line could not be written", &e);
+    }
 }
 
-fn answer_lines(rt: &(impl Input + Print + Eprint + Files), asked: &mut [u8], tape: &mut [u8]) {
-    let mut left: usize = MOST;
-    while 0 < left {
-        if !answer_next(rt, asked, tape) {
-            return;
+// An error, here and below, is one of writing.
+fn answer_lines(
+    rt: &(impl Input + Print + Files),
+    asked: &mut [u8; LONGEST],
+    tape: &mut [u8; ROOM],
+) -> io::Result<()> {
+    for _ in 0..MOST {
+        match read_line(rt, asked) {
+            Line::Whole(n) => answer(rt, part(asked, 0, n), tape)?,
+            Line::Long => say(rt, b"ERROR length", b"")?,
+            Line::End => return Ok(()),
         }
-        left -= 1;
     }
+    Ok(())
 }
 
-// One line answered: whether there may be a next one.
-fn answer_next(
-    rt: &(impl Input + Print + Eprint + Files),
-    asked: &mut [u8],
-    tape: &mut [u8],
-) -> bool {
-    match read_line(rt, asked) {
-        Line::Whole(n) => answer(rt, part(asked, 0, n), tape),
-        Line::Long => say(rt, b"ERROR length", b"", b""),
-        Line::End => false,
+fn answer(rt: &(impl Print + Files), asked: &[u8], tape: &mut [u8]) -> io::Result<()> {
+    let name = after_word(asked);
+    if asked.starts_with(b"JUDGE ") {
+        return tell(rt, judged_whole(rt, name, tape), name);
     }
+    if asked.starts_with(b"PLAIN ") {
+        return tell(rt, judged(rt, name), name);
+    }
+    if asked.starts_with(b"DUE ") {
+        return tell(rt, followed(rt, name)?, name);
+    }
+    say(rt, b"ERROR word ", asked)
 }
 
-fn answer(rt: &(impl Print + Eprint + Files), asked: &[u8], tape: &mut [u8]) -> bool {
-    if alike(part(asked, 0, 6), b"JUDGE ") {
-        return judge_quick(rt, after_word(asked), tape);
-    }
-    if alike(part(asked, 0, 6), b"PLAIN ") {
-        return judge_named(rt, after_word(asked), false);
-    }
-    if alike(part(asked, 0, 4), b"DUE ") {
-        return judge_named(rt, after_word(asked), true);
-    }
-    say(rt, b"ERROR word", b" ", asked)
+fn judged_whole(rt: &impl Files, name: &[u8], tape: &mut [u8]) -> Result<Finding, Failure> {
+    let mut file = open(rt, name).map_err(|_| Failure::Opening)?;
+    judge_whole(&mut file, tape).map_err(|_| Failure::Reading)
 }
 
-fn judge_quick(rt: &(impl Print + Eprint + Files), name: &[u8], tape: &mut [u8]) -> bool {
-    match judged_whole(rt, name, tape) {
-        Ok(Judged::Found(found)) => tell(rt, found, name),
-        Ok(Judged::Failed(_)) => say(rt, b"ERROR reading", b" ", name),
-        Err(_) => say(rt, b"ERROR opening", b" ", name),
-    }
-}
-
-// An error is one of opening the file.
-fn judged_whole(rt: &impl Files, name: &[u8], tape: &mut [u8]) -> io::Result<Judged> {
-    let mut file = open(rt, name)?;
-    Ok(judge_whole(&mut file, tape))
-}
-
-// A name that is no text names no file that can be opened.
-fn open<R: Files>(rt: &R, name: &[u8]) -> io::Result<R::File> {
-    match str::from_utf8(name) {
-        Ok(name) => fs::open(rt, name),
-        Err(_) => Err(io::Error::from(ErrorKind::InvalidFilename)),
-    }
+fn judged(rt: &impl Files, name: &[u8]) -> Result<Finding, Failure> {
+    let mut file = open(rt, name).map_err(|_| Failure::Opening)?;
+    judge_file(&mut file).map_err(|_| Failure::Reading)
 }
 
 // A tape is judged before it is followed, since one that is unreadable is not.
-fn judge_named(rt: &(impl Print + Eprint + Files), name: &[u8], follow: bool) -> bool {
+fn followed(rt: &(impl Print + Files), name: &[u8]) -> io::Result<Result<Finding, Failure>> {
     match judged(rt, name) {
-        Ok(Judged::Found(found)) => tell_found(rt, found, name, follow),
-        Ok(Judged::Failed(_)) => say(rt, b"ERROR reading", b" ", name),
-        Err(_) => say(rt, b"ERROR opening", b" ", name),
-    }
-}
-
-// An error is one of opening the file.
-fn judged(rt: &impl Files, name: &[u8]) -> io::Result<Judged> {
-    let mut file = open(rt, name)?;
-    Ok(judge_file(&mut file))
-}
-
-fn tell_found(
-    rt: &(impl Print + Eprint + Files),
-    found: Finding,
-    name: &[u8],
-    follow: bool,
-) -> bool {
-    let ruling = found.ruling;
-    if follow && ruling.code == 0 {
-        follow_named(rt, found, ruling.place, name)
-    } else {
-        tell(rt, found, name)
-    }
-}
-
-fn follow_named(
-    rt: &(impl Print + Eprint + Files),
-    found: Finding,
-    place: usize,
-    name: &[u8],
-) -> bool {
-    let Ok(mut file) = open(rt, name) else {
-        return say(rt, b"ERROR opening", b" ", name);
-    };
-    match follow_file(rt, &mut file, place) {
-        Followed::Found(again) => tell_again(rt, found, again, name),
-        Followed::Failed => say(rt, b"ERROR reading", b" ", name),
-        Followed::Unsaid => false,
+        Ok(found) if found.ruling.code == 0 => follow_again(rt, found, name),
+        other => Ok(other),
     }
 }
 
 // The verdict of both readings; none where they are not of the same tape.
-fn tell_again(rt: &(impl Print + Eprint), found: Finding, again: Finding, name: &[u8]) -> bool {
-    let mut out = [0u8; verdict_line::LONGEST];
+fn follow_again(
+    rt: &(impl Print + Files),
+    found: Finding,
+    name: &[u8],
+) -> io::Result<Result<Finding, Failure>> {
+    let Ok(mut file) = open(rt, name) else {
+        return Ok(Err(Failure::Opening));
+    };
+    let again = follow_file(rt, &mut file, found.ruling.place)?;
+    Ok(match again {
+        Some(again) if is_same(found, again) => Ok(again),
+        Some(_) => Err(Failure::Changed),
+        None => Err(Failure::Reading),
+    })
+}
+
+fn is_same(found: Finding, again: Finding) -> bool {
+    let mut one = [0u8; verdict_line::LONGEST];
     let mut other = [0u8; verdict_line::LONGEST];
-    line(found, &mut out);
+    line(found, &mut one);
     line(again, &mut other);
-    if alike(&out, &other) {
-        tell(rt, again, name)
-    } else {
-        say(rt, b"ERROR changed", b" ", name)
+    one == other
+}
+
+fn tell(rt: &impl Print, outcome: Result<Finding, Failure>, name: &[u8]) -> io::Result<()> {
+    match outcome {
+        Ok(found) => tell_verdict(rt, found, name),
+        Err(Failure::Opening) => say(rt, b"ERROR opening ", name),
+        Err(Failure::Reading) => say(rt, b"ERROR reading ", name),
+        Err(Failure::Changed) => say(rt, b"ERROR changed ", name),
     }
 }
 
 // The judge's line, without its line feed, and the name.
-fn tell(rt: &(impl Print + Eprint), found: Finding, name: &[u8]) -> bool {
+fn tell_verdict(rt: &impl Print, found: Finding, name: &[u8]) -> io::Result<()> {
     let mut out = [0u8; verdict_line::LONGEST];
     line(found, &mut out);
-    say(rt, part(&out, 0, line_end(&out, 0)), b" ", name)
+    rt.write_all(part(&out, 0, line_end(&out, 0)))?;
+    say(rt, b" ", name)
 }

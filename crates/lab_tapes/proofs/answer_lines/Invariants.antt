@@ -1,9 +1,0 @@
--- `answer_lines` is safe and ends: the lines are counted down. Assumes nothing.
-use Rattle.std.proofs.Common.{length, ◌≡◌}
-use Rattle.lab_tapes.proofs.answer_lines.Given as goal
-
-abbrev pub invariant-loop-left : goal.invariant-loop-left
-invariant-loop-left g l = (length l.asked ≡ length l.initial.asked) × (length l.tape ≡ length l.initial.tape)
-
-abbrev pub decreases-loop-left : goal.decreases-loop-left
-decreases-loop-left g l = l.left
