@@ -37,7 +37,7 @@ module _ (pcb : ℕ) (inf : List ℕ) where
       ∙ sym (get_or_at (body_of pcb inf) (lrc_of (body_of pcb inf)) [] 0 (3 + length inf) three)
 
   -- the one test that is left
-  tested_back : (most : ℕ) → length inf ≤ inf_most → tested (framed pcb inf) most ≡ of_kind (kind_of pcb) (length inf) most
+  pub tested_back : (most : ℕ) → length inf ≤ inf_most → tested (framed pcb inf) most ≡ of_kind (kind_of pcb) (length inf) most
   unfolding tested in_frame framed
   tested_back most h =
       let long = framed_length pcb inf in
