@@ -20,15 +20,16 @@ mod store;
 
 use ask::{Command, View};
 use book::Book;
-use book_open::reopen;
+use book_open::{MOST, reopen};
 use one::Shelf;
 use slices::part;
 use std::io;
 use std::rt::{Env, Files};
+use tape_read::BLOCK;
 use text_print::fail;
 
 // One block more than a book can have is enough to know that a file is too long.
-const ROOM: usize = 2_097_664;
+const ROOM: usize = MOST + BLOCK;
 
 fn main(rt: HostRuntime) -> io::Result<()> {
     let mut bytes = [0u8; ROOM];
