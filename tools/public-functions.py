@@ -33,6 +33,7 @@ OTHERWISE = {
 # Those that fit more than one answer: docs/EXCEPTIONS.md names each and says why.
 EXCEPTIONS = {
     "text_input read_line": "all: of what comes from standard input no contract can speak",
+    "text_input open": "all: of what comes from the file system no contract can speak",
     "text_input fill": "all: of what comes from a file no contract can speak",
     "text_input read_full": "all: of what comes from standard input no contract can speak",
     "text_input open": "all: of a file no contract can speak",
@@ -44,6 +45,7 @@ EXCEPTIONS = {
     "text_print bytes_or_dash": "whether a write fails, and with which error: of standard output no contract can speak",
     "text_print tag": "whether a write fails, and with which error: of standard output no contract can speak",
     "text_print touched": "whether a write fails, and with which error: of standard output no contract can speak",
+    "text_kinds print_due": "whether a write fails, and with which error: of standard output no contract can speak",
     "judge_reading judge_file": "all: of what comes from a file no contract can speak",
     "playing next": "all: of a file and of standard output no contract can speak",
     "playing answer": "all: of a file and of standard output no contract can speak",

@@ -4,11 +4,9 @@
 // each tape: the plain judge's and the quick one's. A place that is left over is 0, and makes an empty tape.
 #![tactic(auto)]
 
-ghost use Rattle.std.specs.Prelude.{◌≤◌, length};
-
 use judge::judge;
 use quick_check::{damage, damages};
-use slices::{byte, part};
+use slices::part;
 use std::io;
 use text_input::read_full;
 use verdict::Finding;
@@ -26,52 +24,48 @@ fn main(rt: HostRuntime) -> io::Result<()> {
     tell(&rt, &mut head, &mut bytes)
 }
 
-fn tell(rt: &(impl Input + Print), head: &mut [u8], bytes: &mut [u8]) -> io::Result<()> {
+fn tell(
+    rt: &(impl Input + Print),
+    head: &mut [u8; HEAD],
+    bytes: &mut [u8; ROOM],
+) -> io::Result<()> {
     read_full(rt, head);
     let got = read_full(rt, bytes);
-    let mut ends = [0usize; TAPES];
-    read_ends(head, &mut ends);
+    let ends = read_ends(head);
     let tapes = part(bytes, 0, got);
-    alone(rt, tapes, &ends)?;
+    each_tape(tapes, &ends, |tape| alone(rt, tape))?;
     together(rt, tapes, &ends)?;
-    judged(rt, tapes, &ends)
+    each_tape(tapes, &ends, |tape| both(rt, tape))
 }
 
-fn read_ends(head: &[u8], ends: &mut [usize])
-    requires { length ends.old ≤ 1000 }
-{
-    let mut i = 0;
-    while i < ends.len() {
-        ends[i] = number(head, 4 * i);
-        i += 1;
+fn read_ends(head: &[u8; HEAD]) -> [usize; TAPES] {
+    let mut ends = [0usize; TAPES];
+    for (end, s) in ends.iter_mut().zip(head.chunks_exact(4)) {
+        *end = u32::from_be_bytes([s[0], s[1], s[2], s[3]]) as usize;
     }
+    ends
 }
 
-fn number(s: &[u8], at: usize) -> usize
-    requires { at ≤ 4000 }
+// Takes a step with each tape by itself. One that is said to end before it begins is empty.
+fn each_tape<F: FnMut(&[u8]) -> io::Result<()>>(
+    tapes: &[u8],
+    ends: &[usize],
+    mut step: F,
+) -> io::Result<()>
+    requires { F.IsAlwaysCallable step }
 {
-    let high = byte(s, at) * 256 + byte(s, at + 1);
-    let low = byte(s, at + 2) * 256 + byte(s, at + 3);
-    high * 65536 + low
-}
-
-fn later(from: usize, to: usize) -> usize
-    ensures { from ≤ result }
-{
-    if to < from { from } else { to }
-}
-
-fn alone(rt: &impl Print, tapes: &[u8], ends: &[usize]) -> io::Result<()> {
     let mut from = 0;
-    let mut i = 0;
-    while i < ends.len() {
-        let to = later(from, ends[i]);
-        let d = damage(part(tapes, from, to - from));
-        line(rt, d.place, d.code)?;
+    for end in ends {
+        let to = from.max(*end);
+        step(part(tapes, from, to - from))?;
         from = to;
-        i += 1;
     }
     Ok(())
+}
+
+fn alone(rt: &impl Print, tape: &[u8]) -> io::Result<()> {
+    let d = damage(tape);
+    line(rt, d.place, d.code)
 }
 
 fn together(rt: &impl Print, tapes: &[u8], ends: &[usize]) -> io::Result<()> {
@@ -82,22 +76,8 @@ fn together(rt: &impl Print, tapes: &[u8], ends: &[usize]) -> io::Result<()> {
 }
 
 fn lines(rt: &impl Print, places: &[usize; TAPES], codes: &[usize; TAPES]) -> io::Result<()> {
-    let mut i = 0;
-    while i < TAPES {
-        line(rt, places[i], codes[i])?;
-        i += 1;
-    }
-    Ok(())
-}
-
-fn judged(rt: &impl Print, tapes: &[u8], ends: &[usize]) -> io::Result<()> {
-    let mut from = 0;
-    let mut i = 0;
-    while i < ends.len() {
-        let to = later(from, ends[i]);
-        both(rt, part(tapes, from, to - from))?;
-        from = to;
-        i += 1;
+    for (place, code) in places.iter().zip(codes) {
+        line(rt, *place, *code)?;
     }
     Ok(())
 }

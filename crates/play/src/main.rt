@@ -68,11 +68,7 @@ fn main(rt: HostRuntime) {
 // Whether there is an argument at a place.
 fn is_there(rt: &impl Env, at: usize) -> bool {
     let mut none = [0u8; 0];
-    match rt.arg(at, &mut none) {
-        Ok(_) => true,
-        Err(FillError::TooLong) => true,
-        Err(FillError::NotPresent) => false,
-    }
+    !matches!(rt.arg(at, &mut none), Err(FillError::NotPresent))
 }
 
 // The session number that was asked for; NO_NUMBER where it is none.

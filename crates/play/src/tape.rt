@@ -1,7 +1,7 @@
 // The tape's name and its file.
 ghost use Rattle.std.specs.Prelude.{◌≤◌};
 
-use slices::{alike, byte, part};
+use slices::part;
 use std::env::FillError;
 use std::fs::OpenOptions;
 use std::io;
@@ -12,8 +12,6 @@ use text_print::fail;
 pub const ROOM: usize = 4096;
 
 const OVER: usize = 2;
-
-const DASH: usize = 0x2D;
 
 // The system's numbers for an argument that is not there, for one that is too long, and for one that is no text.
 const MISSING: i32 = 22;
@@ -28,10 +26,9 @@ pub fn name_at(rt: &impl Env) -> usize
 {
     let mut word = [0u8; ROOM];
     let n = rt.arg(1, &mut word).unwrap_or(0);
-    if alike(part(&word, 0, n), b"--over") {
-        OVER
-    } else {
-        1
+    match part(&word, 0, n) {
+        b"--over" => OVER,
+        _ => 1,
     }
 }
 
@@ -48,19 +45,19 @@ pub fn open<R: Env + Files + Eprint>(rt: &R, at: usize) -> Option<R::File> {
 }
 
 fn name_in<'a>(rt: &impl Env, at: usize, bytes: &'a mut [u8]) -> io::Result<&'a str> {
-    let n = match rt.arg(at, bytes) {
-        Ok(n) => n,
-        Err(FillError::NotPresent) => return Err(io::Error::from_raw_os_error(MISSING)),
-        Err(FillError::TooLong) => return Err(io::Error::from_raw_os_error(LONG)),
-    };
-    match str::from_utf8(part(bytes, 0, n)) {
-        Ok(name) => Ok(name),
-        Err(_) => Err(io::Error::from_raw_os_error(NO_TEXT)),
-    }
+    let n = rt.arg(at, bytes).map_err(why_missing)?;
+    str::from_utf8(part(bytes, 0, n)).map_err(|_| io::Error::from_raw_os_error(NO_TEXT))
+}
+
+fn why_missing(error: FillError) -> io::Error {
+    io::Error::from_raw_os_error(match error {
+        FillError::NotPresent => MISSING,
+        FillError::TooLong => LONG,
+    })
 }
 
 fn open_told<R: Files + Eprint>(rt: &R, at: usize, name: &str) -> Option<R::File> {
-    if byte(name.as_bytes(), 0) == DASH {
+    if name.starts_with('-') {
         let _ = rt.eprint("usage: play [[--over] TAPE [SESSION]]\n");
         return None;
     }

@@ -19,7 +19,7 @@ impl From<io::Error> for Stop {
 }
 
 impl Stop {
-    pub fn tell(&self, rt: &impl Eprint) {
+    pub(crate) fn tell(&self, rt: &impl Eprint) {
         match self {
             Self::Unsaid(e) => fail(rt, "standard output: a line was not written", e),
             Self::Unstored(e) => fail(rt, "tape", e),
