@@ -1,16 +1,13 @@
 // A tape judged, and what is due next on it.
 ghost use Rattle.std.specs.Prelude.{◌≡◌};
 ghost use Rattle.tape_read.specs.Tapes.{read_tape};
-ghost use Rattle.tape_feed.specs.Feeding.{pieces_of};
-ghost use Rattle.judge.specs.Feeding.{begun, fed_all};
 ghost use Rattle.lab.specs.Findings.{FoundOf, laid_finding};
 ghost use Rattle.lab.specs.Due.{due_on};
 
 use book_answer::verdict_number;
-use judge::{UnderWay, judge, pieces};
+use judge::{judge, pieces};
 use judge_due::due;
 use tape_feed::found;
-use tape_read::{BLOCK, block_at};
 use verdict::Finding;
 
 // The kind of no entry: the tape is unreadable, and nothing can stand next.
@@ -49,27 +46,12 @@ pub fn lab_due(tape: &[u8], next: &mut [u64; 2], out: &mut [u8])
     ensures next_after { next.new ≡ (due_on (read_tape tape.now) out.old).next }
     ensures out_after { out.new ≡ (due_on (read_tape tape.now) out.old).buffer }
 {
-    let u = followed(tape);
-    let reader = u.reader;
-    let why = found(reader);
+    let u = pieces::feed_all(tape);
+    let why = found(u.reader);
     if why.code != 0 {
         *next = [NO_TAPE, why.code as u64];
         return;
     }
     let d = due(u, out);
     *next = [d.kind as u64, d.size as u64];
-}
-
-// The whole tape handed in, piece by piece.
-fn followed(tape: &[u8]) -> UnderWay
-    ensures { result ≡ fed_all begun (pieces_of tape.now) }
-{
-    let mut u = pieces::begin();
-    let mut k = 0;
-    while k <= tape.len() / BLOCK {
-        let next = pieces::feed(u, block_at(tape, k));
-        u = next;
-        k += 1;
-    }
-    u
 }

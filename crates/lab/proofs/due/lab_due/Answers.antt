@@ -9,7 +9,7 @@ pub returns-then-why-ne0 : goal.returns-then-why-ne0
 returns-then-why-ne0 c =
     let args = c.args in
     let both = both
-    (nothing_due args.tape.now c.followed-u.result c.followed-u.ensures c.found-why.result c.found-why.ensures args.out.now
+    (nothing_due args.tape.now c.feed_all-u.result c.feed_all-u.ensures c.found-why.result c.found-why.ensures args.out.now
     c.if-why-ne0.true) in
     record { next_after = both.0; out_after = both.1 }
 
@@ -19,6 +19,6 @@ returns c =
     let t = args.tape.now in
     let bytes = bytes_each t (λ i h. omega (arith, c.type_inv.tape i)) in
     let both = both
-    (next_due t c.followed-u.result c.followed-u.ensures c.found-why.result c.found-why.ensures args.out.now bytes
+    (next_due t c.feed_all-u.result c.feed_all-u.ensures c.found-why.result c.found-why.ensures args.out.now bytes
     c.if-why-ne0.false c.due-d.result _ c.due-d.ensures) in
     record { next_after = both.0; out_after = both.1 }
