@@ -158,7 +158,8 @@ fn print_reply(rt: &impl Print, s: Session, reply: Reply, command: &[u8]) -> io:
             text(rt, b"DECISION ")?;
             bytes(rt, &decision(s.state))?;
         }
-        Reply::Closed => text(rt, b"CLOSED")?,
+        // in one write
+        Reply::Closed => return text(rt, b"CLOSED\n"),
         Reply::Refused(n) => print!(rt; "REFUSED {n}")?,
     }
     text(rt, b"\n")
