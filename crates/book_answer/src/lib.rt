@@ -23,7 +23,7 @@ pub fn entry_of(tape: u32, ruling: Ruling) -> Entry
     }
 }
 
-// The number of a verdict, as a block of the book has it.
+// The number of a verdict, as a block of the book has it. A verdict knows nothing of books, so this is no `From` beside its type.
 #[tactic(auto, unfolding(crate::specs::Answers::verdict_number))]
 pub fn verdict_number(verdict: Verdict) -> u8
     ensures { result ≡ verdict_number verdict }

@@ -65,7 +65,7 @@ fault_of n b =
     (pick (zeros_bad b) (Some BadZeros)
     None)))
 
--- the number of each fault (house); 1, 2 and 7 are faults of the whole book
+-- the number of each fault (house); 1 and 2 are faults of the whole book, 7 of a block beside those before it
 unfoldable pub fault_number : Fault → ℕ
 fault_number TooLong = 1
 fault_number Torn = 2

@@ -19,7 +19,7 @@ pub enum Request {
     Second(Cryptogram),
 }
 
-// P1 of GENERATE AC.
+// P1 of GENERATE AC: one of two bytes that stand for a cryptogram (9F27 has the other), so no `From`.
 pub fn p1(asked: Cryptogram) -> u8
     ensures { result ≡ p1_of asked }
 {

@@ -61,6 +61,7 @@ pub fn lab_book_enter(
     reply_number(book.enter(e, bytes))
 }
 
+// As C is told it.
 #[tactic(auto, unfolding(crate::specs::Books::reply_number))]
 fn reply_number(reply: Result<(), Refusal>) -> u8
     ensures { result ≡ reply_number reply }

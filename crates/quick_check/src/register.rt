@@ -45,8 +45,8 @@ pub fn past(register: u32, times: usize, behind: &[u32; 512]) -> u32
     r
 }
 
-// Four bytes as a number, the first one lowest. The check itself has the same for its own use: a public one would require that four bytes
-// are there, and no public function requires anything.
+// Four bytes as a number, the first one lowest. The check of `tape_crc` has the same for its own use: one that it handed out would require
+// that four bytes are there, and what a crate hands out requires nothing.
 fn word(s: &[u8], i: usize) -> u32
     requires { i + 4 ≤ length s.now }
     ensures { let at : ℕ → ℕ = λ k. get_or s.now k 0 in

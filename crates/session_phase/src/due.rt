@@ -53,7 +53,7 @@ pub fn count_due(waiting: Waiting) -> usize
     }
 }
 
-// 1 approved, 2 declined, 3 terminated; 0 while there is no decision.
+// 1 approved, 2 declined, 3 terminated; 0 while there is no decision. Two numbers of a state, outcome and reason, so neither is a `From`.
 pub fn outcome(waiting: Waiting) -> u8
     ensures { result ≡ outcome_of waiting }
 {

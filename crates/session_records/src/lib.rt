@@ -25,7 +25,7 @@ pub struct Store {
     pub bytes: [u8; END],
 }
 
-// A long value that is kept by value: its first `len` bytes count, where it is there at all.
+// A long value that is kept by value (no heap, so an array with a length): its first `len` bytes count, where it is there at all.
 #[derive(Clone, Copy)]
 pub struct Run {
     pub bytes: [u8; LONGEST],

@@ -14,7 +14,7 @@ use start_fields::fields::FULL;
 #[derive(Clone, Copy)]
 pub struct State {
     pub waiting: Waiting,
-    // START's bytes, of which the first `size` count
+    // START's bytes, of which the first `size` count; no heap, so an array with a length
     pub start: [u8; FULL],
     pub size: usize,
     pub tvr: [u8; 5],

@@ -40,7 +40,7 @@ pub fn blank(buf: &mut [u8], b: u8)
     buf.fill(b);
 }
 
-// Whether two slices are the same.
+// Whether two slices are the same: `==`, under the name that definitions above have for it.
 pub fn alike(a: &[u8], b: &[u8]) -> bool
     ensures { result ≡ alike_of a.now b.now }
 {

@@ -49,6 +49,7 @@ pub enum Octet {
     Maximum,
 }
 
+// Of a field two numbers are asked, so neither is a `From`.
 impl Field {
     fn begin(self) -> usize
         ensures { result ≡ begin_of self }
@@ -93,6 +94,7 @@ impl Field {
     }
 }
 
+// A place in START and no number of its own, so a method and no `From`.
 impl Octet {
     fn place(self) -> usize
         ensures { result ≡ octet_at self }

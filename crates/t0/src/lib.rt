@@ -20,7 +20,7 @@ pub fn step(s: State, b: u8, out: &mut [u8; DATA_MOST], answer: &mut [u8; ANSWER
 {
     let turn = after(s, b);
     let state = turn.state;
-    // a match, for with `map` and a closure that writes both buffers the proof did not close
+    // a match: a closure for `map` would write both lent buffers, and its proof does not close
     let reply = match turn.act {
         Ok(act) => Ok(done(act, &state, s.received, out, answer)),
         Err(why) => Err(why),

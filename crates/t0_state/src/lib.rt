@@ -2,7 +2,7 @@
 #![tactic(auto)]
 
 pub mod bytes;
-pub mod change;
+mod change;
 mod names;
 
 use apdu::{Case, DATA_MOST, Trailer};

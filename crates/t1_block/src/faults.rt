@@ -87,6 +87,7 @@ fn exactly(kind: Kind, n: u8, size: u8) -> Result<Kind, Fault>
     if n == size { Ok(kind) } else { Err(Fault::Inf) }
 }
 
+// How many bytes the field of an S-block has.
 fn size_of(w: What) -> u8
     ensures { result ≡ size_of w }
 {

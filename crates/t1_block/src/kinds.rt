@@ -34,7 +34,7 @@ fn bit_of(b: bool, n: u8) -> u8
     if b { n } else { 0 }
 }
 
-// Not a conversion of a kind: an R-block carries a code besides.
+// An I-block. Three functions and no `From` of a kind, since an R-block carries a code besides.
 pub fn pcb_of_i(number: bool, more: bool) -> u8
     ensures { result ≡ pcb_of_i number more }
 {
@@ -50,6 +50,7 @@ pub fn pcb_of_r(number: bool, code: u8) -> u8
     0x80 + n + code % 16
 }
 
+// One of three numbers of what an S-block asks for (the others: the size of its field, how often it is asked), so no `From`.
 fn what_number(w: What) -> u8
     ensures { (result ≡ what_number w) × (result < 4) }
 {

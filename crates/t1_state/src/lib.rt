@@ -59,7 +59,7 @@ pub struct Counts {
     pub same: usize,
 }
 
-// A message of ours with zeros behind it, and the piece of it that is out.
+// A message of ours with zeros behind it (no heap, so an array with a length), and the piece of it that is out.
 #[derive(Clone, Copy)]
 pub struct Message {
     pub bytes: [u8; ANSWER_MOST],

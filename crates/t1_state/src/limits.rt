@@ -69,6 +69,7 @@ fn card_limit(last: Last) -> usize
     }
 }
 
+// How often a request may go out.
 fn asking_limit(w: What) -> usize
     ensures { (result ≡ asking_limit w) × (result ≤ 3) }
 {

@@ -18,6 +18,7 @@ pub enum Word {
     Results,
 }
 
+// Of a word two numbers are asked, its kind and its refusal, so neither is a `From`.
 pub fn kind(word: Word) -> u8
     ensures { result ≡ word_kind word }
 {
