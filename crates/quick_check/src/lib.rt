@@ -10,11 +10,11 @@ ghost use Rattle.std.specs.Prelude.{◌≡◌, set};
 ghost use Rattle.tape_read.specs.Tapes.{read_from};
 ghost use Rattle.tape_feed.specs.Feeding.{damaged};
 ghost use Rattle.quick_check.specs.Damages.{damage_said, damage_in, length_damage, end_of, places_told, codes_told};
-ghost use Rattle.quick_check.specs.Tables.{Rows, Behind};
 
 use behind::BEHIND;
 use block::code;
 use numbers::{CODE_LONG, CODE_TORN};
+use register::Stored;
 use rows::ROWS;
 use tape_feed::Damage;
 use tape_read::{BLOCK, TAPE, block_at, session};
@@ -43,25 +43,26 @@ pub fn damages(bytes: &[u8], ends: &[usize], places: &mut [usize], codes: &mut [
     // Laid out once and lent: a constant is copied wherever it is named.
     let rows = ROWS;
     let behind = BEHIND;
-    each(bytes, ends, places, codes, &rows, &behind);
+    each(
+        bytes,
+        ends,
+        places,
+        codes,
+        Stored {
+            rows: &rows,
+            behind: &behind,
+        },
+    );
 }
 
-fn each(
-    bytes: &[u8],
-    ends: &[usize],
-    places: &mut [usize],
-    codes: &mut [usize],
-    rows: &[u32; 2048],
-    behind: &[u32; 512],
-)
-    requires { Rows rows.now × Behind behind.now }
+fn each(bytes: &[u8], ends: &[usize], places: &mut [usize], codes: &mut [usize], stored: Stored<'_>)
     ensures { (places.new ≡ places_told bytes.now ends.now places.old)
         × (codes.new ≡ codes_told bytes.now ends.now codes.old) }
 {
     let mut from = 0;
     for (i, end) in ends.iter().enumerate() {
         let to = end_of(bytes.len(), from, *end);
-        let d = of_tape(&bytes[from..to], rows, behind);
+        let d = of_tape(&bytes[from..to], stored);
         store(places, i, d.place);
         store(codes, i, d.code);
         from = to;
@@ -109,24 +110,22 @@ fn of_length(tape: &[u8]) -> Damage
     at(0, 0)
 }
 
-fn of_tape(tape: &[u8], rows: &[u32; 2048], behind: &[u32; 512]) -> Damage
-    requires { Rows rows.now × Behind behind.now }
+fn of_tape(tape: &[u8], stored: Stored<'_>) -> Damage
     ensures { result ≡ damage_in tape.now }
 {
     let why = of_length(tape);
     if why.code != 0 {
         return why;
     }
-    first_bad(tape, session(block_at(tape, 0)), rows, behind)
+    first_bad(tape, session(block_at(tape, 0)), stored)
 }
 
 // The first bad block, if there is one; those behind it are not read.
-fn first_bad(tape: &[u8], due: u32, rows: &[u32; 2048], behind: &[u32; 512]) -> Damage
-    requires { Rows rows.now × Behind behind.now }
+fn first_bad(tape: &[u8], due: u32, stored: Stored<'_>) -> Damage
     ensures { result ≡ damage_said (read_from 0 due tape.now) }
 {
     for k in 0..tape.len() / BLOCK {
-        let why = code(&tape[k * BLOCK..(k + 1) * BLOCK], k, due, rows, behind);
+        let why = code(&tape[k * BLOCK..(k + 1) * BLOCK], k, due, stored);
         if why != 0 {
             return at(k, why as usize);
         }

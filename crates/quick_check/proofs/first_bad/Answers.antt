@@ -26,12 +26,9 @@ next_block tape k = ap (λ (n : ℕ). take n (drop (k * block_size) tape)) (one 
 pub code-why-requires : goal.code-why-requires
 code-why-requires c =
     let l = c.loop-k in
-    let tape = c.args.tape.now in (
-      c.requires.0,
-      c.requires.1,
-      ap length (next_block tape l.k)
-          ∙ length-take-le block_size (drop (l.k * block_size) tape) (omega (arith, length-drop (l.k * block_size) tape)),
-    )
+    let tape = c.args.tape.now in
+    ap length (next_block tape l.k)
+    ∙ length-take-le block_size (drop (l.k * block_size) tape) (omega (arith, length-drop (l.k * block_size) tape))
 
 pub returns-then-why-ne0 : goal.returns-then-why-ne0
 returns-then-why-ne0 c =

@@ -22,8 +22,7 @@ check_of-check-requires c =
     let clear : let from = payload_at + size in all_zero (take (covered - from) (drop from c.args.block.now)) ≡ true =
     sym c.is_zero.ensures ∙ c.if-is_zero.true
     in
-    let pre = c.requires in
-    (pre.0, pre.1, pre.2, omega arith, omega arith, clear)
+    (c.requires, omega arith, omega arith, clear)
 
 pub returns-then-number-check : goal.returns-then-number-check
 unfolding check_bad
