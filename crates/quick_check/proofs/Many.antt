@@ -7,11 +7,14 @@ use native.Mathlib.Numerals.{add-one}
 use native.Mathlib.Omega.{arith}
 use lib.Dec.{ltb}
 use lib.ListN.{length, get_or, set, take, drop, drop_of_length-le, length-set}
-use lib.Seq.{take-length, drop-cons, sets, get_or-set_same, get_or-set_other}
+use lib.Seq.{take-length, drop-cons, sets, set_out, get_or-set_same, get_or-set_other}
 use borrow.Author.Tests.{ltb-false, le-ltb}
 use Rattle.slices.specs.Choice.{pick}
 use Rattle.slices.proofs.Choice.{pick_no, picked}
 use Rattle.quick_check.specs.Damages.{damage_in, end_of, tape_in, tapes_from, places_told, codes_told}
+
+-- a number stored past the end changes nothing
+pub ruleset past_the_end = (set_out)
 
 -- a tape ends not before it begins, and within the bytes
 pub end_within : (size from to : ℕ) → from ≤ size → (from ≤ end_of size from to) × (end_of size from to ≤ size)

@@ -16,6 +16,7 @@ const STEP: usize = 32;
 
 // Whether the block may stand where this number and this session are due: 0, or the code of the first test that fails. A block whose
 // length is not allowed, or that has another byte than zero behind its payload, is left to the plain check.
+#[tactic(auto, using(crate::proofs::Fields::fields_told))]
 pub fn code(block: &[u8], due_number: usize, due_session: u32, stored: Stored<'_>) -> u8
     requires { length block.now ≡ block_size }
     ensures { result ≡ code_of due_number due_session block.now }
@@ -36,6 +37,7 @@ pub fn code(block: &[u8], due_number: usize, due_session: u32, stored: Stored<'_
 }
 
 // The check of a block that has only zeros from a place on.
+#[tactic(auto, using(crate::proofs::Zeros::part_taken))]
 fn check_of(block: &[u8], from: usize, stored: Stored<'_>) -> u32
     requires { (length block.now ≡ block_size) × (payload_at ≤ from) × (from ≤ covered)
         × (all_zero (take (covered - from) (drop from block.now)) ≡ true) }
@@ -50,6 +52,7 @@ fn check_of(block: &[u8], from: usize, stored: Stored<'_>) -> u32
 }
 
 // The code of a block whose check, length and padding are right.
+#[tactic(auto, using(crate::proofs::Fields::tests_left), unfolding(slices::specs::Choice::pick))]
 fn heading(block: &[u8], due_number: usize, due_session: u32) -> u8
     requires { (check_bad block.now ≡ false) × (length_bad block.now ≡ false) × (padding_bad block.now ≡ false) }
     ensures { result ≡ code_of due_number due_session block.now }

@@ -70,6 +70,7 @@ fn each(bytes: &[u8], ends: &[usize], places: &mut [usize], codes: &mut [usize],
 }
 
 // Where a tape ends that begins at one place and is said to end at another.
+#[tactic(auto, unfolding(crate::specs::Damages::end_of, slices::specs::Choice::pick))]
 fn end_of(size: usize, from: usize, to: usize) -> usize
     ensures { result ≡ end_of size from to }
 {
@@ -83,6 +84,7 @@ fn end_of(size: usize, from: usize, to: usize) -> usize
 }
 
 // A number at an index; past the end nothing changes.
+#[tactic(auto, using(crate::proofs::Many::past_the_end))]
 fn store(out: &mut [usize], i: usize, x: usize)
     ensures { out.new ≡ set out.old i x }
 {
@@ -98,6 +100,7 @@ fn at(place: usize, code: usize) -> Damage
 }
 
 // What a tape's length speaks against: code 1 or 2; code 0 where its blocks decide.
+#[tactic(auto, unfolding(crate::specs::Damages::length_damage, slices::specs::Choice::pick))]
 fn of_length(tape: &[u8]) -> Damage
     ensures { result ≡ length_damage tape.now }
 {
