@@ -1,5 +1,5 @@
 -- Fields of a block, as they are found: the payload's length in its two bytes, the check at the beginning of what stands behind all that
--- it covers, and the padding as a part of the block. Assumes nothing.
+-- it covers, and the padding as a part of the block; and the block's tests by what is found. Assumes nothing.
 use mathlib.Core.Path.{◌≡◌, refl, sym, ap, ap₂, ◌∙◌}
 use mathlib.Core.Bool.{true, false, not}
 use mathlib.Core.List.{List, ◌∷◌}
@@ -47,8 +47,9 @@ padding_of b n e fits =
     ∙ (window_zero (payload_most - n) (payload_at + n) b
     ∙ ap (λ (k : ℕ). all_zero (window (payload_most - k) (payload_at + k) b)) (sym e))
 
--- ---- the tests, by what is found of the fields
+-- ---- the tests
 
+-- in their order, those of the heading by its fields
 pub tests_left : (n s : ℕ) (b : List ℕ)
     → code_of n s b
     ≡ pick (check_bad b) 3
@@ -62,6 +63,7 @@ unfolding code_of content_tests first_of number_bad session_bad kind_bad spare_b
 tests_left n s b = rw (byte_field 9 b) refl
 
 module _ (b : List ℕ) where
+  -- what is read behind all that the check covers
   pub check_there : number_in (take (length b - covered) (drop covered b)) ≡ check_in b
   check_there = ap number_in (rest_part b covered) ∙ check_of_lem b
 
@@ -83,4 +85,5 @@ module _ (b : List ℕ) where
   unfolding padding_bad
   padding_right n e fits clear = ap not (sym (padding_of b n e fits) ∙ clear)
 
+-- what the goals of `block::code` stand on
 pub ruleset fields_told = (length_of_lem, check_there, check_wrong, check_right, length_right, padding_right)

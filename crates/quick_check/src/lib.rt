@@ -20,6 +20,7 @@ use tape_feed::Damage;
 use tape_read::{BLOCK, TAPE, block_at, session};
 
 // The damage of one tape: of the only one there is. Its length is looked at before anything is laid out.
+#[tactic(auto, using(crate::proofs::Lengths::by_length))]
 pub fn damage(tape: &[u8]) -> Damage
     ensures { result ≡ damage_in tape.now }
 {
@@ -113,6 +114,7 @@ fn of_length(tape: &[u8]) -> Damage
     at(0, 0)
 }
 
+#[tactic(auto, using(crate::proofs::Lengths::by_its_length), unfolding(tape_read::specs::Tapes::session_of))]
 fn of_tape(tape: &[u8], stored: Stored<'_>) -> Damage
     ensures { result ≡ damage_in tape.now }
 {

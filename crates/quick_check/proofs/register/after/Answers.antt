@@ -11,21 +11,12 @@ use Rattle.tape_crc.proofs.ByTables.{turn_of_four}
 use Rattle.quick_check.proofs.Turns.{turn_of_eight}
 use Rattle.quick_check.proofs.register.after.Goals as goal
 
-pub word-requires : goal.word-requires
-word-requires c = omega (arith, c.requires)
-
 pub loop-k-init : goal.loop-k-init
 loop-k-init c =
     let s = c.args.s.now in
     let byte : (j : ℕ) → get_or s j 0 < 256 = λ j. (c.type_inv.s j).fits in
     ap (λ (r : ℕ). running_of r (drop 4 s)) c.turn-r.ensures
     ∙ turn_of_four ones 0 s c.word.result c.word.ensures (omega (arith, c.requires)) byte
-
-pub word-requires-in-loop-k : goal.word-requires-in-loop-k
-word-requires-in-loop-k c = omega (arith, c.requires)
-
-pub word-requires-in-loop-k-2 : goal.word-requires-in-loop-k-2
-word-requires-in-loop-k-2 c = omega (arith, c.requires)
 
 pub loop-k-preserved : goal.loop-k-preserved
 loop-k-preserved c =
