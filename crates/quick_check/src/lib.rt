@@ -56,6 +56,7 @@ pub fn damages(bytes: &[u8], ends: &[usize], places: &mut [usize], codes: &mut [
     );
 }
 
+#[tactic(auto, using(crate::proofs::Many::tape_ends))]
 fn each(bytes: &[u8], ends: &[usize], places: &mut [usize], codes: &mut [usize], stored: Stored<'_>)
     ensures { (places.new ≡ places_told bytes.now ends.now places.old)
         × (codes.new ≡ codes_told bytes.now ends.now codes.old) }
@@ -126,6 +127,7 @@ fn of_tape(tape: &[u8], stored: Stored<'_>) -> Damage
 }
 
 // The first bad block, if there is one; those behind it are not read.
+#[tactic(auto, using(crate::proofs::Saying::each_block))]
 fn first_bad(tape: &[u8], due: u32, stored: Stored<'_>) -> Damage
     ensures { result ≡ damage_said (read_from 0 due tape.now) }
 {
