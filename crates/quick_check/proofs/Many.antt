@@ -30,6 +30,7 @@ module _ (size from to : ℕ) (inside : from ≤ size) where
       picked (λ (e : ℕ). e ≤ size) (ltb to from) from (pick (ltb size to) from to) (λ _. inside)
       (λ _. picked (λ (e : ℕ). e ≤ size) (ltb size to) from to (λ _. inside) (λ fits. ltb-false size to fits))
 
+-- what the bounds of a tape in `each` stand on
 pub ruleset tape_ends = (end_after, end_within, length-set)
 
 at_end_lem : (n : ℕ) → end_of n 0 n ≡ n

@@ -67,4 +67,5 @@ module _ (k s : ℕ) (tape : List ℕ) where
         ap (λ (t : List ℕ). damage_said (read_from (k + 1) s t)) (sym (rest_next k tape))
         ∙ sym (said_good k s rest there (sym (ap (code_of k s) next_block) ∙ good))
 
+-- what the goals of `first_bad` stand on
 pub ruleset each_block = (tape_end, lent_size, tape_bad, tape_good)
