@@ -15,8 +15,9 @@ use Rattle.numbers.specs.Tables.{is_kind}
 use Rattle.tape_crc.specs.Check.{covered, block_check_of}
 use Rattle.tape_read.specs.Numbers.{number_of}
 use Rattle.tape_read.specs.Entries.{payload_most}
-use Rattle.tape_read.specs.Blocks.{window, field, number_in, session_in, kind_in, length_in, check_in, payload_at, padding_in, all_zero}
-use Rattle.tape_read.specs.Blocks.{check_bad, number_bad, session_bad, kind_bad, spare_bad, length_bad, padding_bad, content_tests, code_of}
+use Rattle.tape_read.specs.Blocks.{window, field, number_in, session_in, kind_in, length_in, check_in, payload_at, padding_in}
+use Rattle.tape_read.specs.Blocks.{all_zero, check_bad, number_bad, session_bad, kind_bad, spare_bad, length_bad, padding_bad}
+use Rattle.tape_read.specs.Blocks.{content_tests, code_of}
 use Rattle.tape_read.proofs.Windows.{window_zero, byte_field}
 use Rattle.tape_read.proofs.Codes.{code_check_lem}
 

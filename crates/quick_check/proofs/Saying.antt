@@ -59,7 +59,8 @@ module _ (k s : ℕ) (tape : List ℕ) where
 
     pub tape_bad : (code_of k s lent ≡ 0 → ⊥) → damage_said (read_from k s rest) ≡ damaged k (code_of k s lent)
     tape_bad bad =
-        said_bad k s rest there (λ e. bad (ap (code_of k s) next_block ∙ e)) ∙ ap (λ (b : List ℕ). damaged k (code_of k s b)) (sym next_block)
+        said_bad k s rest there (λ e. bad (ap (code_of k s) next_block ∙ e))
+        ∙ ap (λ (b : List ℕ). damaged k (code_of k s b)) (sym next_block)
 
     pub tape_good : code_of k s lent ≡ 0
         → damage_said (read_from (k + 1) s (drop ((k + 1) * block_size) tape)) ≡ damage_said (read_from k s rest)
