@@ -39,3 +39,6 @@ module _ (t : List ℕ) where
       either (not (eqb (length t % block_size) 0))
       (λ y. decided 1 (pick_no _ _ _ k ∙ pick_yes _ _ _ y) refl z)
       (λ m. ap damage_said (pick_no _ _ _ k ∙ pick_no _ _ _ m)))
+
+-- what the two answers of `of_tape` stand on
+pub ruleset by_its_length = (by_length, by_blocks)

@@ -7,22 +7,31 @@ use native.Mathlib.Numerals.{add-one}
 use native.Mathlib.Omega.{arith}
 use lib.Dec.{ltb}
 use lib.ListN.{length, get_or, set, take, drop, drop_of_length-le, length-set}
-use lib.Seq.{take-length, drop-cons, sets, get_or-set_same, get_or-set_other}
+use lib.Seq.{take-length, drop-cons, sets, set_out, get_or-set_same, get_or-set_other}
 use borrow.Author.Tests.{ltb-false, le-ltb}
 use Rattle.slices.specs.Choice.{pick}
 use Rattle.slices.proofs.Choice.{pick_no, picked}
 use Rattle.quick_check.specs.Damages.{damage_in, end_of, tape_in, tapes_from, places_told, codes_told}
 
+-- a number stored past the end changes nothing
+pub ruleset past_the_end = (set_out)
+
 -- a tape ends not before it begins, and within the bytes
-pub end_within : (size from to : ℕ) → from ≤ size → (from ≤ end_of size from to) × (end_of size from to ≤ size)
-unfolding end_of
-end_within size from to inside =
-    picked (λ (e : ℕ). (from ≤ e) × (e ≤ size)) (ltb to from) from (pick (ltb size to) from to)
-    (λ _. (omega arith, inside))
-    (λ order.
-    picked (λ (e : ℕ). (from ≤ e) × (e ≤ size)) (ltb size to) from to
-    (λ _. (omega arith, inside))
-    (λ fits. (ltb-false to from order, ltb-false size to fits)))
+module _ (size from to : ℕ) (inside : from ≤ size) where
+  pub end_after : from ≤ end_of size from to
+  unfolding end_of
+  end_after =
+      picked (λ (e : ℕ). from ≤ e) (ltb to from) from (pick (ltb size to) from to) (λ _. omega arith)
+      (λ order. picked (λ (e : ℕ). from ≤ e) (ltb size to) from to (λ _. omega arith) (λ _. ltb-false to from order))
+
+  pub end_within : end_of size from to ≤ size
+  unfolding end_of
+  end_within =
+      picked (λ (e : ℕ). e ≤ size) (ltb to from) from (pick (ltb size to) from to) (λ _. inside)
+      (λ _. picked (λ (e : ℕ). e ≤ size) (ltb size to) from to (λ _. inside) (λ fits. ltb-false size to fits))
+
+-- what the bounds of a tape in `each` stand on
+pub ruleset tape_ends = (end_after, end_within, length-set)
 
 at_end_lem : (n : ℕ) → end_of n 0 n ≡ n
 unfolding end_of

@@ -19,6 +19,9 @@ use Rattle.tape_read.specs.Blocks.{all_zero}
 use Rattle.tape_read.proofs.Extra.{zeros_bytes}
 use Rattle.quick_check.specs.Tables.{step}
 
+-- as many bytes as are taken, where they are there
+pub ruleset part_taken = (length-take-le)
+
 no_number : (n : ℕ) → low_first (zeros n) ≡ 0
 unfolding zeros
 no_number zero = refl

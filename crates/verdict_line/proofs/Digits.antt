@@ -34,6 +34,9 @@ module _ (n : ℕ) where
       pick_no _ _ _ (le-ltb n 10 h)
       ∙ ap (λ (l : List ℕ). l ++ ((0x30 + n % 10) ∷ [])) (enough n (suc (n / 10)) (n / 10) (omega arith) (omega arith))
 
+  pub small_length : n < 10 → length (decimal n) ≡ 1
+  small_length h = ap length (decimal_small h)
+
   pub large_length : 10 ≤ n → length (decimal n) ≡ length (decimal (n / 10)) + 1
   large_length h = ap length (decimal_large h) ∙ length-append (decimal (n / 10)) _
 

@@ -5,45 +5,38 @@ use mathlib.Core.Path.{◌≡◌, sym, ap, ◌∙◌}
 use mathlib.Core.List.{List, [], ◌∷◌, ◌++◌, append_assoc}
 use Prim.Native.Nat.{ℕ, ◌+◌, ◌/◌, ◌%◌, ◌^◌, ◌≤◌, ◌<◌}
 use native.Mathlib.Omega.{arith}
-use lib.ListN.{length, take, set, length-append}
+use lib.ListN.{length, take, set, length-append, length-take, length-set}
 use lib.Seq.{sets-eq, drop-drop, take-append_seam}
 use borrow.Author.Tests.{le-leb, lt-leb}
 use Rattle.slices.specs.Writing.{put, laid}
 use Rattle.slices.proofs.Choice.{pick_yes, pick_no}
 use Rattle.slices.proofs.Writing.{put_length, put_step, put_start, laid_fits, laid_short}
 use Rattle.verdict_line.specs.Line.{word_of, decimal, field_of, line_of, line_size}
-use Rattle.verdict.specs.declared.Verdict.{Verdict}
 use Rattle.verdict.specs.declared.Finding.{Finding}
-use Rattle.verdict_line.proofs.Digits.{decimal_small, decimal_large, large_length, field_length, decimal_most}
+use Rattle.verdict_line.proofs.Digits.{decimal_small, decimal_large, small_length, large_length, field_length, decimal_most, decimal_some}
 
 one_store : (d : List ℕ) (p x : ℕ) → p < length d → set d p x ≡ put (x ∷ []) p d
 unfolding put
 one_store d p x h = sets-eq (x ∷ []) d p (omega arith) ∙ (rw drop-drop (simp append_assoc))
 
 module _ (d : List ℕ) (at n : ℕ) (room : at + length (decimal n) ≤ length d) where
-  pub small_laid : n < 10 → (at + 1 ≡ at + length (decimal n)) × (set d at (0x30 + n) ≡ put (decimal n) at d)
+  pub small_laid : n < 10 → set d at (0x30 + n) ≡ put (decimal n) at d
   small_laid h =
-      let digit = decimal_small n h in
-      let size = ap length digit in
-      (omega arith, one_store d at (0x30 + n) (omega arith) ∙ ap (λ (l : List ℕ). put l at d) (sym digit))
-
-  pub large_room : 10 ≤ n → at + length (decimal (n / 10)) < length d
-  large_room h = let size = large_length n h in omega arith
+      let size = small_length n h in
+      one_store d at (0x30 + n) (omega arith) ∙ ap (λ (l : List ℕ). put l at d) (sym (decimal_small n h))
 
   pub large_laid : 10 ≤ n → (out : List ℕ) (end : ℕ) → end ≡ at + length (decimal (n / 10)) → out ≡ put (decimal (n / 10)) at d
-      → (end + 1 ≡ at + length (decimal n)) × (set out end (0x30 + n % 10) ≡ put (decimal n) at d)
+      → set out end (0x30 + n % 10) ≡ put (decimal n) at d
   large_laid h out end e o =
       let tenth = decimal (n / 10) in
       let last : List ℕ = (0x30 + n % 10) ∷ [] in
       let size = large_length n h in
       let fits : at + length tenth ≤ length d = omega arith in
-      let long : length out ≡ length d = ap length o ∙ put_length tenth at d fits in (
-        omega arith,
-        one_store out end (0x30 + n % 10) (omega arith)
-            ∙ (ap (put last end) o
-            ∙ (ap (λ (p : ℕ). put last p (put tenth at d)) e
-            ∙ (sym (put_step tenth last at d fits) ∙ ap (λ (l : List ℕ). put l at d) (sym (decimal_large n h))))),
-      )
+      let long : length out ≡ length d = ap length o ∙ put_length tenth at d fits in
+      one_store out end (0x30 + n % 10) (omega arith)
+      ∙ (ap (put last end) o
+      ∙ (ap (λ (p : ℕ). put last p (put tenth at d)) e
+      ∙ (sym (put_step tenth last at d fits) ∙ ap (λ (l : List ℕ). put l at d) (sym (decimal_large n h)))))
 
 -- a space, and the number after it
 pub field_laid : (d : List ℕ) (at n : ℕ) (out : List ℕ) → at + length (field_of n) ≤ length d
@@ -57,12 +50,6 @@ field_laid d at n out room o =
 -- a space and a 64-bit number take at most 21 bytes
 pub field_most : (n : ℕ) → n < 2 ^ 64 → length (field_of n) ≤ 21
 field_most n h = let e = field_length n in let most = decimal_most 19 n (omega arith) in omega arith
-
--- the word of a verdict that was told
-pub word_laid : (v w : Verdict) (n : ℕ) (d out : List ℕ) → v ≡ w → n ≡ length (word_of w) → n ≤ 12 → out ≡ laid (word_of w) 0 d
-    → ((n ≡ length (word_of v)) × (n ≤ 12)) × (out ≡ laid (word_of v) 0 d)
-word_laid v w n d out e size small o =
-    ((size ∙ ap (λ (x : Verdict). length (word_of x)) (sym e), small), o ∙ ap (λ (x : Verdict). laid (word_of x) 0 d) (sym e))
 
 -- ---- the whole line
 
@@ -118,10 +105,21 @@ line_taken a blank text n e o =
     ap (λ (k : ℕ). take k text) e ∙ (ap (take (length (line_of a))) (o ∙ put_start (line_of a) blank) ∙ take-append_seam (line_of a) _)
 
 module _ (a : Finding) (buf : List ℕ) where
-  pub unwritten : length buf < length (line_of a) → (0 ≡ line_size (length buf) a) × (buf ≡ laid (line_of a) 0 buf)
+  pub none_taken : length buf < length (line_of a) → line_size (length buf) a ≡ 0
   unfolding line_size
-  unwritten h = (sym (pick_no _ _ _ (lt-leb (length (line_of a)) (length buf) h)), sym (laid_short (line_of a) 0 buf (omega arith)))
+  none_taken h = pick_no _ _ _ (lt-leb (length (line_of a)) (length buf) h)
 
-  pub size_written_lem : (n : ℕ) → n ≡ length (line_of a) → length (line_of a) ≤ length buf → n ≡ line_size (length buf) a
+  pub all_taken : length (line_of a) ≤ length buf → line_size (length buf) a ≡ length (line_of a)
   unfolding line_size
-  size_written_lem n e h = e ∙ sym (pick_yes _ _ _ (le-leb (length (line_of a)) (length buf) h))
+  all_taken h = pick_yes _ _ _ (le-leb (length (line_of a)) (length buf) h)
+
+-- ---- what the goals of the functions stand on, which name these sets
+
+-- a number's digits
+pub ruleset number_steps = (decimal_some, small_length, large_length, small_laid, large_laid)
+
+-- a space and a number
+pub ruleset field_steps = (field_length, field_laid, length-set)
+
+-- the whole line
+pub ruleset line_steps = (field_most, line_length, length-set, length-take, none_taken, all_taken, laid_short)

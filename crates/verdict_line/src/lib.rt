@@ -12,20 +12,17 @@ use verdict::{Finding, Verdict};
 pub const LONGEST: usize = 80;
 
 // The line is written at the start of the buffer, and its length is the answer; where it has no room nothing is written.
+#[tactic(auto, using(crate::proofs::Printing::line_steps))]
 pub fn line(found: Finding, buf: &mut [u8]) -> usize
     ensures size { result ≡ line_size (length buf.old) found }
     ensures text { buf.new ≡ laid (line_of found) 0 buf.old }
 {
     let ruling = found.ruling;
-    let zeros = found.zeros;
-    let verdict = ruling.verdict;
-    let place = ruling.place;
-    let code = ruling.code;
     let mut text = [0u8; LONGEST];
-    let word = lay_word(&mut text, verdict);
-    let first = lay_field(&mut text, word, place);
-    let second = lay_field(&mut text, first, code);
-    let end = lay_field(&mut text, second, zeros);
+    let word = lay_word(&mut text, ruling.verdict);
+    let first = lay_field(&mut text, word, ruling.place);
+    let second = lay_field(&mut text, first, ruling.code);
+    let end = lay_field(&mut text, second, found.zeros);
     text[end] = b'\n';
     if buf.len() < end + 1 {
         return 0;
@@ -34,6 +31,7 @@ pub fn line(found: Finding, buf: &mut [u8]) -> usize
     end + 1
 }
 
+#[tactic(auto, unfolding(crate::specs::Line::word_of))]
 fn lay_word(text: &mut [u8], verdict: Verdict) -> usize
     ensures size { (result ≡ length (word_of verdict)) × (result ≤ 12) }
     ensures word { text.new ≡ laid (word_of verdict) 0 text.old }
@@ -59,6 +57,7 @@ fn lay_word(text: &mut [u8], verdict: Verdict) -> usize
 }
 
 // A space and a number; the answer is where they end.
+#[tactic(auto, using(crate::proofs::Printing::field_steps))]
 fn lay_field(text: &mut [u8], at: usize, n: usize) -> usize
     requires { at + length (field_of n) ≤ length text.old }
     ensures place { result ≡ at + length (field_of n) }
@@ -69,6 +68,7 @@ fn lay_field(text: &mut [u8], at: usize, n: usize) -> usize
 }
 
 // The digits of a number, the highest first; the answer is where they end.
+#[tactic(auto, using(crate::proofs::Printing::number_steps))]
 fn lay_number(text: &mut [u8], at: usize, n: usize) -> usize
     requires { at + length (decimal n) ≤ length text.old }
     ensures place { result ≡ at + length (decimal n) }

@@ -4,18 +4,10 @@ use mathlib.Core.List.{List, [], ◌∷◌, map}
 use Prim.Native.Nat.{ℕ}
 use lib.ListN.{get_or}
 use lib.Seq.{sets}
-use Rattle.tape_feed.specs.declared.Damage.{Damage}
 use Rattle.tape_feed.specs.Feeding.{damaged}
 use Rattle.quick_check.specs.Damages.{damage_in}
-use Rattle.quick_check.proofs.Lengths.{by_length}
 use Rattle.quick_check.proofs.Many.{only}
 use Rattle.quick_check.proofs.damage.Goals as goal
-
-pub returns-then-why-ne0 : goal.returns-then-why-ne0
-returns-then-why-ne0 c =
-    let same = c.of_length-why.ensures in
-    same
-    ∙ by_length c.args.tape.now (λ z. c.if-why-ne0.true (ap (λ (d : Damage). d.code) same ∙ z))
 
 pub returns : goal.returns
 returns c =

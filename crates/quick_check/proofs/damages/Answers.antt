@@ -5,6 +5,9 @@ use Rattle.slices.specs.Choice.{pick}
 use Rattle.tape_crc.specs.Check.{divisor, shifted, divided}
 use Rattle.quick_check.proofs.damages.Goals as goal
 
-pub each-requires : goal.each-requires
+pub invariant_of-each : goal.invariant_of-each
 unfolding divided shifted divisor pick
-each-requires c = (record { size = refl; leaving = refl; moving = refl }, record { size = refl; passing = refl })
+invariant_of-each c = record {
+  leaving = record { size = refl; leaving = refl; moving = refl };
+  passing = record { size = refl; passing = refl };
+}

@@ -1,32 +1,14 @@
 -- `quick_check::each` meets its contract. The loop's invariant: with the tapes that are left, each buffer becomes what it becomes with all
 -- of them. Assumes nothing.
-use mathlib.Core.Path.{◌≡◌, refl, sym, ap, ◌∙◌}
-use Prim.Native.Nat.{ℕ, ◌+◌, ◌≤◌}
+use mathlib.Core.Path.{◌≡◌, sym, ap, ◌∙◌}
+use Prim.Native.Nat.{◌+◌}
 use native.Mathlib.Omega.{arith}
-use lib.ListN.{length, length-set}
+use lib.ListN.{length, get_or, length-set}
 use Rattle.tape_feed.specs.declared.Damage.{Damage}
-use Rattle.quick_check.specs.Damages.{damage_in, tape_in, end_of}
+use Rattle.quick_check.specs.Damages.{damage_in, tape_in}
 use Rattle.quick_check.proofs.Many.{end_within, told, told_next, told_all}
 use Rattle.quick_check.proofs.each.Invariants.{place, code}
 use Rattle.quick_check.proofs.each.Goals as goal
-
--- a tape ends within what there is
-within : (bytes from to end : ℕ) → to ≡ end_of bytes from end → from ≤ bytes → (from ≤ to) × (to ≤ bytes)
-within bytes from to end e h =
-    let w = end_within bytes from end h in
-    (omega (arith, e, w.0), omega (arith, e, w.1))
-
-pub loop-i-init : goal.loop-i-init
-loop-i-init c = (omega arith, refl, refl, refl, refl)
-
-pub slice_bounds-of_tape-count : goal.slice_bounds-of_tape-count
-slice_bounds-of_tape-count c = (within _ _ _ _ c.end_of-to.ensures c.loop-i.invariant.0).0
-
-pub slice_bounds-of_tape-start : goal.slice_bounds-of_tape-start
-slice_bounds-of_tape-start c = omega (arith, within _ _ _ _ c.end_of-to.ensures c.loop-i.invariant.0)
-
-pub slice_bounds-of_tape-end : goal.slice_bounds-of_tape-end
-slice_bounds-of_tape-end c = (within _ _ _ _ c.end_of-to.ensures c.loop-i.invariant.0).1
 
 pub loop-i-preserved : goal.loop-i-preserved
 unfolding tape_in
@@ -37,7 +19,7 @@ loop-i-preserved c =
     let ends = args.ends.now in
     let d = c.of_tape-d.result in
     let found : d ≡ damage_in (tape_in l.from c.end_of-to.result bytes) = c.of_tape-d.ensures in (
-      (within _ _ _ _ c.end_of-to.ensures l.invariant.0).1,
+      omega (arith, c.end_of-to.ensures, end_within (length bytes) l.from (get_or ends l.i 0) l.invariant.0),
       ap length c.store.ensures ∙ (length-set l.places l.i d.place ∙ l.invariant.1),
       ap length c.store-in-loop-i.ensures ∙ (length-set l.codes l.i d.code ∙ l.invariant.2),
       ap (told place bytes ends c.end_of-to.result (l.i + 1)) c.store.ensures

@@ -11,30 +11,12 @@ use Rattle.tape_crc.proofs.ByTables.{turn_of_four}
 use Rattle.quick_check.proofs.Turns.{turn_of_eight}
 use Rattle.quick_check.proofs.register.after.Goals as goal
 
-pub word-requires : goal.word-requires
-word-requires c = omega (arith, c.requires.1)
-
-pub turn-r-requires : goal.turn-r-requires
-turn-r-requires c = (c.requires.0, omega arith)
-
 pub loop-k-init : goal.loop-k-init
 loop-k-init c =
     let s = c.args.s.now in
     let byte : (j : ℕ) → get_or s j 0 < 256 = λ j. (c.type_inv.s j).fits in
     ap (λ (r : ℕ). running_of r (drop 4 s)) c.turn-r.ensures
-    ∙ turn_of_four ones 0 s c.word.result c.word.ensures (omega (arith, c.requires.1)) byte
-
-pub word-requires-in-loop-k : goal.word-requires-in-loop-k
-word-requires-in-loop-k c = omega (arith, c.requires.1)
-
-pub turn-requires : goal.turn-requires
-turn-requires c = (c.requires.0, omega arith)
-
-pub word-requires-in-loop-k-2 : goal.word-requires-in-loop-k-2
-word-requires-in-loop-k-2 c = omega (arith, c.requires.1)
-
-pub turn-requires-in-loop-k : goal.turn-requires-in-loop-k
-turn-requires-in-loop-k c = (c.requires.0, omega arith)
+    ∙ turn_of_four ones 0 s c.word.result c.word.ensures (omega (arith, c.requires)) byte
 
 pub loop-k-preserved : goal.loop-k-preserved
 loop-k-preserved c =
@@ -46,10 +28,10 @@ loop-k-preserved c =
     ap₂ (λ (j x : ℕ). running_of x (drop j s)) next (xor_comm c.turn.result c.turn-in-loop-k.result)
     ∙ (ap₂ (λ (a b : ℕ). running_of (bit_xor a b) (drop (i + 8) s)) c.turn-in-loop-k.ensures c.turn.ensures
     ∙ (turn_of_eight l.r i s c.word-in-loop-k-2.result c.word-in-loop-k.result c.word-in-loop-k-2.ensures c.word-in-loop-k.ensures
-    (omega (arith, c.requires.1)) byte
+    (omega (arith, c.requires)) byte
     ∙ l.invariant))
 
 pub returns : goal.returns
 returns c =
     let l = c.loop-k in
-    taken_all_lem l.r (4 + 8 * l.k) c.args.s.now (omega (arith, c.requires.1)) l.invariant
+    taken_all_lem l.r (4 + 8 * l.k) c.args.s.now (omega (arith, c.requires)) l.invariant

@@ -22,8 +22,8 @@ loop-k-init c =
 pub overflow_mul-r-in-loop-k : goal.overflow_mul-r-in-loop-k
 overflow_mul-r-in-loop-k c =
     let k = c.loop-k.k - 1 in
-    let left = get_or c.args.behind.now (32 * c.args.times + k) 0 in
-    let at = behind_at c.requires.0 c.args.times k c.requires.1 (omega arith) in
+    let left = get_or c.args.stored.behind.now (32 * c.args.times + k) 0 in
+    let at = behind_at c.args.stored.passing c.args.times k c.requires (omega arith) in
     let fits = divided_below (8 * (step * c.args.times)) (2 ^ k) (pow-lt {i = k} {j = 32} (omega arith)) in
     let small : left < 2 ^ 32 = subst (λ (x : ℕ). x < 2 ^ 32) (sym at) fits in
     omega (arith, bit_below_32 (c.args.register / 2 ^ k % 2) left (omega arith) small)
@@ -35,7 +35,7 @@ loop-k-preserved c =
     let n = 8 * (step * c.args.times) in
     let k = l.k - 1 in
     let one_on : suc k ≡ l.k = omega arith in
-    let left = behind_at c.requires.0 c.args.times k c.requires.1 (omega arith) in (
+    let left = behind_at c.args.stored.passing c.args.times k c.requires (omega arith) in (
       omega arith,
       ap₂ bit_xor (l.invariant.1 ∙ ap (λ (k : ℕ). divided n (x / 2 ^ k * 2 ^ k)) (sym one_on)) (ap (λ (y : ℕ). x / 2 ^ k % 2 * y) left)
           ∙ sym (bit_more n x k),

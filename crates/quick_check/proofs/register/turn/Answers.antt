@@ -6,4 +6,4 @@ use Rattle.quick_check.proofs.register.turn.Goals as goal
 
 pub returns : goal.returns
 returns c =
-    sym (four_by_rows c.requires.0 c.args.behind c.requires.1 c.args.x (omega arith))
+    sym (four_by_rows c.args.stored.leaving c.args.behind c.requires c.args.x (omega arith))
