@@ -169,7 +169,7 @@ fn at_word(j: Judgement, e: Entry<'_>) -> Judgement
 
 // The entry at an index, where the block that holds it is good: nothing may follow a decision or a closing silence, and what is broken
 // stays broken. The test stands here and not in the caller, for whom it would be one more copy of the judgement (docs/SPEED.md).
-#[tactic(auto, unfolding(crate::specs::Following::led, crate::specs::Following::fed, crate::specs::Following::fed_at, slices::specs::Choice::pick))]
+#[tactic(auto, unfolding(crate::specs::Following::led, crate::specs::Following::fed_at, slices::specs::Choice::pick))]
 pub fn feed(j: Judgement, good: bool, index: usize, kind: u8, payload: &[u8]) -> Judgement
     ensures { result ≡ led good j index kind payload.now }
 {
