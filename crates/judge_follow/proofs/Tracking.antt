@@ -275,7 +275,7 @@ module _ (k total : ℕ) (j : Judgement) (kind : ℕ) (p : List ℕ) (ok : is_pa
 -- every entry
 pub fed_tracks : (k total : ℕ) (j : Judgement) (m : Progress) (kind : ℕ) (p : List ℕ) → is_payload p ≡ true → Tracks k total j m
     → Tracks (k + 1) (total + new_by (reads m (entry kind p))) (fed j k kind p) (reads m (entry kind p))
-unfolding fed fed_at Tracking Expects Any.new_by
+unfolding fed_at Tracking Expects Any.new_by
 fed_tracks k total j (reached (at (asks w)) n) kind p ok t =
     let c = t.tracking.1 in
     carried (k + 1) total (sym (ap (λ (x : Stage). fed_at x j k kind p) c.1.0))

@@ -79,7 +79,7 @@ fed_at Done j index kind p = staged (Broken index) j
 fed_at Closed j index kind p = staged (Broken index) j
 fed_at (Broken place) j index kind p = j
 
-unfoldable pub fed : Judgement → ℕ → ℕ → List ℕ → Judgement
+abbrev pub fed : Judgement → ℕ → ℕ → List ℕ → Judgement
 fed j index kind p = fed_at j.stage j index kind p
 
 -- what a block holds that is not good is no entry

@@ -15,6 +15,15 @@ use session_state::change::fresh;
 use session_state::result::decision;
 use slices::alike;
 
+// An entry of the tape: which one it is, and what its block holds.
+#[derive(Clone, Copy)]
+struct Entry<'a> {
+    index: usize,
+    kind: u8,
+    payload: &'a [u8],
+}
+
+#[tactic(auto, unfolding(crate::specs::Following::begun, slices::specs::Writing::zeros))]
 pub fn begin() -> Judgement
     ensures { result ≡ begun }
 {
@@ -26,6 +35,7 @@ pub fn begin() -> Judgement
     }
 }
 
+#[tactic(auto, unfolding(crate::specs::Following::stage_of))]
 fn stage_of(reply: Reply) -> Stage
     ensures { result ≡ stage_of reply }
 {
@@ -33,12 +43,12 @@ fn stage_of(reply: Reply) -> Stage
         Reply::Command(n) => Stage::Command(n),
         Reply::Due(_) => Stage::Word,
         Reply::Decided => Stage::Decision,
-        Reply::Closed => Stage::Closed,
-        Reply::Refused(_) => Stage::Closed,
+        Reply::Closed | Reply::Refused(_) => Stage::Closed,
     }
 }
 
 // The same judgement at another stage.
+#[tactic(auto, unfolding(crate::specs::Following::staged))]
 fn stage(j: Judgement, stage: Stage) -> Judgement
     ensures { result ≡ staged stage j }
 {
@@ -53,6 +63,7 @@ fn stage(j: Judgement, stage: Stage) -> Judgement
 }
 
 // A step of the session.
+#[tactic(auto, unfolding(crate::specs::Following::advanced, crate::specs::Following::moving, session_moves::specs::Moves::played))]
 fn advance(j: Judgement, payload: &[u8]) -> Judgement
     ensures { result ≡ advanced j payload.now }
 {
@@ -76,98 +87,106 @@ fn command_of(j: Judgement) -> [u8; LONGEST]
     j.command
 }
 
-fn at_command(j: Judgement, n: usize, index: usize, kind: u8, payload: &[u8]) -> Judgement
-    ensures { result ≡ at_command n j index kind payload.now }
+#[tactic(auto, unfolding(crate::specs::Following::at_command, slices::specs::Choice::pick))]
+fn at_command(j: Judgement, n: usize, e: Entry<'_>) -> Judgement
+    ensures { result ≡ at_command n j e.entry.index e.entry.kind e.entry.payload.now }
 {
-    if kind != COMMAND {
-        return stage(j, Stage::Broken(index));
+    if e.kind != COMMAND {
+        return stage(j, Stage::Broken(e.index));
     }
     let command = command_of(j);
-    if alike(payload, slices::part(&command, 0, n)) {
+    if alike(e.payload, slices::part(&command, 0, n)) {
         stage(j, Stage::Answer)
     } else {
-        stage(j, Stage::Broken(index))
+        stage(j, Stage::Broken(e.index))
     }
 }
 
 // A silence with no payload closes the session.
-fn at_silence(j: Judgement, index: usize, kind: u8, payload: &[u8]) -> Judgement
-    ensures { result ≡ at_silence j index kind payload.now }
+#[tactic(auto, unfolding(crate::specs::Following::at_silence, slices::specs::Choice::pick))]
+fn at_silence(j: Judgement, e: Entry<'_>) -> Judgement
+    ensures { result ≡ at_silence j e.entry.index e.entry.kind e.entry.payload.now }
 {
-    if kind != SILENCE {
-        return stage(j, Stage::Broken(index));
+    if e.kind == SILENCE && e.payload.is_empty() {
+        stage(j, Stage::Closed)
+    } else {
+        stage(j, Stage::Broken(e.index))
     }
-    if payload.len() != 0 {
-        return stage(j, Stage::Broken(index));
-    }
-    stage(j, Stage::Closed)
 }
 
-fn at_answer(j: Judgement, index: usize, kind: u8, payload: &[u8]) -> Judgement
-    ensures { result ≡ at_answer j index kind payload.now }
+#[tactic(auto, unfolding(crate::specs::Following::at_answer, slices::specs::Choice::pick))]
+fn at_answer(j: Judgement, e: Entry<'_>) -> Judgement
+    ensures { result ≡ at_answer j e.entry.index e.entry.kind e.entry.payload.now }
 {
-    if kind != ANSWER {
-        return at_silence(j, index, kind, payload);
+    if e.kind == ANSWER {
+        advance(j, e.payload)
+    } else {
+        at_silence(j, e)
     }
-    advance(j, payload)
 }
 
-fn at_decision(j: Judgement, index: usize, kind: u8, payload: &[u8]) -> Judgement
-    ensures { result ≡ at_decision j index kind payload.now }
+#[tactic(auto, unfolding(crate::specs::Following::at_decision, slices::specs::Choice::pick))]
+fn at_decision(j: Judgement, e: Entry<'_>) -> Judgement
+    ensures { result ≡ at_decision j e.entry.index e.entry.kind e.entry.payload.now }
 {
-    if kind != DECISION {
-        return stage(j, Stage::Broken(index));
+    if e.kind != DECISION {
+        return stage(j, Stage::Broken(e.index));
     }
     let state = j.state;
     let due = decision(state);
-    if alike(payload, &due) {
+    if alike(e.payload, &due) {
         stage(j, Stage::Done)
     } else {
-        stage(j, Stage::Broken(index))
+        stage(j, Stage::Broken(e.index))
     }
 }
 
 // Somebody's word: of the kind that is due, and one that may be said.
-fn by_speaker(j: Judgement, speaker: Speaker, index: usize, kind: u8, payload: &[u8]) -> Judgement
-    ensures { result ≡ spoken speaker j index kind payload.now }
+#[tactic(auto, unfolding(crate::specs::Following::spoken, slices::specs::Choice::pick))]
+fn by_speaker(j: Judgement, speaker: Speaker, e: Entry<'_>) -> Judgement
+    ensures { result ≡ spoken speaker j e.entry.index e.entry.kind e.entry.payload.now }
 {
-    if kind != kind_of(speaker) {
-        return stage(j, Stage::Broken(index));
+    if e.kind == kind_of(speaker) && is_allowed(speaker, e.payload) {
+        advance(j, e.payload)
+    } else {
+        stage(j, Stage::Broken(e.index))
     }
-    if !is_allowed(speaker, payload) {
-        return stage(j, Stage::Broken(index));
-    }
-    advance(j, payload)
 }
 
-fn at_word(j: Judgement, index: usize, kind: u8, payload: &[u8]) -> Judgement
-    ensures { result ≡ word_at j.state.waiting j index kind payload.now }
+#[tactic(auto, unfolding(crate::specs::Following::word_at))]
+fn at_word(j: Judgement, e: Entry<'_>) -> Judgement
+    ensures { result ≡ word_at j.state.waiting j e.entry.index e.entry.kind e.entry.payload.now }
 {
     let state = j.state;
     let waiting = state.waiting;
     match waiting {
-        Waiting::ForWord(speaker) => by_speaker(j, speaker, index, kind, payload),
-        Waiting::Searching => stage(j, Stage::Broken(index)),
-        Waiting::ForCard(_) => stage(j, Stage::Broken(index)),
-        Waiting::Decided(_, _) => stage(j, Stage::Broken(index)),
-        Waiting::Closed => stage(j, Stage::Broken(index)),
+        Waiting::ForWord(speaker) => by_speaker(j, speaker, e),
+        Waiting::Searching | Waiting::ForCard(_) | Waiting::Decided(_, _) | Waiting::Closed => {
+            stage(j, Stage::Broken(e.index))
+        }
     }
 }
 
 // The entry at an index, where the block that holds it is good: nothing may follow a decision or a closing silence, and what is broken
 // stays broken. The test stands here and not in the caller, for whom it would be one more copy of the judgement (docs/SPEED.md).
+#[tactic(auto, unfolding(crate::specs::Following::led, crate::specs::Following::fed_at, slices::specs::Choice::pick))]
 pub fn feed(j: Judgement, good: bool, index: usize, kind: u8, payload: &[u8]) -> Judgement
     ensures { result ≡ led good j index kind payload.now }
 {
     if !good {
         return j;
     }
+    let e = Entry {
+        index,
+        kind,
+        payload,
+    };
     let due = j.stage;
     match due {
-        Stage::Word => at_word(j, index, kind, payload),
-        Stage::Command(n) => at_command(j, n, index, kind, payload),
-        Stage::Answer => at_answer(j, index, kind, payload),
-        Stage::Decision => at_decision(j, index, kind, payload),
+        Stage::Word => at_word(j, e),
+        Stage::Command(n) => at_command(j, n, e),
+        Stage::Answer => at_answer(j, e),
+        Stage::Decision => at_decision(j, e),
         Stage::Done => stage(j, Stage::Broken(index)),
         Stage::Closed => stage(j, Stage::Broken(index)),
         Stage::Broken(_) => j,
