@@ -1,3 +1,4 @@
 pub mod Filling
 pub mod Missing
+pub mod Turn
 mod Worked

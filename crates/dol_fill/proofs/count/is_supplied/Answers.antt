@@ -41,16 +41,16 @@ by_format t k tag f e = ap (λ (x : Format). is_some (with_format x (value_for t
 pub returns-in-Numeric : goal.returns-in-Numeric
 returns-in-Numeric c =
     let a = c.args in
-    let t = reading_of a.start.now in
-    let k = told_in a.known.now in
+    let t = reading_of a.from.start.now in
+    let k = told_in a.from.known.now in
     c.is_there.ensures
     ∙ (numeric (value_for t k a.tag) ∙ by_format t k a.tag Numeric (sym c.format_of.ensures ∙ c.in-Numeric.is))
 
 pub returns-in-CardNumber : goal.returns-in-CardNumber
 returns-in-CardNumber c =
     let a = c.args in
-    let t = reading_of a.start.now in
-    let k = told_in a.known.now in
+    let t = reading_of a.from.start.now in
+    let k = told_in a.from.known.now in
     c.is_there-in-CardNumber.ensures
     ∙ (card_number_lem (value_for t k a.tag)
     ∙ by_format t k a.tag CardNumber (sym c.format_of.ensures ∙ c.in-CardNumber.is))
@@ -58,14 +58,14 @@ returns-in-CardNumber c =
 pub returns-in-Other : goal.returns-in-Other
 returns-in-Other c =
     let a = c.args in
-    let t = reading_of a.start.now in
-    let k = told_in a.known.now in
+    let t = reading_of a.from.start.now in
+    let k = told_in a.from.known.now in
     c.is_there-in-Other.ensures
     ∙ (other (value_for t k a.tag) ∙ by_format t k a.tag Other (sym c.format_of.ensures ∙ c.in-Other.is))
 
 pub returns-in-Unknown : goal.returns-in-Unknown
 returns-in-Unknown c =
     let a = c.args in
-    let t = reading_of a.start.now in
-    let k = told_in a.known.now in
+    let t = reading_of a.from.start.now in
+    let k = told_in a.from.known.now in
     unknown (value_for t k a.tag) ∙ by_format t k a.tag Unknown (sym c.format_of.ensures ∙ c.in-Unknown.is)

@@ -22,13 +22,13 @@ module _ (t : Terminal) (k : Facts) (tag : ℕ) where
 pub returns-then-is_supplied : goal.returns-then-is_supplied
 returns-then-is_supplied c =
     let a = c.args in
-    let t = reading_of a.start.now in
-    let k = told_in a.known.now in
+    let t = reading_of a.from.start.now in
+    let k = told_in a.from.known.now in
     (there t k _ (sym c.is_supplied.ensures ∙ c.if-is_supplied.true) ∙ ap (missing t k) c.tag_of.ensures.0, omega arith)
 
 pub returns-else-is_supplied : goal.returns-else-is_supplied
 returns-else-is_supplied c =
     let a = c.args in
-    let t = reading_of a.start.now in
-    let k = told_in a.known.now in
+    let t = reading_of a.from.start.now in
+    let k = told_in a.from.known.now in
     (not_there t k _ (sym c.is_supplied.ensures ∙ c.if-is_supplied.false) ∙ ap (missing t k) c.tag_of.ensures.0, omega arith)

@@ -4,7 +4,8 @@
 use Rattle.std.proofs.Common.{◌≡◌, ℕ, ◌+◌, ◌-◌, ◌≤◌, List, length, take, drop, ap, ◌∙◌, zero-add, arith, length-drop, length-take}
 use Rattle.tlv_head.specs.Head.{tag_size}
 use Rattle.slices.specs.Tests.{is_some}
-use Rattle.slices.proofs.Cutting.{rest_part, none_left}
+use Rattle.slices.proofs.Cutting.{none_left}
+use Rattle.dol_fill.proofs.Turn.{inside, behind}
 use Rattle.start_fields.specs.Reading.{reading_of}
 use Rattle.session_records.specs.Slots.{told_in}
 use Rattle.dol_wanted.specs.Wanted.{entries_of}
@@ -27,45 +28,26 @@ overflow_add-count c =
 
 pub slice_bounds-rest-count : goal.slice_bounds-rest-count
 slice_bounds-rest-count c =
-    let inside : c.tag_size-n.result + 1 ≤ length c.loop-rest.rest.now =
-    let l = c.loop-rest in
-    let h = turn_fits l.rest.now (goes_on c.loop-rest.rest.now _ c.is_empty.ensures c.loop-rest-test.true) l.invariant.0 in
-    let e = c.tag_size-n.ensures.0 in
-    omega arith
-    in
-    inside
+    inside c.loop-rest.rest.now c.is_empty.ensures c.loop-rest-test.true c.loop-rest.invariant.0 c.tag_size-n.ensures.0
 
 pub slice_bounds-rest-start : goal.slice_bounds-rest-start
 slice_bounds-rest-start c =
-    let inside : c.tag_size-n.result + 1 ≤ length c.loop-rest.rest.now =
-    let l = c.loop-rest in
-    let h = turn_fits l.rest.now (goes_on c.loop-rest.rest.now _ c.is_empty.ensures c.loop-rest-test.true) l.invariant.0 in
-    let e = c.tag_size-n.ensures.0 in
-    omega arith
-    in
-    inside
+    inside c.loop-rest.rest.now c.is_empty.ensures c.loop-rest-test.true c.loop-rest.invariant.0 c.tag_size-n.ensures.0
 
 pub loop-rest-smaller : goal.loop-rest-smaller
 loop-rest-smaller c =
-    let inside : c.tag_size-n.result + 1 ≤ length c.loop-rest.rest.now =
-    let l = c.loop-rest in
-    let h = turn_fits l.rest.now (goes_on c.loop-rest.rest.now _ c.is_empty.ensures c.loop-rest-test.true) l.invariant.0 in
-    let e = c.tag_size-n.ensures.0 in
-    omega arith
-    in
-    let h = inside in rw (length-take, length-drop) (omega arith)
+    let h = inside c.loop-rest.rest.now c.is_empty.ensures c.loop-rest-test.true c.loop-rest.invariant.0 c.tag_size-n.ensures.0 in
+    rw (length-take, length-drop) (omega arith)
 
 pub loop-rest-preserved : goal.loop-rest-preserved
 loop-rest-preserved c =
     let l = c.loop-rest in
     let a = c.args in
-    let t = reading_of a.start.now in
-    let k = told_in a.known.now in
+    let t = reading_of a.from.start.now in
+    let k = told_in a.from.known.now in
     let r = l.rest.now in
     let test = goes_on c.loop-rest.rest.now _ c.is_empty.ensures c.loop-rest-test.true in
-    let n = c.tag_size-n.result + 1 in
-    let skip : n ≡ tag_size r + 1 = ap (λ (m : ℕ). m + 1) c.tag_size-n.ensures.0 in
-    let rest : take (length r - n) (drop n r) ≡ drop (tag_size r + 1) r = rest_part r n ∙ ap (λ (m : ℕ). drop m r) skip in
+    let rest = behind r c.tag_size-n.ensures.0 in
     let one = c.missing-count in
     let fits = turn_fits r test l.invariant.0 in
     let short : length (drop (tag_size r + 1) r) ≡ length r - (tag_size r + 1) = length-drop (tag_size r + 1) r in
@@ -80,8 +62,8 @@ pub returns : goal.returns
 returns c =
     let l = c.loop-rest in
     let a = c.args in
-    let t = reading_of a.start.now in
-    let k = told_in a.known.now in
+    let t = reading_of a.from.start.now in
+    let k = told_in a.from.known.now in
     let empty = none_left l.rest.now (at_end l.rest.now _ c.is_empty.ensures c.loop-rest-test.false) in
     let none : missing_by t k (entries_of l.rest.now) ≡ 0 =
     ap (λ (r : List ℕ). missing_by t k (entries_of r)) empty ∙ nothing_missing t k in

@@ -13,8 +13,8 @@ abbrev pub invariant-loop-rest : goal.invariant-loop-rest
 invariant-loop-rest l =
     (is_some (entries_of l.rest) ≡ true)
     × (l.count + length l.rest ≤ length l.list)
-    × (l.count + missing_by (reading_of l.start) (told_in l.known) (entries_of l.rest)
-    ≡ missing_by (reading_of l.start) (told_in l.known) (entries_of l.list))
+    × (l.count + missing_by (reading_of l.from.start.now) (told_in l.from.known.now) (entries_of l.rest)
+    ≡ missing_by (reading_of l.from.start.now) (told_in l.from.known.now) (entries_of l.list))
 
 abbrev pub decreases-loop-rest : goal.decreases-loop-rest
 decreases-loop-rest l = length l.rest

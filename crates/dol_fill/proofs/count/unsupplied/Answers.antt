@@ -13,10 +13,10 @@ pub returns-then-is_fillable : goal.returns-then-is_fillable
 returns-then-is_fillable c =
     let a = c.args in
     c.missing_in.ensures
-    ∙ sym (unsupplied_yes (reading_of a.start.now) (told_in a.known.now) a.list.now (sym c.is_fillable.ensures
+    ∙ sym (unsupplied_yes (reading_of a.from.start.now) (told_in a.from.known.now) a.list.now (sym c.is_fillable.ensures
     ∙ c.if-is_fillable.true))
 
 pub returns-else-is_fillable : goal.returns-else-is_fillable
 returns-else-is_fillable c =
     let a = c.args in
-    sym (unsupplied_no (reading_of a.start.now) (told_in a.known.now) a.list.now (sym c.is_fillable.ensures ∙ c.if-is_fillable.false))
+    sym (unsupplied_no (reading_of a.from.start.now) (told_in a.from.known.now) a.list.now (sym c.is_fillable.ensures ∙ c.if-is_fillable.false))
