@@ -1,6 +1,6 @@
 -- One turn of a loop over a list that is filled or counted: the entry at the front of what is left is passed.
 -- Assumes nothing.
-use Rattle.std.proofs.Common.{◌≡◌, ℕ, ◌+◌, ◌-◌, ◌≤◌, ◌<◌, Bool, true, false, eqb, List, length, take, drop, ap, ◌∙◌, arith}
+use Rattle.std.proofs.Common.{◌≡◌, ℕ, ◌+◌, ◌-◌, ◌≤◌, Bool, true, false, eqb, List, length, take, drop, ap, ◌∙◌, arith}
 use Rattle.slices.specs.Tests.{is_some}
 use Rattle.slices.proofs.Cutting.{rest_part}
 use Rattle.tlv_head.specs.Head.{tag_size}

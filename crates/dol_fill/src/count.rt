@@ -40,6 +40,7 @@ fn is_supplied(from: Sources, tag: usize) -> bool
 }
 
 // 1 where the entry at the front of a list is not supplied, else 0.
+#[tactic(auto, unfolding(crate::specs::Filled::missing, slices::specs::Choice::pick))]
 fn missing(list: &[u8], from: Sources) -> usize
     ensures { (result ≡ missing_of (reading_of from.entry.start.now) (told_in from.entry.known.now) (tag_of list.now))
         × (result ≤ 1) }
@@ -52,6 +53,7 @@ fn missing(list: &[u8], from: Sources) -> usize
 }
 
 // All entries of a list that can be filled.
+#[tactic(auto, using(crate::proofs::Turn::inside))]
 fn missing_in(list: &[u8], from: Sources) -> usize
     requires { fillable list.now ≡ true }
     ensures { result ≡ missing_by (reading_of from.entry.start.now) (told_in from.entry.known.now) (entries_of list.now) }
@@ -67,6 +69,7 @@ fn missing_in(list: &[u8], from: Sources) -> usize
 }
 
 // A list that cannot be filled has none.
+#[tactic(auto, unfolding(crate::specs::Filled::unsupplied, slices::specs::Choice::pick))]
 pub fn unsupplied(list: &[u8], from: Sources) -> usize
     ensures { result ≡ unsupplied_in (reading_of from.entry.start.now) (told_in from.entry.known.now) list.now }
 {
@@ -78,6 +81,7 @@ pub fn unsupplied(list: &[u8], from: Sources) -> usize
 }
 
 // The sum over the lists filled so far, with those of one list more.
+#[tactic(auto, unfolding(crate::specs::Filled::summed))]
 pub fn sum(zeros: usize, more: usize) -> usize
     ensures { result ≡ summed zeros more }
 {

@@ -60,6 +60,7 @@ fn fill_first(list: &[u8], from: Sources, buf: &mut [u8], p: usize)
 }
 
 // All entries of a list that can be filled, from a place on where they fit.
+#[tactic(auto, using(crate::proofs::Turn::inside))]
 fn fill_all(list: &[u8], from: Sources, buf: &mut [u8], at: usize)
     requires { (fillable list.now ≡ true) × (at + total_of list.now ≤ length buf.old) }
     ensures { buf.new
@@ -76,6 +77,7 @@ fn fill_all(list: &[u8], from: Sources, buf: &mut [u8], at: usize)
 }
 
 // The list filled from a place of the buffer on. A list that cannot be filled, or that does not fit, changes nothing.
+#[tactic(auto, using(crate::proofs::Laying::laying))]
 pub fn fill(list: &[u8], from: Sources, buf: &mut [u8], at: usize)
     ensures { buf.new
         ≡ laid (filling (reading_of from.entry.start.now) (told_in from.entry.known.now) list.now) at buf.old }

@@ -1,11 +1,11 @@
 -- `fill::fill_all` meets its contract. The loop's invariant: what is still to be written, written from p on, gives the buffer that is
 -- wanted.
 -- Assumes nothing.
-use Rattle.std.proofs.Common.{refl, ◌∙◌, arith, length-drop, length-take}
+use Rattle.std.proofs.Common.{refl, arith}
 use Rattle.dol_wanted.specs.Wanted.{total_of}
 use Rattle.dol_wanted.proofs.Entries.{fillable_some, goes_on, at_end}
 use Rattle.dol_fill.specs.Filled.{filled_list}
-use Rattle.dol_fill.proofs.Turn.{inside, behind}
+use Rattle.dol_fill.proofs.Turn.{behind}
 use Rattle.dol_fill.proofs.Filling.{first_room, rest_filled, all_filled}
 use Rattle.dol_fill.proofs.fill.fill_all.Goals as goal
 
@@ -24,19 +24,6 @@ overflow_add-p c =
     let l = c.loop-rest in
     let room = first_room _ _ _ _ _ _ _ l.invariant (goes_on l.rest.now _ c.is_empty.ensures c.loop-rest-test.true) in
     omega arith
-
-pub slice_bounds-rest-count : goal.slice_bounds-rest-count
-slice_bounds-rest-count c =
-    inside c.loop-rest.rest.now c.is_empty.ensures c.loop-rest-test.true c.loop-rest.invariant.right c.tag_size-n.ensures.0
-
-pub slice_bounds-rest-start : goal.slice_bounds-rest-start
-slice_bounds-rest-start c =
-    inside c.loop-rest.rest.now c.is_empty.ensures c.loop-rest-test.true c.loop-rest.invariant.right c.tag_size-n.ensures.0
-
-pub loop-rest-smaller : goal.loop-rest-smaller
-loop-rest-smaller c =
-    let h = inside c.loop-rest.rest.now c.is_empty.ensures c.loop-rest-test.true c.loop-rest.invariant.right c.tag_size-n.ensures.0 in
-    rw (length-take, length-drop) (omega arith)
 
 pub loop-rest-preserved : goal.loop-rest-preserved
 loop-rest-preserved c =
