@@ -63,6 +63,7 @@ impl<'a> Codes<'a> {
 }
 
 // The first request by the terminal's type, where no code denies.
+#[tactic(auto, unfolding(crate::specs::Requests::by_type, slices::specs::Choice::pick))]
 fn by_type(kind: u8, default: bool, online: bool) -> Cryptogram
     ensures { result ≡ by_type kind default online }
 {
@@ -86,6 +87,7 @@ fn by_type(kind: u8, default: bool, online: bool) -> Cryptogram
     }
 }
 
+#[tactic(auto, unfolding(crate::specs::Requests::first_request, slices::specs::Choice::pick))]
 pub fn first_request(start: &[u8], told: &[u8], tvr: [u8; 5]) -> Cryptogram
     ensures { result ≡ first_request (reading_of start.now) (told_in told.now) tvr }
 {
@@ -98,6 +100,7 @@ pub fn first_request(start: &[u8], told: &[u8], tvr: [u8; 5]) -> Cryptogram
     by_type(fields::kind(start), default, online)
 }
 
+#[tactic(auto, unfolding(crate::specs::Requests::when_unable, slices::specs::Choice::pick))]
 fn when_unable(kind: u8, default: bool) -> Cryptogram
     ensures { result ≡ when_unable kind default }
 {
@@ -111,6 +114,7 @@ fn when_unable(kind: u8, default: bool) -> Cryptogram
     }
 }
 
+#[tactic(auto, unfolding(crate::specs::Requests::second_request))]
 pub fn second_request(reply: HostReply, start: &[u8], told: &[u8], tvr: [u8; 5]) -> Cryptogram
     ensures { result ≡ second_request reply (reading_of start.now) (told_in told.now) tvr }
 {
