@@ -13,6 +13,7 @@ use dol_wanted::{MOST, total};
 use slices::lay;
 
 // How many bytes a list is filled with.
+#[tactic(auto, using(crate::proofs::Sizes::size_all, crate::proofs::Sizes::size_none))]
 pub fn data_size(list: &[u8]) -> usize
     ensures { (result ≡ data_size list.now) × (result ≤ most) }
 {
