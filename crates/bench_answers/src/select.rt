@@ -1,6 +1,7 @@
 // Answers to SELECT, and the GPO command that follows.
 use answer_select::{pdol, select_reason};
 use commands::write::{LONGEST, options};
+use dol_fill::Sources;
 use session_records::END;
 use session_records::slots::keep;
 use slices::part;
@@ -35,6 +36,10 @@ fn print_command(rt: &impl Print, start: &[u8], list: &[u8]) -> io::Result<()> {
     keep(&mut known, 0x95, b"\x00\x00\x00\x00\x00");
     keep(&mut known, 0x9B, b"\x00\x00");
     let mut buf = [0u8; LONGEST];
-    let n = options(list, start, &known, &mut buf);
+    let from = Sources {
+        start,
+        known: &known,
+    };
+    let n = options(list, from, &mut buf);
     text_print::bytes(rt, part(&buf, 0, n))
 }

@@ -42,6 +42,9 @@ data_length t k list =
     pick_ap length (fillable list) (filled_list t k list) []
     ∙ ap (λ (n : ℕ). pick (fillable list) n 0) (list_length t k list)
 
+pub counted : (t : Terminal) (k : Facts) (list : List ℕ) {n : ℕ} → n ≡ data_size list → length (filling t k list) ≡ n
+counted t k list e = data_length t k list ∙ sym e
+
 pub data_most_lem : (list : List ℕ) → data_size list ≤ most
 data_most_lem list =
     either (leb (tally list) most)

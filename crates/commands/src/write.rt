@@ -7,6 +7,7 @@ ghost use Rattle.dol_fill.specs.Filled.{filling};
 ghost use Rattle.commands.specs.Commands.{select_command, options_command, record_command, cryptogram_command, size_in};
 
 use crate::data::{data_size, lay_data};
+use dol_fill::Sources;
 use slices::lay;
 use start_fields::fields::aid;
 
@@ -29,12 +30,12 @@ pub fn select(start: &[u8], buf: &mut [u8]) -> usize
     n + 6
 }
 
-pub fn options(list: &[u8], start: &[u8], known: &[u8], buf: &mut [u8]) -> usize
+pub fn options(list: &[u8], from: Sources, buf: &mut [u8]) -> usize
     ensures size { result
         ≡ size_in (length buf.old)
-        (options_command (filling (reading_of start.now) (told_in known.now) list.now)) }
+        (options_command (filling (reading_of from.entry.start.now) (told_in from.entry.known.now) list.now)) }
     ensures buffer { buf.new
-        ≡ laid (options_command (filling (reading_of start.now) (told_in known.now) list.now)) 0
+        ≡ laid (options_command (filling (reading_of from.entry.start.now) (told_in from.entry.known.now) list.now)) 0
         buf.old }
 {
     let n = data_size(list);
@@ -44,7 +45,7 @@ pub fn options(list: &[u8], start: &[u8], known: &[u8], buf: &mut [u8]) -> usize
         }
         let head = [0x80, 0xA8, 0x00, 0x00, (n + 2) as u8, 0x83, n as u8];
         lay(buf, 0, &head);
-        lay_data(list, start, known, buf, 7);
+        lay_data(list, from, buf, 7);
         return n + 8;
     }
     if buf.len() < n + 9 {
@@ -52,7 +53,7 @@ pub fn options(list: &[u8], start: &[u8], known: &[u8], buf: &mut [u8]) -> usize
     }
     let head = [0x80, 0xA8, 0x00, 0x00, (n + 3) as u8, 0x83, 0x81, n as u8];
     lay(buf, 0, &head);
-    lay_data(list, start, known, buf, 8);
+    lay_data(list, from, buf, 8);
     n + 9
 }
 
@@ -69,12 +70,12 @@ pub fn record(number: u8, file: u8, buf: &mut [u8]) -> usize
     5
 }
 
-pub fn cryptogram(request: u8, list: &[u8], start: &[u8], known: &[u8], buf: &mut [u8]) -> usize
+pub fn cryptogram(request: u8, list: &[u8], from: Sources, buf: &mut [u8]) -> usize
     ensures size { result
         ≡ size_in (length buf.old)
-        (cryptogram_command request (filling (reading_of start.now) (told_in known.now) list.now)) }
+        (cryptogram_command request (filling (reading_of from.entry.start.now) (told_in from.entry.known.now) list.now)) }
     ensures buffer { buf.new
-        ≡ laid (cryptogram_command request (filling (reading_of start.now) (told_in known.now) list.now)) 0
+        ≡ laid (cryptogram_command request (filling (reading_of from.entry.start.now) (told_in from.entry.known.now) list.now)) 0
         buf.old }
 {
     let n = data_size(list);
@@ -91,6 +92,6 @@ pub fn cryptogram(request: u8, list: &[u8], start: &[u8], known: &[u8], buf: &mu
     }
     let head = [0x80, 0xAE, request, 0x00, n as u8];
     lay(buf, 0, &head);
-    lay_data(list, start, known, buf, 5);
+    lay_data(list, from, buf, 5);
     n + 6
 }

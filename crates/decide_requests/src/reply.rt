@@ -19,6 +19,7 @@ fn zero_code(s: &[u8]) -> bool
 }
 
 // What three bytes say: a reply, or nothing that is one.
+#[tactic(auto, unfolding(crate::specs::Replies::reply_of, crate::specs::Replies::said_by, slices::specs::Choice::pick))]
 pub fn reply_of(s: &[u8]) -> Option<HostReply>
     ensures { result ≡ reply_of s.now }
 {
@@ -46,6 +47,7 @@ pub fn is_reply(s: &[u8]) -> bool
 }
 
 // The response code that came with a reply.
+#[tactic(auto, unfolding(crate::specs::Replies::code_in))]
 pub fn code_in(s: &[u8]) -> [u8; 2]
     ensures { result ≡ code_in s.now }
 {
@@ -53,6 +55,7 @@ pub fn code_in(s: &[u8]) -> [u8; 2]
 }
 
 // The response code beside the second request.
+#[tactic(auto, unfolding(crate::specs::Replies::response_code))]
 pub fn response_code(reply: HostReply, asked: Cryptogram, code: [u8; 2]) -> [u8; 2]
     ensures { result ≡ response_code reply asked code }
 {

@@ -13,44 +13,57 @@ use session_records::slots::{has, value};
 use start_fields::fields;
 use start_fields::fields::Field;
 
-// Whether the TVR has a bit of the issuer's code, as the records told it; one that is absent is five bytes of `absent`.
-fn issuer_match(told: &[u8], tag: usize, absent: u8, tvr: [u8; 5]) -> bool
-    ensures { result ≡ meet (issuer_code absent (told_in told.now tag)) tvr }
-{
-    if has(told, tag) {
-        bits::in_both(value(told, tag), &tvr)
-    } else {
-        let none = [absent; 5];
-        bits::in_both(&none, &tvr)
+// The terminal's codes in START, the issuer's among what the records told, and the TVR that they are matched with.
+#[derive(Clone, Copy)]
+struct Codes<'a> {
+    start: &'a [u8],
+    told: &'a [u8],
+    tvr: [u8; 5],
+}
+
+impl<'a> Codes<'a> {
+    // Whether the TVR has a bit of the issuer's code; one that is absent is five bytes of `absent`.
+    fn issuer_match(self, tag: usize, absent: u8) -> bool
+        ensures { result ≡ meet (issuer_code absent (told_in self.entry.told.now tag)) self.entry.tvr }
+    {
+        if has(self.told, tag) {
+            bits::in_both(value(self.told, tag), &self.tvr)
+        } else {
+            let none = [absent; 5];
+            bits::in_both(&none, &self.tvr)
+        }
+    }
+
+    // Whether the TVR has a bit of the issuer's code or of the terminal's.
+    fn code_match(self, tag: usize, absent: u8, which: Field) -> bool
+        ensures { result
+            ≡ code_match absent (told_in self.entry.told.now tag) (bytes_of which (reading_of self.entry.start.now))
+            self.entry.tvr }
+    {
+        self.issuer_match(tag, absent) || bits::in_both(fields::bytes(self.start, which), &self.tvr)
+    }
+
+    fn denial_match(self) -> bool
+        ensures { result ≡ denial_match (reading_of self.entry.start.now) (told_in self.entry.told.now) self.entry.tvr }
+    {
+        self.code_match(0x9F0E, 0x00, Field::Denial)
+    }
+
+    fn online_match(self) -> bool
+        ensures { result ≡ online_match (reading_of self.entry.start.now) (told_in self.entry.told.now) self.entry.tvr }
+    {
+        self.code_match(0x9F0F, 0xFF, Field::Online)
+    }
+
+    fn default_match(self) -> bool
+        ensures { result ≡ default_match (reading_of self.entry.start.now) (told_in self.entry.told.now) self.entry.tvr }
+    {
+        self.code_match(0x9F0D, 0xFF, Field::Default)
     }
 }
 
-// Whether the TVR has a bit of the issuer's code or of the terminal's.
-fn code_match(told: &[u8], tag: usize, absent: u8, start: &[u8], which: Field, tvr: [u8; 5]) -> bool
-    ensures { result ≡ code_match absent (told_in told.now tag) (bytes_of which (reading_of start.now)) tvr }
-{
-    issuer_match(told, tag, absent, tvr) || bits::in_both(fields::bytes(start, which), &tvr)
-}
-
-fn denial_match(start: &[u8], told: &[u8], tvr: [u8; 5]) -> bool
-    ensures { result ≡ denial_match (reading_of start.now) (told_in told.now) tvr }
-{
-    code_match(told, 0x9F0E, 0x00, start, Field::Denial, tvr)
-}
-
-fn online_match(start: &[u8], told: &[u8], tvr: [u8; 5]) -> bool
-    ensures { result ≡ online_match (reading_of start.now) (told_in told.now) tvr }
-{
-    code_match(told, 0x9F0F, 0xFF, start, Field::Online, tvr)
-}
-
-fn default_match(start: &[u8], told: &[u8], tvr: [u8; 5]) -> bool
-    ensures { result ≡ default_match (reading_of start.now) (told_in told.now) tvr }
-{
-    code_match(told, 0x9F0D, 0xFF, start, Field::Default, tvr)
-}
-
 // The first request by the terminal's type, where no code denies.
+#[tactic(auto, unfolding(crate::specs::Requests::by_type, slices::specs::Choice::pick))]
 fn by_type(kind: u8, default: bool, online: bool) -> Cryptogram
     ensures { result ≡ by_type kind default online }
 {
@@ -74,17 +87,20 @@ fn by_type(kind: u8, default: bool, online: bool) -> Cryptogram
     }
 }
 
+#[tactic(auto, unfolding(crate::specs::Requests::first_request, slices::specs::Choice::pick))]
 pub fn first_request(start: &[u8], told: &[u8], tvr: [u8; 5]) -> Cryptogram
     ensures { result ≡ first_request (reading_of start.now) (told_in told.now) tvr }
 {
-    if denial_match(start, told, tvr) {
+    let codes = Codes { start, told, tvr };
+    if codes.denial_match() {
         return Cryptogram::Aac;
     }
-    let default = default_match(start, told, tvr);
-    let online = online_match(start, told, tvr);
+    let default = codes.default_match();
+    let online = codes.online_match();
     by_type(fields::kind(start), default, online)
 }
 
+#[tactic(auto, unfolding(crate::specs::Requests::when_unable, slices::specs::Choice::pick))]
 fn when_unable(kind: u8, default: bool) -> Cryptogram
     ensures { result ≡ when_unable kind default }
 {
@@ -98,6 +114,7 @@ fn when_unable(kind: u8, default: bool) -> Cryptogram
     }
 }
 
+#[tactic(auto, unfolding(crate::specs::Requests::second_request))]
 pub fn second_request(reply: HostReply, start: &[u8], told: &[u8], tvr: [u8; 5]) -> Cryptogram
     ensures { result ≡ second_request reply (reading_of start.now) (told_in told.now) tvr }
 {
@@ -105,7 +122,7 @@ pub fn second_request(reply: HostReply, start: &[u8], told: &[u8], tvr: [u8; 5])
         HostReply::Approve => Cryptogram::Tc,
         HostReply::Decline => Cryptogram::Aac,
         HostReply::Unable => {
-            let default = default_match(start, told, tvr);
+            let default = Codes { start, told, tvr }.default_match();
             when_unable(fields::kind(start), default)
         }
     }

@@ -8,7 +8,8 @@ use lib.ListN.{length-replicate}
 use borrow.Author.Tests.{lt-leb}
 use Rattle.slices.specs.Writing.{zeros, put}
 use Rattle.slices.proofs.Choice.{pick_yes, pick_no}
-use Rattle.slices.proofs.Writing.{zeros_length, put_step}
+use Rattle.slices.proofs.Writing.{zeros_length, put_step, put_length, put_nothing}
+use Rattle.slices.proofs.Cutting.{none_left}
 use Rattle.tlv_head.specs.Head.{tag_of, tag_size}
 use Rattle.slices.specs.Tests.{is_some}
 use Rattle.start_fields.specs.Reading.{Terminal}
@@ -19,7 +20,7 @@ use Rattle.dol_values.specs.Shape.{shaped}
 use Rattle.facts.specs.Facts.{Facts}
 use Rattle.answer_common.specs.declared.content.Format.{Format}
 use Rattle.answer_common.specs.declared.content.Format.TheVariants.{Numeric, CardNumber, Other, Unknown}
-use Rattle.dol_wanted.proofs.Entries.{entries_more, asked, turn_some, tally_fillable}
+use Rattle.dol_wanted.proofs.Entries.{entries_more, entries_empty, asked, turn_some, turn_total, tally_fillable}
 
 -- the entry at the front of a well-formed list, and the rest
 filled_then : (w : Wanted) (t : Terminal) (k : Facts) (o : Option (List Wanted)) → is_some o ≡ true
@@ -117,3 +118,38 @@ turn_put t k r buf p h right fits' =
     let size : length x ≡ size_at r = first_length t k r in
     ap (λ (n : ℕ). put y (p + n) (put x p buf)) (sym size)
     ∙ (sym (put_step x y p buf (omega arith)) ∙ ap (λ (s : List ℕ). put s p buf) (sym (turn_filled r h right t k)))
+
+-- a list that is still to be filled, from a place where it has room: written there, it gives the buffer that is wanted
+pub record ToFill (t : Terminal) (k : Facts) (r : List ℕ) (p : ℕ) (buf : List ℕ) (room : ℕ) (wanted : List ℕ) : Type 0 where
+  pub right : is_some (entries_of r) ≡ true
+  pub fits : p + total_by (entries_of r) ≤ room
+  pub long : length buf ≡ room
+  pub same : put (filled_by t k (entries_of r)) p buf ≡ wanted
+
+module _ (t : Terminal) (k : Facts) (r : List ℕ) (p : ℕ) (buf : List ℕ) (room : ℕ) (wanted : List ℕ) (h : ToFill t k r p buf room wanted) where
+  -- the entry at the front has room, and once it is written the rest is still to be filled
+  module _ (more : 0 < length r) where
+    pub first_room : p + size_at r ≤ length buf
+    first_room = let sum = turn_total r more h.right in omega arith
+
+    pub rest_filled : {left out : List ℕ} {size : ℕ} → left ≡ drop (tag_size r + 1) r → size ≡ size_at r → out ≡ put (first_bytes t k r) p buf
+        → ToFill t k left (p + size) out room wanted
+    rest_filled {left} {out} {size} e s o =
+        let sum = turn_total r more h.right in
+        let first = first_length t k r in
+        let whole : length out ≡ length buf = ap length o ∙ put_length (first_bytes t k r) p buf (omega (arith, first_room)) in
+        let behind : p + size + total_by (entries_of (drop (tag_size r + 1) r)) ≤ room = omega arith in
+        record {
+          right = ap (λ (x : List ℕ). is_some (entries_of x)) e ∙ turn_some r more h.right;
+          fits = rw e behind;
+          long = omega arith;
+          same = (λ i. put (filled_by t k (entries_of (e i))) (p + s i) (o i)) ∙ (turn_put t k r buf p more h.right first_room ∙ h.same);
+        }
+
+  -- nothing is left: the buffer is the one that is wanted
+  pub all_filled : length r ≡ 0 → buf ≡ wanted
+  unfolding filled_by filled
+  all_filled e =
+      let written : filled_by t k (entries_of r) ≡ [] = ap (λ (s : List ℕ). filled_by t k (entries_of s)) (none_left r e)
+      ∙ ap (filled_by t k) entries_empty in
+      sym (put_nothing p buf) ∙ (ap (λ (s : List ℕ). put s p buf) (sym written) ∙ h.same)

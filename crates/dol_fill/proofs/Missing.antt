@@ -76,3 +76,30 @@ module _ (t : Terminal) (k : Facts) where
       either (fillable list)
       (λ y. let same = unsupplied_yes list y in let few = half (length list) list (omega arith) (fillable_some list y) in omega arith)
       (λ n. let same = unsupplied_no list n in omega arith)
+
+-- a list that is still to be counted, after n of the entries before it: with the rest's it comes to the sum that is wanted, and no more was
+-- counted than there was room for
+pub record ToCount (t : Terminal) (k : Facts) (r : List ℕ) (n room wanted : ℕ) : Type 0 where
+  pub right : is_some (entries_of r) ≡ true
+  pub few : n + length r ≤ room
+  pub same : n + missing_by t k (entries_of r) ≡ wanted
+
+module _ (t : Terminal) (k : Facts) (r : List ℕ) (n room wanted : ℕ) (h : ToCount t k r n room wanted) where
+  -- the entry at the front is counted, and the rest is still to be
+  pub rest_counted : 0 < length r → {left : List ℕ} {one : ℕ} → left ≡ drop (tag_size r + 1) r → one ≡ missing t k (tag_of r)
+      → ToCount t k left (n + one) room wanted
+  rest_counted more {left} {one} e m =
+      let fits = turn_fits r more h.right in
+      let short = length-drop (tag_size r + 1) r in
+      let most = missing_most t k (tag_of r) in
+      let sum = turn_missing t k r more h.right in
+      let fewer : n + one + length (drop (tag_size r + 1) r) ≤ room = omega arith in
+      let so_far : n + one + missing_by t k (entries_of (drop (tag_size r + 1) r)) ≡ wanted = omega arith in
+      record { right = ap (λ (x : List ℕ). is_some (entries_of x)) e ∙ turn_some r more h.right; few = rw e fewer; same = rw e so_far }
+
+  -- nothing is left
+  pub all_counted : length r ≡ 0 → n ≡ wanted
+  all_counted e =
+      let none' : missing_by t k (entries_of r) ≡ 0 = ap (λ (l : List ℕ). missing_by t k (entries_of l)) (none_left r e)
+      ∙ nothing_missing t k in
+      omega arith

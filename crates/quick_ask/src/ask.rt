@@ -10,6 +10,7 @@ ghost use Rattle.quick_meet.specs.Meeting.{exchange_met};
 use commands::write;
 use commands::write::LONGEST;
 use decide_cryptogram::{Cryptogram, p1};
+use dol_fill::Sources;
 use quick_meet::meet::exchange;
 use slices::part;
 use verdict::Ruling;
@@ -23,13 +24,13 @@ pub fn select(tape: &[u8], k: usize, start: &[u8]) -> Result<(), Ruling>
 }
 
 // GET PROCESSING OPTIONS, filled from an object list and the slots of what is known.
-pub fn options(tape: &[u8], k: usize, list: &[u8], start: &[u8], known: &[u8]) -> Result<(), Ruling>
+pub fn options(tape: &[u8], k: usize, list: &[u8], from: Sources) -> Result<(), Ruling>
     ensures { result
-        ≡ exchange_met (options_command (filling (reading_of start.now) (told_in known.now) list.now)) k
+        ≡ exchange_met (options_command (filling (reading_of from.entry.start.now) (told_in from.entry.known.now) list.now)) k
         tape.now }
 {
     let mut buf = [0; LONGEST];
-    let n = write::options(list, start, known, &mut buf);
+    let n = write::options(list, from, &mut buf);
     exchange(tape, k, part(&buf, 0, n))
 }
 
@@ -48,14 +49,13 @@ pub fn cryptogram(
     k: usize,
     request: Cryptogram,
     list: &[u8],
-    start: &[u8],
-    known: &[u8],
+    from: Sources,
 ) -> Result<(), Ruling>
     ensures { result
         ≡ exchange_met (cryptogram_command (p1_of request)
-        (filling (reading_of start.now) (told_in known.now) list.now)) k tape.now }
+        (filling (reading_of from.entry.start.now) (told_in from.entry.known.now) list.now)) k tape.now }
 {
     let mut buf = [0; LONGEST];
-    let n = write::cryptogram(p1(request), list, start, known, &mut buf);
+    let n = write::cryptogram(p1(request), list, from, &mut buf);
     exchange(tape, k, part(&buf, 0, n))
 }

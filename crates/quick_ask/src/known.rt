@@ -18,6 +18,7 @@ pub fn at_options(told: &[u8], tvr: [u8; 5], tsi: [u8; 2]) -> [u8; END]
 }
 
 // At the first request: the profile too.
+#[tactic(auto, unfolding(crate::specs::Known::known_late))]
 pub fn at_first(told: &[u8], profile: [u8; 2], tvr: [u8; 5], tsi: [u8; 2]) -> [u8; END]
     ensures { result ≡ known_late told.now profile tvr tsi }
 {
@@ -27,6 +28,7 @@ pub fn at_first(told: &[u8], profile: [u8; 2], tvr: [u8; 5], tsi: [u8; 2]) -> [u
 }
 
 // At the second, with the response code.
+#[tactic(auto, unfolding(crate::specs::Known::known_second))]
 pub fn at_second(
     told: &[u8],
     profile: [u8; 2],

@@ -15,6 +15,7 @@ use decide_cryptogram::{Cryptogram, Request};
 use decide_requests::reply::{HostReply, code_in, reply_of, response_code};
 use decide_requests::requests::second_request;
 use decide_tvr::results::tsi_after_first_answer;
+use dol_fill::Sources;
 use dol_fill::count::{sum, unsupplied};
 use dol_wanted::is_fillable;
 use numbers::{APPROVED, DECLINED, FOR_LIST, HOST};
@@ -70,8 +71,12 @@ fn second(tape: &[u8], at: Place, s: Standing, reply: HostReply, code: [u8; 2]) 
     let request = second_request(reply, s.start, told, s.tvr);
     let response = response_code(reply, request, code);
     let known = at_second(told, s.profile, s.tvr, s.tsi, response);
-    let zeros = sum(at.zeros, unsupplied(list, s.start, &known));
-    if let Err(ruling) = ask::cryptogram(tape, at.k, request, list, s.start, &known) {
+    let from = Sources {
+        start: s.start,
+        known: &known,
+    };
+    let zeros = sum(at.zeros, unsupplied(list, from));
+    if let Err(ruling) = ask::cryptogram(tape, at.k, request, list, from) {
         return Finding { ruling, zeros };
     }
     let a = payload_at(tape, at.k + 1);

@@ -10,6 +10,7 @@ use crate::records::read_all;
 use crate::standing::Place;
 use answer_gpo::{locator_read, options_reason, profile_read};
 use answer_select::{pdol_read, select_reason};
+use dol_fill::Sources;
 use dol_fill::count::{sum, unsupplied};
 use quick_ask::ask;
 use quick_ask::known::at_options;
@@ -42,8 +43,12 @@ fn from_select(tape: &[u8], start: &[u8], a: &[u8]) -> Finding
     let told = [0; END];
     let known = at_options(&told, [0; 5], [0; 2]);
     let list = pdol_read(a);
-    let zeros = sum(0, unsupplied(list, start, &known));
-    if let Err(ruling) = ask::options(tape, 3, list, start, &known) {
+    let from = Sources {
+        start,
+        known: &known,
+    };
+    let zeros = sum(0, unsupplied(list, from));
+    if let Err(ruling) = ask::options(tape, 3, list, from) {
         return Finding { ruling, zeros };
     }
     from_options(tape, start, payload_at(tape, 4), zeros)

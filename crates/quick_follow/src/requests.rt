@@ -17,6 +17,7 @@ use answer_record::complete_reason;
 use decide_requests::requests::first_request;
 use decide_tvr::results::{tsi_after_records, tvr_after_records};
 use decide_verification::{is_due, tsi_after_results, tvr_after_results, wanted};
+use dol_fill::Sources;
 use dol_fill::count::{sum, unsupplied};
 use numbers::{FOR_MISSING, RESULTS};
 use quick_ask::ask;
@@ -40,8 +41,12 @@ fn first(tape: &[u8], at: Place, s: Standing) -> Finding
     let request = first_request(s.start, told, s.tvr);
     let list = value(told, 0x8C);
     let known = at_first(told, s.profile, s.tvr, s.tsi);
-    let zeros = sum(at.zeros, unsupplied(list, s.start, &known));
-    if let Err(ruling) = ask::cryptogram(tape, at.k, request, list, s.start, &known) {
+    let from = Sources {
+        start: s.start,
+        known: &known,
+    };
+    let zeros = sum(at.zeros, unsupplied(list, from));
+    if let Err(ruling) = ask::cryptogram(tape, at.k, request, list, from) {
         return Finding { ruling, zeros };
     }
     let a = payload_at(tape, at.k + 1);

@@ -13,6 +13,7 @@ ghost use Rattle.session_state.specs.Reading.{start_in};
 use answer_afl::cursor;
 use commands::write;
 use decide_cryptogram::{Cryptogram, p1};
+use dol_fill::Sources;
 use dol_fill::count::unsupplied;
 use session_records::runs::{bytes_of, size_of};
 use session_state::State;
@@ -29,7 +30,11 @@ pub fn generate(s: State, request: Cryptogram, list: &[u8], known: &[u8], buf: &
 {
     let start = s.start;
     let size = s.size;
-    write::cryptogram(p1(request), list, part(&start, 0, size), known, buf)
+    let from = Sources {
+        start: part(&start, 0, size),
+        known,
+    };
+    write::cryptogram(p1(request), list, from, buf)
 }
 
 // How many entries of an object list are not supplied.
@@ -38,7 +43,11 @@ pub fn missing(s: State, list: &[u8], known: &[u8]) -> usize
 {
     let start = s.start;
     let size = s.size;
-    unsupplied(list, part(&start, 0, size), known)
+    let from = Sources {
+        start: part(&start, 0, size),
+        known,
+    };
+    unsupplied(list, from)
 }
 
 // READ RECORD of the record at the cursor.

@@ -9,6 +9,7 @@ use crate::command::missing;
 use crate::ends::ask;
 use crate::known::at_options;
 use commands::write;
+use dol_fill::Sources;
 use session_phase::Question;
 use session_state::State;
 use slices::part;
@@ -20,7 +21,11 @@ pub fn options_due(s: State, list: &[u8], buf: &mut [u8]) -> Step
     let start = s.start;
     let size = s.size;
     let known = at_options(s);
-    let n = write::options(list, part(&start, 0, size), &known, buf);
+    let from = Sources {
+        start: part(&start, 0, size),
+        known: &known,
+    };
+    let n = write::options(list, from, buf);
     let zeros = missing(s, list, &known);
     ask(s, Question::Options, n, zeros)
 }

@@ -14,12 +14,12 @@ use Rattle.commands.proofs.data.lay_data.Goals as goal
 pub returns : goal.returns
 returns c =
     let a = c.args in
-    let t = reading_of a.start.now in
+    let t = reading_of a.from.start.now in
     let n = c.data_size.ensures.0 in
-    let long = data_length t (told_in a.known.now) a.list.now in
+    let long = data_length t (told_in a.from.known.now) a.list.now in
     let h = c.requires in
     c.lay.ensures
     ∙ (ap (laid (0 ∷ []) (a.at + c.data_size.result))
     c.fill.ensures
-    ∙ two_laid (filling t (told_in a.known.now) a.list.now) (0 ∷ []) a.buf.now a.at
+    ∙ two_laid (filling t (told_in a.from.known.now) a.list.now) (0 ∷ []) a.buf.now a.at
     (a.at + c.data_size.result) (omega arith) (omega arith))

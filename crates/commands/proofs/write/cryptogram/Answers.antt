@@ -9,7 +9,7 @@ use Rattle.start_fields.specs.Reading.{reading_of}
 use Rattle.session_records.specs.Slots.{told_in}
 use Rattle.dol_fill.specs.Filled.{filling}
 use Rattle.commands.specs.Commands.{cryptogram_command, size_in}
-use Rattle.commands.proofs.Sizes.{unissued, issued, two_pieces, data_length}
+use Rattle.commands.proofs.Sizes.{unissued, issued, two_pieces, counted}
 use Rattle.commands.proofs.Shapes.{ended_length, cryptogram_empty, cryptogram_filled}
 use Rattle.slices.proofs.Writing.{laid_fits}
 use native.Mathlib.Omega.{arith}
@@ -42,64 +42,40 @@ module _ (request : ℕ) (d buf out : List ℕ) where
 
 pub returns-then-buf-lt5 : goal.returns-then-buf-lt5
 returns-then-buf-lt5 c =
-    let counted : length (filling (reading_of c.args.start.now) (told_in c.args.known.now) c.args.list.now) ≡ c.data_size-n.result =
-    data_length (reading_of c.args.start.now)
-    (told_in c.args.known.now)
-    c.args.list.now ∙ sym c.data_size-n.ensures.0
-    in
     let a = c.args in
-    let d = filling (reading_of a.start.now) (told_in a.known.now) a.list.now in
-    let e : length d ≡ 0 = counted ∙ c.if-n-eq0.true in
+    let d = filling (reading_of a.from.start.now) (told_in a.from.known.now) a.list.now in
+    let e : length d ≡ 0 = counted _ _ a.list.now c.data_size-n.ensures.0 ∙ c.if-n-eq0.true in
     let size = ap length (cryptogram_empty d a.request e) in
     let both = unissued (cryptogram_command a.request d) a.buf.now (omega arith) in
     record { size = both.0; buffer = both.1 }
 
 pub returns-then-n-eq0 : goal.returns-then-n-eq0
 returns-then-n-eq0 c =
-    let counted : length (filling (reading_of c.args.start.now) (told_in c.args.known.now) c.args.list.now) ≡ c.data_size-n.result =
-    data_length (reading_of c.args.start.now)
-    (told_in c.args.known.now)
-    c.args.list.now ∙ sym c.data_size-n.ensures.0
-    in
     let a = c.args in
-    let both = bare_written a.request (filling (reading_of a.start.now) (told_in a.known.now) a.list.now) a.buf.now
+    let both = bare_written a.request (filling (reading_of a.from.start.now) (told_in a.from.known.now) a.list.now) a.buf.now
     c.lay.new.buf
-    (counted
-    ∙ c.if-n-eq0.true) c.if-buf-lt5.false
+    (counted _ _ a.list.now c.data_size-n.ensures.0 ∙ c.if-n-eq0.true) c.if-buf-lt5.false
     c.lay.ensures in
     record { size = both.0; buffer = both.1 }
 
 pub returns-then-buf-n : goal.returns-then-buf-n
 returns-then-buf-n c =
-    let counted : length (filling (reading_of c.args.start.now) (told_in c.args.known.now) c.args.list.now) ≡ c.data_size-n.result =
-    data_length (reading_of c.args.start.now)
-    (told_in c.args.known.now)
-    c.args.list.now ∙ sym c.data_size-n.ensures.0
-    in
     let a = c.args in
-    let d = filling (reading_of a.start.now) (told_in a.known.now) a.list.now in
-    let k =
-    size a.request d a.buf.now [] c.data_size-n.result (counted) c.if-n-eq0.false in
+    let d = filling (reading_of a.from.start.now) (told_in a.from.known.now) a.list.now in
+    let k = size a.request d a.buf.now [] c.data_size-n.result (counted _ _ a.list.now c.data_size-n.ensures.0) c.if-n-eq0.false in
     let both = unissued (cryptogram_command a.request d) a.buf.now (omega arith) in
     record { size = both.0; buffer = both.1 }
 
 pub returns : goal.returns
 returns c =
-    let counted : length (filling (reading_of c.args.start.now) (told_in c.args.known.now) c.args.list.now) ≡ c.data_size-n.result =
-    data_length (reading_of c.args.start.now)
-    (told_in c.args.known.now)
-    c.args.list.now ∙ sym c.data_size-n.ensures.0
-    in
-    let a =
-    c.args
-    in
-    let both = written a.request (filling (reading_of a.start.now) (told_in a.known.now) a.list.now) a.buf.now
+    let a = c.args in
+    let both = written a.request (filling (reading_of a.from.start.now) (told_in a.from.known.now) a.list.now) a.buf.now
     c.lay_data.new.buf
     c.data_size-n.result
-    (counted)
+    (counted _ _ a.list.now c.data_size-n.ensures.0)
     c.if-n-eq0.false
     c.if-buf-n.false
     (c.lay_data.ensures
-    ∙ ap (put (filling (reading_of a.start.now) (told_in a.known.now) a.list.now ++ (0 ∷ [])) 5)
+    ∙ ap (put (filling (reading_of a.from.start.now) (told_in a.from.known.now) a.list.now ++ (0 ∷ [])) 5)
     c.lay-2.ensures) in
     record { size = both.0; buffer = both.1 }

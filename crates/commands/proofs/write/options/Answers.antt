@@ -10,7 +10,7 @@ use Rattle.session_records.specs.Slots.{told_in}
 use Rattle.dol_wanted.specs.Wanted.{most}
 use Rattle.dol_fill.specs.Filled.{filling}
 use Rattle.commands.specs.Commands.{options_command, size_in}
-use Rattle.commands.proofs.Sizes.{unissued, issued, two_pieces, data_length}
+use Rattle.commands.proofs.Sizes.{unissued, issued, two_pieces, counted}
 use Rattle.commands.proofs.Shapes.{ended_length, options_short, options_long}
 use native.Mathlib.Omega.{arith}
 use Rattle.commands.proofs.write.options.Goals as goal
@@ -49,71 +49,46 @@ module _ (d buf out : List ℕ) (n : ℕ) (e : length d ≡ n) where
 
 pub returns-then-buf-n : goal.returns-then-buf-n
 returns-then-buf-n c =
-    let counted : length (filling (reading_of c.args.start.now) (told_in c.args.known.now) c.args.list.now) ≡ c.data_size-n.result =
-    data_length (reading_of c.args.start.now)
-    (told_in c.args.known.now)
-    c.args.list.now ∙ sym c.data_size-n.ensures.0
-    in
     let a = c.args in
-    let d = filling (reading_of a.start.now) (told_in a.known.now) a.list.now in
-    let size = small d a.buf.now [] c.data_size-n.result (counted) c.if-n-lt128.true in
+    let d = filling (reading_of a.from.start.now) (told_in a.from.known.now) a.list.now in
+    let size = small d a.buf.now [] c.data_size-n.result (counted _ _ a.list.now c.data_size-n.ensures.0) c.if-n-lt128.true in
     let both = unissued (options_command d) a.buf.now (omega arith) in
     record { size = both.0; buffer = both.1 }
 
 pub returns-then-n-lt128 : goal.returns-then-n-lt128
 returns-then-n-lt128 c =
-    let counted : length (filling (reading_of c.args.start.now) (told_in c.args.known.now) c.args.list.now) ≡ c.data_size-n.result =
-    data_length (reading_of c.args.start.now)
-    (told_in c.args.known.now)
-    c.args.list.now ∙ sym c.data_size-n.ensures.0
-    in
-    let a =
-    c.args
-    in
-    let both = small_written (filling (reading_of a.start.now) (told_in a.known.now) a.list.now) a.buf.now
+    let a = c.args in
+    let both = small_written (filling (reading_of a.from.start.now) (told_in a.from.known.now) a.list.now) a.buf.now
     c.lay_data.new.buf
     c.data_size-n.result
-    (counted)
+    (counted _ _ a.list.now c.data_size-n.ensures.0)
     c.if-n-lt128.true
     c.if-buf-n.false
     (c.lay_data.ensures
-    ∙ ap (put (filling (reading_of a.start.now) (told_in a.known.now) a.list.now ++ (0 ∷ [])) 7)
+    ∙ ap (put (filling (reading_of a.from.start.now) (told_in a.from.known.now) a.list.now ++ (0 ∷ [])) 7)
     c.lay.ensures) in
     record { size = both.0; buffer = both.1 }
 
 pub returns-then-buf-n-2 : goal.returns-then-buf-n-2
 returns-then-buf-n-2 c =
-    let counted : length (filling (reading_of c.args.start.now) (told_in c.args.known.now) c.args.list.now) ≡ c.data_size-n.result =
-    data_length (reading_of c.args.start.now)
-    (told_in c.args.known.now)
-    c.args.list.now ∙ sym c.data_size-n.ensures.0
-    in
     let a = c.args in
-    let d = filling (reading_of a.start.now) (told_in a.known.now) a.list.now in
-    let size =
-    large d a.buf.now [] c.data_size-n.result (counted) c.if-n-lt128.false
+    let d = filling (reading_of a.from.start.now) (told_in a.from.known.now) a.list.now in
+    let size = large d a.buf.now [] c.data_size-n.result (counted _ _ a.list.now c.data_size-n.ensures.0) c.if-n-lt128.false
     c.data_size-n.ensures.1 in
     let both = unissued (options_command d) a.buf.now (omega arith) in
     record { size = both.0; buffer = both.1 }
 
 pub returns : goal.returns
 returns c =
-    let counted : length (filling (reading_of c.args.start.now) (told_in c.args.known.now) c.args.list.now) ≡ c.data_size-n.result =
-    data_length (reading_of c.args.start.now)
-    (told_in c.args.known.now)
-    c.args.list.now ∙ sym c.data_size-n.ensures.0
-    in
-    let a =
-    c.args
-    in
-    let both = large_written (filling (reading_of a.start.now) (told_in a.known.now) a.list.now) a.buf.now
+    let a = c.args in
+    let both = large_written (filling (reading_of a.from.start.now) (told_in a.from.known.now) a.list.now) a.buf.now
     c.lay_data-2.new.buf
     c.data_size-n.result
-    (counted)
+    (counted _ _ a.list.now c.data_size-n.ensures.0)
     c.if-n-lt128.false
     c.data_size-n.ensures.1
     c.if-buf-n-2.false
     (c.lay_data-2.ensures
-    ∙ ap (put (filling (reading_of a.start.now) (told_in a.known.now) a.list.now ++ (0 ∷ [])) 8)
+    ∙ ap (put (filling (reading_of a.from.start.now) (told_in a.from.known.now) a.list.now ++ (0 ∷ [])) 8)
     c.lay-2.ensures) in
     record { size = both.0; buffer = both.1 }

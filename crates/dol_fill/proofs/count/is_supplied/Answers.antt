@@ -3,9 +3,8 @@
 use Rattle.std.proofs.Common.{◌≡◌, ℕ, false, List, sym, refl, ap, ◌∙◌}
 use mathlib.Core.Option.{Option, none, some}
 use Rattle.slices.specs.Tests.{is_some}
-use Rattle.start_fields.specs.Reading.{Terminal, reading_of}
+use Rattle.start_fields.specs.Reading.{Terminal}
 use Rattle.facts.specs.Facts.{Facts}
-use Rattle.session_records.specs.Slots.{told_in}
 use Rattle.dol_values.specs.Shape.{format_of}
 use Rattle.dol_values.specs.Known.{value_for, with_format, supplied}
 use Rattle.answer_common.specs.declared.content.Format.{Format}
@@ -33,39 +32,23 @@ unknown none = refl
 unknown (some v) = refl
 
 -- under the format of the tag
-by_format : (t : Terminal) (k : Facts) (tag : ℕ) (f : Format) → format_of tag ≡ f
-    → is_some (with_format f (value_for t k tag)) ≡ is_some (supplied t k tag)
-unfolding supplied
-by_format t k tag f e = ap (λ (x : Format). is_some (with_format x (value_for t k tag))) (sym e)
+module _ (t : Terminal) (k : Facts) (tag : ℕ) {f : Format} (e : format_of tag ≡ f) where
+  by_format : is_some (with_format f (value_for t k tag)) ≡ is_some (supplied t k tag)
+  unfolding supplied
+  by_format = ap (λ (x : Format). is_some (with_format x (value_for t k tag))) (sym e)
 
 pub returns-in-Numeric : goal.returns-in-Numeric
 returns-in-Numeric c =
-    let a = c.args in
-    let t = reading_of a.start.now in
-    let k = told_in a.known.now in
-    c.is_there.ensures
-    ∙ (numeric (value_for t k a.tag) ∙ by_format t k a.tag Numeric (sym c.format_of.ensures ∙ c.in-Numeric.is))
+    c.is_there.ensures ∙ (numeric _ ∙ by_format _ _ c.args.tag (sym c.format_of.ensures ∙ c.in-Numeric.is))
 
 pub returns-in-CardNumber : goal.returns-in-CardNumber
 returns-in-CardNumber c =
-    let a = c.args in
-    let t = reading_of a.start.now in
-    let k = told_in a.known.now in
-    c.is_there-in-CardNumber.ensures
-    ∙ (card_number_lem (value_for t k a.tag)
-    ∙ by_format t k a.tag CardNumber (sym c.format_of.ensures ∙ c.in-CardNumber.is))
+    c.is_there-in-CardNumber.ensures ∙ (card_number_lem _ ∙ by_format _ _ c.args.tag (sym c.format_of.ensures ∙ c.in-CardNumber.is))
 
 pub returns-in-Other : goal.returns-in-Other
 returns-in-Other c =
-    let a = c.args in
-    let t = reading_of a.start.now in
-    let k = told_in a.known.now in
-    c.is_there-in-Other.ensures
-    ∙ (other (value_for t k a.tag) ∙ by_format t k a.tag Other (sym c.format_of.ensures ∙ c.in-Other.is))
+    c.is_there-in-Other.ensures ∙ (other _ ∙ by_format _ _ c.args.tag (sym c.format_of.ensures ∙ c.in-Other.is))
 
 pub returns-in-Unknown : goal.returns-in-Unknown
 returns-in-Unknown c =
-    let a = c.args in
-    let t = reading_of a.start.now in
-    let k = told_in a.known.now in
-    unknown (value_for t k a.tag) ∙ by_format t k a.tag Unknown (sym c.format_of.ensures ∙ c.in-Unknown.is)
+    unknown _ ∙ by_format _ _ c.args.tag (sym c.format_of.ensures ∙ c.in-Unknown.is)

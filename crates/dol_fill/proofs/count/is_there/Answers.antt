@@ -25,12 +25,12 @@ pub returns-in-Some : goal.returns-in-Some
 returns-in-Some c =
     let a = c.args in
     ap (λ (v : List ℕ). not (eqb (length v) 0)) c.bytes.ensures
-    ∙ own_there (reading_of a.start.now) (told_in a.known.now) a.tag c.in-Some.field
+    ∙ own_there (reading_of a.from.start.now) (told_in a.from.known.now) a.tag c.in-Some.field
     (sym c.own_field.ensures ∙ c.in-Some.is)
 
 pub returns-in-None : goal.returns-in-None
 returns-in-None c =
     let a = c.args in
     c.has.ensures
-    ∙ known_there (reading_of a.start.now) (told_in a.known.now) a.tag (sym c.own_field.ensures
+    ∙ known_there (reading_of a.from.start.now) (told_in a.from.known.now) a.tag (sym c.own_field.ensures
     ∙ c.in-None.is)

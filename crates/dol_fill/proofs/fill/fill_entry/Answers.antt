@@ -46,7 +46,7 @@ returns-in-Some c =
     let a = c.args in
     c.fill_own.ensures
     ∙ ((λ i. entry_bytes (length a.part.now) (with_format (c.format_of-format.ensures i) (unless_empty (c.bytes.ensures i))))
-    ∙ own_bytes (length a.part.now) (reading_of a.start.now) (told_in a.known.now) a.tag c.in-Some.field
+    ∙ own_bytes (length a.part.now) (reading_of a.from.start.now) (told_in a.from.known.now) a.tag c.in-Some.field
     (sym c.own_field.ensures ∙ c.in-Some.is))
 
 pub returns-then-has : goal.returns-then-has
@@ -54,7 +54,7 @@ returns-then-has c =
     let a = c.args in
     c.shape.ensures
     ∙ ((λ i. shaped (c.format_of-format.ensures i) (length a.part.now) (c.value.ensures i))
-    ∙ known_bytes (length a.part.now) (reading_of a.start.now) (told_in a.known.now) a.tag
+    ∙ known_bytes (length a.part.now) (reading_of a.from.start.now) (told_in a.from.known.now) a.tag
     (sym c.own_field.ensures ∙ c.in-None.is) (sym c.has.ensures ∙ c.if-has.true))
 
 pub returns-else-has : goal.returns-else-has
@@ -62,5 +62,5 @@ unfolding zeros
 returns-else-has c =
     let a = c.args in
     c.blank.ensures
-    ∙ not_there (length a.part.now) (reading_of a.start.now) (told_in a.known.now) a.tag
+    ∙ not_there (length a.part.now) (reading_of a.from.start.now) (told_in a.from.known.now) a.tag
     (sym c.own_field.ensures ∙ c.in-None.is) (sym c.has.ensures ∙ c.if-has.false)

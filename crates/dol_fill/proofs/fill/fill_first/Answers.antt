@@ -20,7 +20,7 @@ returns c =
     in
     let Filled : Type 0 =
     let a = c.args in
-    c.fill_entry.new.part ≡ first_bytes (reading_of a.start.now) (told_in a.known.now) a.list.now
+    c.fill_entry.new.part ≡ first_bytes (reading_of a.from.start.now) (told_in a.from.known.now) a.list.now
     in
     let first : Filled =
     let a = c.args in
@@ -29,13 +29,13 @@ returns c =
     c.fill_entry.ensures
     ∙ ap₂ entry_bytes
     (place_length a.buf.now a.p n.result (room) ∙ n.ensures.0)
-    (ap (supplied (reading_of a.start.now) (told_in a.known.now)) tag.ensures.0)
+    (ap (supplied (reading_of a.from.start.now) (told_in a.from.known.now)) tag.ensures.0)
     in
     let a = c.args in
     let n = c.size_at in
     let e = first in
     let size = ap length e
-    ∙ (entry_length (size_at a.list.now) (supplied (reading_of a.start.now) (told_in a.known.now) (tag_of a.list.now))
+    ∙ (entry_length (size_at a.list.now) (supplied (reading_of a.from.start.now) (told_in a.from.known.now) (tag_of a.list.now))
     ∙ sym n.ensures.0) in
     put_back c.fill_entry.new.part a.p (a.p + n.result) a.buf.now (omega arith)
     ∙ ap (λ (s : List ℕ). put s a.p a.buf.now) e

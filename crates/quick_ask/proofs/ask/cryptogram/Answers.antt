@@ -19,7 +19,7 @@ pub returns : goal.returns
 unfolding zeros
 returns c =
     let args = c.args in
-    let data' = filling (reading_of args.start.now) (told_in args.known.now) args.list.now in
+    let data' = filling (reading_of args.from.start.now) (told_in args.from.known.now) args.list.now in
     let one = c.p1.ensures in
     let due = cryptogram_command (p1_of args.request) data' in
     let size = c.cryptogram-n.ensures.size ∙ ap (λ (q : ℕ). size_in (length (zeros longest)) (cryptogram_command q data')) one in

@@ -17,7 +17,7 @@ pub returns : goal.returns
 unfolding zeros
 returns c =
     let args = c.args in
-    let due = options_command (filling (reading_of args.start.now) (told_in args.known.now) args.list.now) in
+    let due = options_command (filling (reading_of args.from.start.now) (told_in args.from.known.now) args.list.now) in
     let fits = options_most _ (filling_most _ _ args.list.now) in
     let there = written_there due _ _ longest fits c.options-n.ensures.size c.options-n.ensures.buffer in
     c.exchange.ensures ∙ ap (λ (x : List ℕ). exchange_met x args.k args.tape.now) (c.part.ensures ∙ there)

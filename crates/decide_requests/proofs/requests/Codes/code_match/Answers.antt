@@ -1,4 +1,4 @@
--- `decide_requests::requests::code_match` meets its contract: a bit is shared with the joined codes where it is shared with one of them.
+-- `decide_requests::requests::Codes::code_match` meets its contract: a bit is shared with the joined codes where it is shared with one of them.
 -- Assumes nothing.
 use mathlib.Core.Path.{sym, ap, ◌∙◌}
 use mathlib.Core.List.{List}
@@ -6,7 +6,7 @@ use Prim.Native.Nat.{ℕ}
 use Rattle.decide_tvr.specs.Bits.{meet}
 use Rattle.decide_requests.specs.Requests.{code_match}
 use Rattle.decide_tvr.proofs.Rows.{meet_first, meet_second}
-use Rattle.decide_requests.proofs.requests.code_match.Goals as goal
+use Rattle.decide_requests.proofs.requests.Codes.code_match.Goals as goal
 
 pub returns-then-issuer_match : goal.returns-then-issuer_match
 unfolding code_match
@@ -19,4 +19,4 @@ returns-else-issuer_match c =
     let a = c.args in
     let i = c.issuer_match.ensures in
     c.in_both.ensures
-    ∙ (ap (λ (l : List ℕ). meet l a.tvr) c.bytes.ensures ∙ sym (meet_second _ _ _ (sym i ∙ c.if-issuer_match.false)))
+    ∙ (ap (λ (l : List ℕ). meet l a.self.tvr) c.bytes.ensures ∙ sym (meet_second _ _ _ (sym i ∙ c.if-issuer_match.false)))

@@ -1,6 +1,0 @@
--- `decide_requests::requests::default_match` meets its contract: it hands on the default codes, and ones for an absent one.
--- Assumes nothing.
-use Rattle.decide_requests.proofs.requests.default_match.Goals as goal
-
-pub returns : goal.returns
-returns c = c.code_match.ensures

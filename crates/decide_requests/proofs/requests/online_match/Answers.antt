@@ -1,6 +1,0 @@
--- `decide_requests::requests::online_match` meets its contract: it hands on the online codes, and ones for an absent one.
--- Assumes nothing.
-use Rattle.decide_requests.proofs.requests.online_match.Goals as goal
-
-pub returns : goal.returns
-returns c = c.code_match.ensures
