@@ -10,7 +10,6 @@ use numbers::FOR_EXCHANGES;
 const MOST: u8 = 100;
 
 // The list has no part in it.
-#[tactic(auto, unfolding(crate::specs::Turns::turn_of, crate::specs::Search::goes, crate::specs::Search::may_go_on, slices::specs::Choice::pick))]
 pub fn go(stand: Stand, step: Step) -> Turn
     ensures { result ≡ turn_of (goes (search_of stand []) step) }
 {
@@ -24,7 +23,6 @@ pub fn go(stand: Stand, step: Step) -> Turn
     Turn::Over(FOR_EXCHANGES)
 }
 
-#[tactic(auto, unfolding(crate::specs::Turns::turn_of, crate::specs::Search::offers, crate::specs::Search::may_go_on, slices::specs::Choice::pick))]
 pub fn offer(stand: Stand) -> Turn
     ensures { result ≡ turn_of (offers (search_of stand [])) }
 {
