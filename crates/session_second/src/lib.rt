@@ -61,7 +61,7 @@ fn go_online(s: State, buf: &mut [u8]) -> Step
     }
 }
 
-#[tactic(auto, using(session_moves::proofs::Moving::late_decided), unfolding(rulebook::specs::Turn::by_first, rulebook::specs::Phase::decided))]
+#[tactic(auto, using(crate::proofs::Ends::decisions), unfolding(rulebook::specs::Turn::by_first, rulebook::specs::Phase::decided))]
 pub fn by_first(given: Option<Cryptogram>, s: State, buf: &mut [u8]) -> Step
     ensures { played result buf.new ≡ moved (by_first given (late s)) s buf.old }
 {
