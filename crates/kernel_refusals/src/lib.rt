@@ -54,6 +54,7 @@ fn word_refusal(waiting: Waiting, p: &[u8]) -> usize
 }
 
 // The number of the first line of 01's table that applies; 0 where none does, and the call is taken.
+#[tactic(auto, using(crate::proofs::Picks::by_tests), unfolding(slices::specs::Choice::pick))]
 pub fn refusal(waiting: Waiting, kind: u8, payload: &[u8], command: &[u8]) -> usize
     ensures { result ≡ call_refusal waiting (entry kind payload.now) command.now }
 {
