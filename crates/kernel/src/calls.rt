@@ -21,12 +21,12 @@ use session_state::{State, change};
 fn accept(before: usize, m: Move) -> Step
     ensures { (result.session.state ≡ m.state) × (result.session.zeros ≡ summed before m.zeros) × (result.reply ≡ m.reply) }
 {
-    let state = m.state;
-    let reply = m.reply;
-    let zeros = sum(before, m.zeros);
     Step {
-        session: Session { state, zeros },
-        reply,
+        session: Session {
+            state: m.state,
+            zeros: sum(before, m.zeros),
+        },
+        reply: m.reply,
     }
 }
 
@@ -40,15 +40,13 @@ fn turn_away(s: Session, why: usize) -> Step
 }
 
 // The card says nothing: the session is closed without a decision.
+#[tactic(auto, unfolding(crate::specs::Calls::closed_state))]
 fn close(state: State, zeros: usize) -> Step
     ensures { (result.session.state ≡ closed_state state) × (result.session.zeros ≡ zeros) × (result.reply ≡ ClosedReply) }
 {
-    let tvr = state.tvr;
-    let tsi = state.tsi;
-    let place = state.cursor;
     Step {
         session: Session {
-            state: change::change(state, Waiting::Closed, tvr, tsi, place),
+            state: change::change(state, Waiting::Closed, state.tvr, state.tsi, state.cursor),
             zeros,
         },
         reply: Reply::Closed,
@@ -56,6 +54,7 @@ fn close(state: State, zeros: usize) -> Step
 }
 
 impl Session {
+    #[tactic(auto, unfolding(crate::specs::Calls::fresh_session))]
     pub fn fresh() -> Self
         ensures { result ≡ fresh_session }
     {
@@ -69,17 +68,14 @@ impl Session {
     pub fn event(self, kind: u8, payload: &[u8], command: &mut [u8]) -> Step
         ensures { called result command.new ≡ call self (entry kind payload.now) command.old }
     {
-        let state = self.state;
-        let zeros = self.zeros;
-        let waiting = state.waiting;
-        let why = refusal(waiting, kind, payload, command);
+        let why = refusal(self.state.waiting, kind, payload, command);
         if why != 0 {
             return turn_away(self, why);
         }
         if kind == SILENCE {
-            return close(state, zeros);
+            return close(self.state, self.zeros);
         }
-        accept(zeros, event::step(state, payload, command))
+        accept(self.zeros, event::step(self.state, payload, command))
     }
 
     // How many entries of the lists filled so far are zeros for want of a value.
@@ -118,9 +114,7 @@ impl Session {
     pub fn count_due(self) -> usize
         ensures { result ≡ count_due self.state.waiting }
     {
-        let state = self.state;
-        let waiting = state.waiting;
-        count_due(waiting)
+        count_due(self.state.waiting)
     }
 
     pub fn silence(self, command: &mut [u8]) -> Step

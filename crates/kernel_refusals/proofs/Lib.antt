@@ -1,3 +1,4 @@
 pub mod OwnTests
 pub mod Order
 pub mod WordRefused
+pub mod Picks

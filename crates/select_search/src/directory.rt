@@ -12,7 +12,7 @@ ghost use Rattle.select_search.specs.Turns.{search_of, turn_of, turned, kept};
 use crate::finals::final_turn;
 use crate::going::go;
 use crate::status::has_status;
-use crate::{Stand, Step, Turn};
+use crate::{Hearing, Stand, Step, Turn};
 use answer_common::answer::inside;
 use answer_common::content::RECORD;
 use numbers::FOR_NOBODY;
@@ -59,6 +59,7 @@ pub fn after_environment(stand: Stand, answer: &[u8]) -> Turn
 }
 
 // Whether an entry is an application's, and matches.
+#[tactic(auto, unfolding(crate::specs::Entries::entry_met))]
 fn is_met(start: &[u8], entry: &[u8]) -> bool
     ensures { result ≡ entry_met (applications_in start.now) entry.now }
 {
@@ -66,14 +67,12 @@ fn is_met(start: &[u8], entry: &[u8]) -> bool
 }
 
 // A member of a record joins where it is such an entry.
+#[tactic(auto, unfolding(crate::specs::Entries::member_joined, slices::specs::Choice::pick))]
 fn join_member(start: &[u8], tag: usize, entry: &[u8], list: &mut [u8; SIZE])
     ensures { list_in list.new
         ≡ member_joined (applications_in start.now) tag entry.now (list_in list.old) }
 {
-    if tag != ENTRY {
-        return;
-    }
-    if is_met(start, entry) {
+    if tag == ENTRY && is_met(start, entry) {
         join(
             list,
             entry_name(entry),
@@ -114,31 +113,25 @@ fn is_good(answer: &[u8]) -> bool
     has_status(answer, 0x9000) && is_record(answer)
 }
 
+#[tactic(auto, unfolding(crate::specs::Directory::next_record))]
 fn next_record(number: u8) -> u8
     ensures { result ≡ next_record number }
 {
     if number == 255 { 0 } else { number + 1 }
 }
 
-pub fn after_record(
-    stand: Stand,
-    file: u8,
-    number: u8,
-    start: &[u8],
-    answer: &[u8],
-    list: &mut [u8; SIZE],
-) -> Turn
-    ensures { turned result (list_in list.new) answer.now
-        ≡ kept (after_record (applications_in start.now) (search_of stand (list_in list.old)) file number
-        answer.now) }
+pub fn after_record(h: Hearing<'_>, file: u8, number: u8, list: &mut [u8; SIZE]) -> Turn
+    ensures { turned result (list_in list.new) h.entry.answer.now
+        ≡ kept (after_record (applications_in h.entry.start.now) (search_of h.entry.stand (list_in list.old)) file number
+        h.entry.answer.now) }
 {
-    if is_complete(answer, list) {
-        return final_turn(stand, start, list);
+    if is_complete(h.answer, list) {
+        return final_turn(h.stand, h.start, list);
     }
-    if is_good(answer) {
-        join_all(start, inside(answer, RECORD), list);
+    if is_good(h.answer) {
+        join_all(h.start, inside(h.answer, RECORD), list);
         return go(
-            stand,
+            h.stand,
             Step::Directory {
                 file,
                 record: next_record(number),
@@ -147,7 +140,7 @@ pub fn after_record(
     }
     clear(list);
     go(
-        stand,
+        h.stand,
         Step::Listed {
             aid: 0,
             again: false,

@@ -8,7 +8,7 @@ ghost use Rattle.select_search.specs.Turns.{search_of, turn_of, turned, kept};
 
 use crate::going::{go, offer};
 use crate::status::has_status;
-use crate::{Stand, Step, Turn};
+use crate::{Hearing, Stand, Step, Turn};
 use answer_select::pdol;
 use dol_wanted::is_fillable;
 use numbers::{FOR_LIST, FOR_NOBODY};
@@ -23,13 +23,7 @@ fn asks_shopper(stand: Stand, list: &[u8]) -> bool
     ensures { result
         ≡ (ltb 1 (length (list_in list.now)) || ((candidate_at (list_in list.now) 0).confirm || stand.fallen)) }
 {
-    if 1 < count(list) {
-        return true;
-    }
-    if confirms_at(list, 0) {
-        return true;
-    }
-    stand.fallen
+    1 < count(list) || confirms_at(list, 0) || stand.fallen
 }
 
 fn attended(stand: Stand, list: &[u8]) -> Turn
@@ -62,6 +56,7 @@ fn unattended(stand: Stand, list: &[u8]) -> Turn
     )
 }
 
+#[tactic(auto, unfolding(crate::specs::Turns::turn_of, crate::specs::Final::final_selection, slices::specs::Choice::pick))]
 pub fn final_turn(stand: Stand, start: &[u8], list: &[u8]) -> Turn
     ensures { result ≡ turn_of (final_selection (applications_in start.now) (search_of stand (list_in list.now))) }
 {
@@ -75,52 +70,38 @@ pub fn final_turn(stand: Stand, start: &[u8], list: &[u8]) -> Turn
 }
 
 // Whether the application at a place is selected by an answer.
+#[tactic(auto, unfolding(crate::specs::Final::selected, slices::specs::Tests::every, slices::specs::Choice::pick))]
 fn is_selected(answer: &[u8], list: &[u8], place: usize) -> bool
     ensures { result ≡ selected (list_in list.now) place answer.now }
 {
-    if !has_status(answer, 0x9000) {
-        return false;
-    }
-    if !is_application(answer) {
-        return false;
-    }
-    alike(name_at(list, place), application_name(answer))
+    has_status(answer, 0x9000)
+        && is_application(answer)
+        && alike(name_at(list, place), application_name(answer))
 }
 
 // An application has fallen out, and whether the shopper took it is kept.
+#[tactic(auto, unfolding(crate::specs::Final::less_one))]
 fn less_one(stand: Stand, taken: bool) -> Stand
     ensures { result ≡ (less_one 0 taken (search_of stand [])).stand }
 {
-    let step = stand.step;
-    if stand.fallen {
-        return stand;
-    }
     Stand {
-        exchanges: stand.exchanges,
-        step,
-        fallen: taken,
+        fallen: stand.fallen || taken,
+        ..stand
     }
 }
 
-pub fn after_final(
-    stand: Stand,
-    place: u8,
-    taken: bool,
-    start: &[u8],
-    answer: &[u8],
-    list: &mut [u8; SIZE],
-) -> Turn
-    ensures { turned result (list_in list.new) answer.now
-        ≡ kept (after_final (applications_in start.now) (search_of stand (list_in list.old)) place taken
-        answer.now) }
+pub fn after_final(h: Hearing<'_>, place: u8, taken: bool, list: &mut [u8; SIZE]) -> Turn
+    ensures { turned result (list_in list.new) h.entry.answer.now
+        ≡ kept (after_final (applications_in h.entry.start.now) (search_of h.entry.stand (list_in list.old)) place taken
+        h.entry.answer.now) }
 {
     let at = place as usize;
-    if is_selected(answer, list, at) {
-        if is_fillable(pdol(answer)) {
+    if is_selected(h.answer, list, at) {
+        if is_fillable(pdol(h.answer)) {
             return Turn::Runs;
         }
         return Turn::Over(FOR_LIST);
     }
     remove(list, at);
-    final_turn(less_one(stand, taken), start, list)
+    final_turn(less_one(h.stand, taken), h.start, list)
 }

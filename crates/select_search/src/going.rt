@@ -13,12 +13,11 @@ const MOST: u8 = 100;
 pub fn go(stand: Stand, step: Step) -> Turn
     ensures { result ≡ turn_of (goes (search_of stand []) step) }
 {
-    let exchanges = stand.exchanges;
-    if exchanges < MOST {
+    if stand.exchanges < MOST {
         return Turn::Asks(Stand {
-            exchanges: exchanges + 1,
+            exchanges: stand.exchanges + 1,
             step,
-            fallen: stand.fallen,
+            ..stand
         });
     }
     Turn::Over(FOR_EXCHANGES)

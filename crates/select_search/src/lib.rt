@@ -26,6 +26,14 @@ pub struct Stand {
     pub fallen: bool,
 }
 
+// What the card's answer is looked at with: START, the answer, and where the search stands.
+#[derive(Clone, Copy)]
+struct Hearing<'a> {
+    start: &'a [u8],
+    answer: &'a [u8],
+    stand: Stand,
+}
+
 // What follows: the next exchange; a choice of the shopper's; GET PROCESSING OPTIONS, with the list 9F38 of the answer that was heard; or
 // the end, with its reason.
 #[derive(Clone, Copy)]

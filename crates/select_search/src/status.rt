@@ -1,5 +1,5 @@
 // An answer's size and its last two bytes.
-ghost use Rattle.std.specs.Prelude.{◌≡◌, ◌-◌};
+ghost use Rattle.std.specs.Prelude.{◌≡◌};
 ghost use Rattle.answer_common.specs.Answer.{size_bad};
 ghost use Rattle.select_search.specs.Search.{has_status};
 
@@ -9,22 +9,17 @@ const FEWEST: usize = 2;
 
 const MOST: usize = 258;
 
+#[tactic(auto, unfolding(answer_common::specs::Answer::size_bad))]
 pub fn is_size_bad(answer: &[u8]) -> bool
     ensures { result ≡ size_bad answer.now }
 {
     answer.len() < FEWEST || MOST < answer.len()
 }
 
-// So many places before n, or 0.
-fn back(n: usize, k: usize) -> usize
-    ensures { result ≡ n - k }
-{
-    n.saturating_sub(k)
-}
-
+#[tactic(auto, unfolding(crate::specs::Search::has_status))]
 pub fn has_status(answer: &[u8], status: usize) -> bool
     ensures { result ≡ has_status status answer.now }
 {
     let n = answer.len();
-    256 * byte(answer, back(n, 2)) + byte(answer, back(n, 1)) == status
+    256 * byte(answer, n.saturating_sub(2)) + byte(answer, n.saturating_sub(1)) == status
 }

@@ -12,12 +12,13 @@ use crate::finals::after_final;
 use crate::going::go;
 use crate::listing::after_listed;
 use crate::status::is_size_bad;
-use crate::{Stand, Step, Turn};
+use crate::{Hearing, Stand, Step, Turn};
 use numbers::{FOR_NOBODY, FOR_SIZE};
 use select_list::joining::clear;
 use select_list::reading::SIZE;
 
 // Where a selection begins.
+#[tactic(auto, unfolding(crate::specs::Search::begun))]
 pub fn first() -> Stand
     ensures { result ≡ begun.stand }
 {
@@ -29,6 +30,7 @@ pub fn first() -> Stand
 }
 
 // There, with nobody in the list.
+#[tactic(auto, unfolding(crate::specs::Search::begun))]
 pub fn begin(list: &mut [u8; SIZE]) -> Stand
     ensures { (result ≡ begun.stand) × (list_in list.new ≡ begun.list) }
 {
@@ -37,6 +39,7 @@ pub fn begin(list: &mut [u8; SIZE]) -> Stand
 }
 
 // The shopper's choice; the list has no part in it.
+#[tactic(auto, unfolding(crate::specs::Turns::turn_of, crate::specs::Final::chosen, slices::specs::Choice::pick))]
 pub fn chosen(stand: Stand, place: u8) -> Turn
     ensures { result ≡ turn_of (chosen_of (search_of stand []) place) }
 {
@@ -47,27 +50,24 @@ pub fn chosen(stand: Stand, place: u8) -> Turn
 }
 
 // By the command that was answered.
-fn heard_at(stand: Stand, step: Step, start: &[u8], answer: &[u8], list: &mut [u8; SIZE]) -> Turn
-    ensures { turned result (list_in list.new) answer.now
-        ≡ kept (heard_at (applications_in start.now) (search_of stand (list_in list.old)) answer.now step) }
+fn heard_at(h: Hearing<'_>, list: &mut [u8; SIZE]) -> Turn
+    ensures { turned result (list_in list.new) h.entry.answer.now
+        ≡ kept (heard_at (applications_in h.entry.start.now) (search_of h.entry.stand (list_in list.old)) h.entry.answer.now
+        h.entry.stand.step) }
 {
-    match step {
-        Step::Environment => after_environment(stand, answer),
-        Step::Directory { file, record } => after_record(stand, file, record, start, answer, list),
-        Step::Listed { aid, again } => after_listed(stand, aid, again, start, answer, list),
-        Step::Final { place, taken } => after_final(stand, place, taken, start, answer, list),
+    match h.stand.step {
+        Step::Environment => after_environment(h.stand, h.answer),
+        Step::Directory { file, record } => after_record(h, file, record, list),
+        Step::Listed { aid, again } => after_listed(h, aid, again, list),
+        Step::Final { place, taken } => after_final(h, place, taken, list),
     }
 }
 
+#[tactic(auto, unfolding(crate::specs::Turns::goes_on))]
 fn goes_on(turn: Turn) -> bool
     ensures { result ≡ goes_on turn }
 {
-    match turn {
-        Turn::Asks(_) => true,
-        Turn::Shows(_) => true,
-        Turn::Runs => false,
-        Turn::Over(_) => false,
-    }
+    matches!(turn, Turn::Asks(_) | Turn::Shows(_))
 }
 
 // An answer of any bytes; nobody is left in the list once the selection is over.
@@ -83,8 +83,14 @@ pub fn heard(stand: Stand, start: &[u8], answer: &[u8], list: &mut [u8; SIZE]) -
         clear(list);
         return Turn::Over(FOR_SIZE);
     }
-    let step = stand.step;
-    let turn = heard_at(stand, step, start, answer, list);
+    let turn = heard_at(
+        Hearing {
+            start,
+            answer,
+            stand,
+        },
+        list,
+    );
     if goes_on(turn) {
         return turn;
     }

@@ -30,9 +30,7 @@ pub fn on_select(s: State, a: &[u8], buf: &mut [u8]) -> Step
     ensures { played result buf.new
         ≡ moved (turn (selecting (early s)) a.now) (keeping (selecting (early s)) a.now s) buf.old }
 {
-    let start = s.start;
-    let size = s.size;
-    let terminal = part(&start, 0, size);
+    let terminal = part(&s.start, 0, s.size);
     let why = answer_select::select_reason(terminal, a);
     if why != 0 {
         return end(s, why);
@@ -56,9 +54,7 @@ pub fn on_options(s: State, a: &[u8], buf: &mut [u8]) -> Step
 fn names_of(s: State) -> usize
     ensures { (take result record_names ≡ names_for (late s).terminal) × (result ≤ name_count) }
 {
-    let start = s.start;
-    let size = s.size;
-    names_for(part(&start, 0, size))
+    names_for(part(&s.start, 0, s.size))
 }
 
 pub fn on_record(s: State, a: &[u8], buf: &mut [u8]) -> Step
@@ -68,8 +64,7 @@ pub fn on_record(s: State, a: &[u8], buf: &mut [u8]) -> Step
 {
     let names = NAMES;
     let n = names_of(s);
-    let store = s.told;
-    let mut told = bytes_of(store);
+    let mut told = bytes_of(s.told);
     let why = answer_record::take(&mut told, &names[..n], a);
     if why != 0 {
         return end(s, why);
@@ -77,14 +72,11 @@ pub fn on_record(s: State, a: &[u8], buf: &mut [u8]) -> Step
     read_on(with_told(s, Store { bytes: told }), buf)
 }
 
+#[tactic(auto, unfolding(crate::specs::Keeping::answered_state))]
 fn after_first(s: State) -> State
     ensures { result ≡ answered_state s }
 {
-    let tvr = s.tvr;
-    let tsi = s.tsi;
-    let waiting = s.waiting;
-    let place = s.cursor;
-    change(s, waiting, tvr, tsi_after_first_answer(tsi), place)
+    change(s, s.waiting, s.tvr, tsi_after_first_answer(s.tsi), s.cursor)
 }
 
 pub fn on_first(s: State, request: Cryptogram, a: &[u8], buf: &mut [u8]) -> Step
@@ -98,16 +90,13 @@ pub fn on_first(s: State, request: Cryptogram, a: &[u8], buf: &mut [u8]) -> Step
     by_first(cryptogram::cryptogram(a), answered, buf)
 }
 
+#[tactic(auto, unfolding(rulebook::specs::Turn::by_second))]
 fn by_second(given: Option<Cryptogram>) -> u8
     ensures { result ≡ by_second given }
 {
     match given {
-        Some(cryptogram) => match cryptogram {
-            Cryptogram::Tc => APPROVED,
-            Cryptogram::Aac => DECLINED,
-            Cryptogram::Arqc => DECLINED,
-        },
-        None => DECLINED,
+        Some(Cryptogram::Tc) => APPROVED,
+        _ => DECLINED,
     }
 }
 

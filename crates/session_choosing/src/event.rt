@@ -22,9 +22,7 @@ fn on_search(s: State, list: &mut [u8; SIZE], a: &[u8], buf: &mut [u8]) -> Step
     ensures { played_later result (list_in list.new) buf.new
         ≡ moved_later (searched (choosing_in s (list_in list.old)) a.now) s [] buf.old }
 {
-    let listing = s.listing;
-    let stand = s.stand;
-    let turn = turns::heard(stand, &listing, a, list);
+    let turn = turns::heard(s.stand, &s.listing, a, list);
     by_turn(s, turn, a, list, buf)
 }
 
@@ -34,8 +32,7 @@ fn on_choice(s: State, list: &[u8], p: &[u8], buf: &mut [u8]) -> Step
         ≡ moved_later (chose (choosing_in s (list_in list.now)) p.now) s (list_in list.now)
         buf.old }
 {
-    let stand = s.stand;
-    let turn = turns::chosen(stand, byte(p, 0) as u8);
+    let turn = turns::chosen(s.stand, byte(p, 0) as u8);
     by_turn(s, turn, p, list, buf)
 }
 
@@ -58,6 +55,7 @@ fn on_start(s: State, list: &mut [u8; SIZE], p: &[u8], buf: &mut [u8]) -> Step
     event::step(s, p, buf)
 }
 
+#[tactic(auto, using(crate::proofs::Turning::with_list_lem), unfolding(crate::specs::Events::word_later))]
 fn by_speaker(s: State, speaker: Speaker, list: &mut [u8; SIZE], p: &[u8], buf: &mut [u8]) -> Step
     ensures { played_later result (list_in list.new) buf.new
         ≡ word_later speaker s (list_in list.old) p.now buf.old }
@@ -70,16 +68,14 @@ fn by_speaker(s: State, speaker: Speaker, list: &mut [u8; SIZE], p: &[u8], buf: 
 }
 
 // What is waited for; where the session is over, nothing changes.
+#[tactic(auto, using(crate::proofs::Turning::with_list_lem), unfolding(crate::specs::Events::step_later, crate::specs::Events::later_at))]
 pub fn step(s: State, list: &mut [u8; SIZE], p: &[u8], buf: &mut [u8]) -> Step
     ensures { played_later result (list_in list.new) buf.new
         ≡ step_later s (list_in list.old) p.now buf.old }
 {
-    let waiting = s.waiting;
-    match waiting {
+    match s.waiting {
         Waiting::Searching => on_search(s, list, p, buf),
         Waiting::ForWord(speaker) => by_speaker(s, speaker, list, p, buf),
-        Waiting::ForCard(_) => event::step(s, p, buf),
-        Waiting::Decided(_, _) => event::step(s, p, buf),
-        Waiting::Closed => event::step(s, p, buf),
+        Waiting::ForCard(_) | Waiting::Decided(_, _) | Waiting::Closed => event::step(s, p, buf),
     }
 }

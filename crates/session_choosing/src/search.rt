@@ -24,9 +24,7 @@ pub fn ask_next(s: State, stand: Stand, list: &[u8], buf: &mut [u8]) -> Step
     ensures { played result buf.new
         ≡ asking (applications_in s.listing) (search_of stand (list_in list.now)) s buf.old }
 {
-    let listing = s.listing;
-    let step = stand.step;
-    let n = ask(step, &listing, list, buf);
+    let n = ask(stand.step, &s.listing, list, buf);
     wait(with_stand(s, stand), Waiting::Searching, Reply::Command(n))
 }
 

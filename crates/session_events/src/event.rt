@@ -37,12 +37,14 @@ fn on_start(terminal: &[u8], buf: &mut [u8]) -> Step
 }
 
 // The issuer's reply; what is none counts as unable.
+#[tactic(auto, unfolding(rulebook::specs::Turn::reply_made))]
 fn reply_made(h: &[u8]) -> HostReply
     ensures { result ≡ reply_made (reply_of h.now) }
 {
     reply_of(h).unwrap_or(HostReply::Unable)
 }
 
+#[tactic(auto, unfolding(rulebook::specs::Turn::issuer_replied))]
 fn on_reply(s: State, h: &[u8], buf: &mut [u8]) -> Step
     ensures { played result buf.new
         ≡ moved (issuer_replied (late s) (reply_made (reply_of h.now)) h.now) s buf.old }
@@ -50,6 +52,7 @@ fn on_reply(s: State, h: &[u8], buf: &mut [u8]) -> Step
     request_second(s, reply_made(h), code_in(h), buf)
 }
 
+#[tactic(auto, unfolding(rulebook::specs::Turn::after))]
 fn on_word(s: State, word: Word, p: &[u8], buf: &mut [u8]) -> Step
     ensures { played result buf.new ≡ moved (after (says word (late s)) p.now) s buf.old }
 {
@@ -59,6 +62,7 @@ fn on_word(s: State, word: Word, p: &[u8], buf: &mut [u8]) -> Step
     }
 }
 
+#[tactic(auto, using(crate::proofs::Ends::ends), unfolding(crate::specs::Events::word_step, rulebook::specs::Turn::after))]
 fn by_speaker(s: State, speaker: Speaker, p: &[u8], buf: &mut [u8]) -> Step
     ensures { played result buf.new ≡ word_step speaker s p.now buf.old }
 {
@@ -69,6 +73,7 @@ fn by_speaker(s: State, speaker: Speaker, p: &[u8], buf: &mut [u8]) -> Step
     }
 }
 
+#[tactic(auto, unfolding(crate::specs::Events::answer_step, session_state::specs::Reading::asked_by))]
 fn on_answer(s: State, question: Question, a: &[u8], buf: &mut [u8]) -> Step
     ensures { played result buf.new ≡ answer_step question s a.now buf.old }
 {
@@ -93,15 +98,14 @@ fn stay(s: State) -> Step
 
 // What is waited for, an answer of the card's or somebody else's word; where the session is over, nothing changes. A selection is no part of
 // these rules.
+#[tactic(auto, using(crate::proofs::Ends::ends), unfolding(crate::specs::Events::step, crate::specs::Events::step_at))]
 pub fn step(s: State, p: &[u8], buf: &mut [u8]) -> Step
     ensures { played result buf.new ≡ step_of s p.now buf.old }
 {
-    let waiting = s.waiting;
-    match waiting {
+    match s.waiting {
         Waiting::Searching => shut(s),
         Waiting::ForCard(question) => on_answer(s, question, p, buf),
         Waiting::ForWord(speaker) => by_speaker(s, speaker, p, buf),
-        Waiting::Decided(_, _) => stay(s),
-        Waiting::Closed => stay(s),
+        Waiting::Decided(_, _) | Waiting::Closed => stay(s),
     }
 }

@@ -30,8 +30,7 @@ use words::Word;
 pub fn reason(s: State) -> usize
     ensures { result ≡ after_records (told_by s.told) }
 {
-    let store = s.told;
-    let told = records::bytes_of(store);
+    let told = records::bytes_of(s.told);
     complete_reason(&told)
 }
 
@@ -43,15 +42,12 @@ fn request_first(s: State, why: usize, buf: &mut [u8]) -> Step
     if why != 0 {
         return end(s, why);
     }
-    let start = s.start;
-    let size = s.size;
-    let tvr = s.tvr;
-    let store = s.told;
-    let told = records::bytes_of(store);
-    let request = first_request(part(&start, 0, size), &told, tvr);
+    let told = records::bytes_of(s.told);
+    let list = value(&told, 0x8C);
+    let request = first_request(part(&s.start, 0, s.size), &told, s.tvr);
     let known = at_first(s);
-    let n = generate(s, request, value(&told, 0x8C), &known, buf);
-    let zeros = missing(s, value(&told, 0x8C), &known);
+    let n = generate(s, request, list, &known, buf);
+    let zeros = missing(s, list, &known);
     ask(s, Question::First(request), n, zeros)
 }
 
@@ -59,12 +55,8 @@ fn request_first(s: State, why: usize, buf: &mut [u8]) -> Step
 pub fn verify(s: State, buf: &mut [u8]) -> Step
     ensures { played result buf.new ≡ moved (verifying (late s)) s buf.old }
 {
-    let start = s.start;
-    let size = s.size;
-    let profile = s.profile;
-    let store = s.told;
-    let told = records::bytes_of(store);
-    if is_due(part(&start, 0, size), profile, &told) {
+    let told = records::bytes_of(s.told);
+    if is_due(part(&s.start, 0, s.size), s.profile, &told) {
         return hear(s, Word::Results, wanted(&told));
     }
     request_first(s, reason(s), buf)
@@ -74,20 +66,13 @@ pub fn verify(s: State, buf: &mut [u8]) -> Step
 fn verified(s: State, results: &[u8]) -> State
     ensures { result ≡ verified_state results.now s }
 {
-    let start = s.start;
-    let size = s.size;
-    let tvr = s.tvr;
-    let tsi = s.tsi;
-    let waiting = s.waiting;
-    let place = s.cursor;
-    let store = s.told;
-    let told = records::bytes_of(store);
+    let told = records::bytes_of(s.told);
     change(
         s,
-        waiting,
-        tvr_after_results(part(&start, 0, size), &told, results, tvr),
-        tsi_after_results(tsi),
-        place,
+        s.waiting,
+        tvr_after_results(part(&s.start, 0, s.size), &told, results, s.tvr),
+        tsi_after_results(s.tsi),
+        s.cursor,
     )
 }
 

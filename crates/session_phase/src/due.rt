@@ -6,6 +6,7 @@ use crate::{Speaker, Waiting};
 use numbers::{ANSWER, CHOICE, START};
 
 // The kind of the entry that has somebody's word.
+#[tactic(auto, unfolding(crate::specs::Waiting::kind_of))]
 pub fn kind_of(speaker: Speaker) -> u8
     ensures { result ≡ kind_of speaker }
 {
@@ -17,19 +18,19 @@ pub fn kind_of(speaker: Speaker) -> u8
 }
 
 // The kind of the entry that a session waits for; 0 where it is over.
+#[tactic(auto, unfolding(crate::specs::Waiting::awaited))]
 pub fn awaits(waiting: Waiting) -> u8
     ensures { result ≡ awaited waiting }
 {
     match waiting {
-        Waiting::Searching => ANSWER,
-        Waiting::ForCard(_) => ANSWER,
+        Waiting::Searching | Waiting::ForCard(_) => ANSWER,
         Waiting::ForWord(speaker) => kind_of(speaker),
-        Waiting::Decided(_, _) => 0,
-        Waiting::Closed => 0,
+        Waiting::Decided(_, _) | Waiting::Closed => 0,
     }
 }
 
 // How many somebody is to hand in.
+#[tactic(auto, unfolding(crate::specs::Waiting::wanted_of))]
 fn wanted(speaker: Speaker) -> usize
     ensures { result ≡ wanted_of speaker }
 {
@@ -41,40 +42,34 @@ fn wanted(speaker: Speaker) -> usize
 }
 
 // How many are wanted of what is counted in the word that a session waits for; 0 where it waits for none.
+#[tactic(auto, unfolding(crate::specs::Waiting::count_due))]
 pub fn count_due(waiting: Waiting) -> usize
     ensures { result ≡ count_due waiting }
 {
     match waiting {
-        Waiting::Searching => 0,
-        Waiting::ForCard(_) => 0,
         Waiting::ForWord(speaker) => wanted(speaker),
-        Waiting::Decided(_, _) => 0,
-        Waiting::Closed => 0,
+        _ => 0,
     }
 }
 
 // 1 approved, 2 declined, 3 terminated; 0 while there is no decision. Two numbers of a state, outcome and reason, so neither is a `From`.
+#[tactic(auto, unfolding(crate::specs::Waiting::outcome_of))]
 pub fn outcome(waiting: Waiting) -> u8
     ensures { result ≡ outcome_of waiting }
 {
     match waiting {
-        Waiting::Searching => 0,
-        Waiting::ForCard(_) => 0,
-        Waiting::ForWord(_) => 0,
         Waiting::Decided(outcome, _) => outcome,
-        Waiting::Closed => 0,
+        _ => 0,
     }
 }
 
 // Why the session was terminated; 0 where it was not.
+#[tactic(auto, unfolding(crate::specs::Waiting::reason_of))]
 pub fn reason(waiting: Waiting) -> u8
     ensures { result ≡ reason_of waiting }
 {
     match waiting {
-        Waiting::Searching => 0,
-        Waiting::ForCard(_) => 0,
-        Waiting::ForWord(_) => 0,
         Waiting::Decided(_, reason) => reason,
-        Waiting::Closed => 0,
+        _ => 0,
     }
 }

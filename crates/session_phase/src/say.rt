@@ -7,6 +7,7 @@ use numbers::{REFUSED_CHOICE, REFUSED_START};
 use start_valid::valid_start;
 
 // Whether somebody's word may be taken.
+#[tactic(auto, unfolding(crate::specs::Saying::allowed_by))]
 pub fn is_allowed(speaker: Speaker, p: &[u8]) -> bool
     ensures { result ≡ allowed_by speaker p.now }
 {
@@ -18,6 +19,7 @@ pub fn is_allowed(speaker: Speaker, p: &[u8]) -> bool
 }
 
 // The line of 01's table for one that may not be taken.
+#[tactic(auto, unfolding(crate::specs::Saying::refusal_by))]
 pub fn refusal_by(speaker: Speaker) -> usize
     ensures { result ≡ refusal_by speaker }
 {

@@ -1,7 +1,8 @@
 // From record to record, and after the last of them.
 #![tactic(auto)]
 
-ghost use Rattle.std.specs.Prelude.{◌≡◌};
+ghost use Rattle.std.specs.Prelude.{◌≡◌, Some, None};
+ghost use Rattle.slices.specs.Choice.{pick};
 ghost use Rattle.answer_afl.specs.Cursor.{is_left, stepped};
 ghost use Rattle.rulebook.specs.Turn.{all_read, read_on};
 ghost use Rattle.session_state.specs.Reading.{late, records_left};
@@ -24,45 +25,31 @@ use session_state::State;
 use session_state::change::change;
 use slices::part;
 
-fn is_left(s: State) -> bool
-    ensures { result ≡ is_left (in_run s.locator) s.cursor }
+// Where the record behind the next one stands; None where no record is left.
+fn next(s: State) -> Option<Cursor>
+    ensures { result ≡ pick (is_left (in_run s.locator) s.cursor) (Some (stepped (in_run s.locator) s.cursor)) None }
 {
-    let run = s.locator;
-    let place = s.cursor;
-    let n = size_of(run);
-    let bytes = bytes_of(run);
-    cursor::is_left(&bytes[..n], place)
-}
-
-fn next(s: State) -> Cursor
-    ensures { result ≡ stepped (in_run s.locator) s.cursor }
-{
-    let run = s.locator;
-    let place = s.cursor;
-    let n = size_of(run);
-    let bytes = bytes_of(run);
-    cursor::step(&bytes[..n], place)
+    let n = size_of(s.locator);
+    let bytes = bytes_of(s.locator);
+    let afl = &bytes[..n];
+    if cursor::is_left(afl, s.cursor) {
+        Some(cursor::step(afl, s.cursor))
+    } else {
+        None
+    }
 }
 
 // The bits that the facts set.
 fn managed(s: State) -> State
     ensures { result ≡ managed_state s }
 {
-    let start = s.start;
-    let size = s.size;
-    let tvr = s.tvr;
-    let tsi = s.tsi;
-    let waiting = s.waiting;
-    let place = s.cursor;
-    let profile = s.profile;
-    let store = s.told;
-    let told = records::bytes_of(store);
+    let told = records::bytes_of(s.told);
     change(
         s,
-        waiting,
-        tvr_after_records(part(&start, 0, size), profile, &told, tvr),
-        tsi_after_records(profile, tsi),
-        place,
+        s.waiting,
+        tvr_after_records(part(&s.start, 0, s.size), s.profile, &told, s.tvr),
+        tsi_after_records(s.profile, s.tsi),
+        s.cursor,
     )
 }
 
@@ -81,17 +68,15 @@ fn all_read(s: State, buf: &mut [u8]) -> Step
 pub fn read_on(s: State, buf: &mut [u8]) -> Step
     ensures { played result buf.new ≡ moved (read_on (late s) (records_left s)) s buf.old }
 {
-    if is_left(s) {
-        let n = read(s, buf);
-        let tvr = s.tvr;
-        let tsi = s.tsi;
-        let place = next(s);
-        Step {
-            state: change(s, Waiting::ForCard(Question::Record), tvr, tsi, place),
-            reply: Reply::Command(n),
-            zeros: 0,
+    match next(s) {
+        Some(place) => {
+            let n = read(s, buf);
+            Step {
+                state: change(s, Waiting::ForCard(Question::Record), s.tvr, s.tsi, place),
+                reply: Reply::Command(n),
+                zeros: 0,
+            }
         }
-    } else {
-        all_read(s, buf)
+        None => all_read(s, buf),
     }
 }

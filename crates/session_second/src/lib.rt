@@ -28,26 +28,22 @@ use words::Word;
 fn second(s: State, reply: HostReply) -> Cryptogram
     ensures { result ≡ second_request reply (reading_of (start_in s)) (late s).facts s.tvr }
 {
-    let start = s.start;
-    let size = s.size;
-    let tvr = s.tvr;
-    let store = s.told;
-    let told = bytes_of(store);
-    second_request(reply, part(&start, 0, size), &told, tvr)
+    let told = bytes_of(s.told);
+    second_request(reply, part(&s.start, 0, s.size), &told, s.tvr)
 }
 
 // The second request, once the issuer's reply is in.
 pub fn request_second(s: State, reply: HostReply, code: [u8; 2], buf: &mut [u8]) -> Step
     ensures { played result buf.new ≡ moved (replied (late s) reply code) s buf.old }
 {
-    let store = s.told;
-    let told = bytes_of(store);
-    if is_fillable(value(&told, 0x8D)) {
+    let told = bytes_of(s.told);
+    let list = value(&told, 0x8D);
+    if is_fillable(list) {
         let request = second(s, reply);
         let response = response_code(reply, request, code);
         let known = at_second(s, response);
-        let n = generate(s, request, value(&told, 0x8D), &known, buf);
-        let zeros = missing(s, value(&told, 0x8D), &known);
+        let n = generate(s, request, list, &known, buf);
+        let zeros = missing(s, list, &known);
         ask(s, Question::Second(request), n, zeros)
     } else {
         end(s, FOR_LIST)
@@ -58,24 +54,20 @@ pub fn request_second(s: State, reply: HostReply, code: [u8; 2], buf: &mut [u8])
 fn go_online(s: State, buf: &mut [u8]) -> Step
     ensures { played result buf.new ≡ moved (online_turn (late s)) s buf.old }
 {
-    let start = s.start;
-    let size = s.size;
-    if fields::kind(part(&start, 0, size)) == 0 {
+    if fields::kind(part(&s.start, 0, s.size)) == 0 {
         request_second(s, HostReply::Unable, [0, 0], buf)
     } else {
         hear(s, Word::Host, 0)
     }
 }
 
+#[tactic(auto, using(crate::proofs::Ends::decisions), unfolding(rulebook::specs::Turn::by_first, rulebook::specs::Phase::decided))]
 pub fn by_first(given: Option<Cryptogram>, s: State, buf: &mut [u8]) -> Step
     ensures { played result buf.new ≡ moved (by_first given (late s)) s buf.old }
 {
     match given {
-        Some(cryptogram) => match cryptogram {
-            Cryptogram::Tc => decide(s, APPROVED),
-            Cryptogram::Aac => decide(s, DECLINED),
-            Cryptogram::Arqc => go_online(s, buf),
-        },
-        None => decide(s, DECLINED),
+        Some(Cryptogram::Tc) => decide(s, APPROVED),
+        Some(Cryptogram::Arqc) => go_online(s, buf),
+        Some(Cryptogram::Aac) | None => decide(s, DECLINED),
     }
 }

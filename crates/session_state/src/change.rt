@@ -13,6 +13,7 @@ use slices::lay;
 use start_choosing::{LISTING, first_alone};
 use start_fields::fields::FULL;
 
+#[tactic(auto, unfolding(crate::specs::Keeping::state_at, slices::specs::Writing::zeros))]
 fn state_at(waiting: Waiting, start: [u8; FULL], size: usize, listing: [u8; LISTING]) -> State
     ensures { result ≡ state_at waiting start size listing }
 {
@@ -31,6 +32,7 @@ fn state_at(waiting: Waiting, start: [u8; FULL], size: usize, listing: [u8; LIST
     }
 }
 
+#[tactic(auto, unfolding(crate::specs::Keeping::fresh, slices::specs::Writing::zeros))]
 pub fn fresh() -> State
     ensures { result ≡ fresh_state }
 {
@@ -42,6 +44,7 @@ pub fn fresh() -> State
     )
 }
 
+#[tactic(auto, unfolding(crate::specs::Keeping::begun, slices::specs::Writing::zeros))]
 pub fn begun(start: &[u8]) -> State
     ensures { result ≡ begun_state start.now }
 {
@@ -56,6 +59,7 @@ pub fn begun(start: &[u8]) -> State
 }
 
 // START with a list: the search begins.
+#[tactic(auto, unfolding(crate::specs::Keeping::begun_listing, slices::specs::Writing::zeros))]
 pub fn begun_listing(start: &[u8]) -> State
     ensures { result ≡ begun_listing start.now }
 {
@@ -66,29 +70,35 @@ pub fn begun_listing(start: &[u8]) -> State
 }
 
 // Where the search stands.
+#[tactic(auto, unfolding(crate::specs::Keeping::with_stand))]
 pub fn with_stand(s: State, stand: Stand) -> State
     ensures { result ≡ with_stand stand s }
 {
     State { stand, ..s }
 }
 
+#[tactic(auto, unfolding(crate::specs::Keeping::with_told))]
 pub fn with_told(s: State, told: Store) -> State
     ensures { result ≡ with_told told s }
 {
     State { told, ..s }
 }
 
-pub fn with_options(mut s: State, answer: &[u8]) -> State
+#[tactic(auto, unfolding(crate::specs::Keeping::with_options, slices::specs::Writing::zeros))]
+pub fn with_options(s: State, answer: &[u8]) -> State
     ensures { result ≡ with_options answer.now s }
 {
     let mut profile = [0; 2];
     lay(&mut profile, 0, answer_gpo::profile(answer));
-    s.profile = profile;
-    s.locator = runs::keep(answer_gpo::locator(answer));
-    s.cursor = cursor::start();
-    s
+    State {
+        profile,
+        locator: runs::keep(answer_gpo::locator(answer)),
+        cursor: cursor::start(),
+        ..s
+    }
 }
 
+#[tactic(auto, unfolding(crate::specs::Keeping::changed))]
 pub fn change(s: State, waiting: Waiting, tvr: [u8; 5], tsi: [u8; 2], cursor: Cursor) -> State
     ensures { result ≡ changed waiting tvr tsi cursor s }
 {

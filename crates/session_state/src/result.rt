@@ -21,16 +21,14 @@ pub fn tsi(s: State) -> [u8; 2]
 pub fn outcome(s: State) -> u8
     ensures { result ≡ outcome_of s.waiting }
 {
-    let waiting = s.waiting;
-    session_phase::outcome(waiting)
+    session_phase::outcome(s.waiting)
 }
 
 // Why the session was terminated; 0 where it was not.
 pub fn reason(s: State) -> u8
     ensures { result ≡ reason_of s.waiting }
 {
-    let waiting = s.waiting;
-    session_phase::reason(waiting)
+    session_phase::reason(s.waiting)
 }
 
 // The nine bytes of DECISION; the first is 0 while there is no decision.

@@ -44,14 +44,13 @@ returns c =
     in
     let asked = c.first_request-request.ensures
     ∙ ap₂ (λ (x d : List ℕ). first_request (reading_of x) (told_in d) s.tvr) c.part.ensures bytes in
-    let list = c.value.ensures
+    let list = c.value-list.ensures
     ∙ ap (λ (d : List ℕ). get_or (told_in d 0x8C) []) bytes in
     let same = ap₂ (λ (k : Facts) (l : List ℕ). cryptogram_command (p1_of q) (filling (reading_of (start_in s)) k l))
     c.at_first-known.ensures.known list in
-    let again = c.value-2.ensures ∙ ap (λ (d : List ℕ). get_or (told_in d 0x8C) []) bytes in
     let lacks = c.missing-zeros.ensures
     ∙ ap₂ (unsupplied (reading_of (start_in s)))
-    c.at_first-known.ensures.known again in
+    c.at_first-known.ensures.known list in
     asking_on s buf (first (late s) q) same c.generate-n.ensures.size
     c.generate-n.ensures.buffer c.ask.ensures lacks refl refl refl
     ∙ (ap (λ (x : Cryptogram). moved (asks (first (late s) x)) s buf) asked

@@ -40,10 +40,9 @@ returns-then-is_fillable c =
     ∙ ap (λ (x : List ℕ). known_in (late s) (some x))
     c.response_code-response.ensures
     in
-    let list = c.value-then-is_fillable.ensures ∙ ap list_at bytes in
+    let list = c.value-list.ensures ∙ ap list_at bytes in
     let same = ap₂ (λ (k : Facts) (l : List ℕ). cryptogram_command (p1_of q) (filling (reading_of (start_in s)) k l)) known list in
-    let again = c.value-then-is_fillable-2.ensures ∙ ap list_at bytes in
-    let lacks = c.missing-zeros.ensures ∙ ap₂ (unsupplied (reading_of (start_in s))) known again in
+    let lacks = c.missing-zeros.ensures ∙ ap₂ (unsupplied (reading_of (start_in s))) known list in
     asking_on s buf (second (late s) q (response_code reply q code)) same
     c.generate-n.ensures.size
     c.generate-n.ensures.buffer c.ask.ensures lacks refl refl refl
@@ -54,7 +53,7 @@ returns-then-is_fillable c =
     (pick_yes _ _ _
     (sym (c.is_fillable.ensures
     ∙ ap fillable
-    (c.value.ensures ∙ ap list_at bytes))
+    list)
     ∙ c.if-is_fillable.true))))
 
 pub returns-else-is_fillable : goal.returns-else-is_fillable
@@ -63,7 +62,7 @@ returns-else-is_fillable c =
     let args = c.args in
     let s = args.s in
     let buf = args.buf.now in
-    let list = c.value.ensures ∙ ap list_at c.bytes_of-told.ensures.0 in
+    let list = c.value-list.ensures ∙ ap list_at c.bytes_of-told.ensures.0 in
     late_decided s buf 3 9 c.end.ensures
     ∙ sym (ap (λ (p : Phase). moved p s buf)
     (pick_no _ _ _ (sym (c.is_fillable.ensures ∙ ap fillable list) ∙ c.if-is_fillable.false)))

@@ -63,22 +63,22 @@ module _ (t : Applications) (stand : Stand) (d : List ℕ) (file number : ℕ) (
 pub returns-then-is_complete : goal.returns-then-is_complete
 returns-then-is_complete c =
     let b = c.args in
-    complete (applications_in b.start.now) b.stand b.list.now b.file b.number b.answer.now c.final_turn.result
+    complete (applications_in b.h.start.now) b.h.stand b.list.now b.file b.number b.h.answer.now c.final_turn.result
     (sym c.is_complete.ensures ∙ c.if-is_complete.true) c.final_turn.ensures
 
 pub returns-then-is_good : goal.returns-then-is_good
 returns-then-is_good c =
     let b = c.args in
-    grows (applications_in b.start.now) b.stand b.list.now b.file b.number b.answer.now c.go.result
+    grows (applications_in b.h.start.now) b.h.stand b.list.now b.file b.number b.h.answer.now c.go.result
     (sym c.is_complete.ensures ∙ c.if-is_complete.false)
     (sym c.is_good.ensures ∙ c.if-is_good.true) c.inside.result.now c.inside.ensures (list_in c.join_all.new.list)
     c.join_all.ensures
     (c.go.ensures
-    ∙ ap (λ (n : ℕ). turn_of (goes (search_of b.stand []) (Directory b.file n))) c.next_record.ensures)
+    ∙ ap (λ (n : ℕ). turn_of (goes (search_of b.h.stand []) (Directory b.file n))) c.next_record.ensures)
 
 pub returns : goal.returns
 returns c =
     let b = c.args in
-    cleared (applications_in b.start.now) b.stand b.list.now b.file b.number b.answer.now c.go-2.result
+    cleared (applications_in b.h.start.now) b.h.stand b.list.now b.file b.number b.h.answer.now c.go-2.result
     (sym c.is_complete.ensures ∙ c.if-is_complete.false)
     (sym c.is_good.ensures ∙ c.if-is_good.false) (list_in c.clear.new.list) c.clear.ensures c.go-2.ensures

@@ -4,8 +4,8 @@ use mathlib.Core.Path.{◌≡◌, sym, ap₂, ◌∙◌}
 use mathlib.Core.Bool.{true}
 use mathlib.Core.List.{List}
 use Prim.Native.Nat.{ℕ}
-use borrow.Author.Tests.{eq-eqb, ne_eqb}
-use Rattle.slices.proofs.Choice.{pick_yes, pick_no}
+use borrow.Author.Tests.{eq-eqb}
+use Rattle.slices.proofs.Choice.{pick_yes}
 use Rattle.start_list.specs.Listing.{Applications, applications_in}
 use Rattle.answer_common.specs.Named.{standing}
 use Rattle.select_answers.specs.Directory.{entry_tag, entry_name, entry_indicator}
@@ -22,21 +22,10 @@ unfolding member_joined
 joins t e l tag name indicator is met f g =
     ap₂ (λ (n : List ℕ) (b : ℕ). joined_one t n b l) f g ∙ sym (pick_yes _ _ _ (eq-eqb _ _ is) ∙ pick_yes _ _ _ met)
 
-pub returns-then-tag-ne-ENTRY : goal.returns-then-tag-ne-ENTRY
-unfolding member_joined
-returns-then-tag-ne-ENTRY c = sym (pick_no _ _ _ (ne_eqb _ _ c.if-tag-ne-ENTRY.true))
-
 pub returns-then-is_met : goal.returns-then-is_met
 returns-then-is_met c =
     let b = c.args in
     let t = applications_in b.start.now in
     one_kept t b.list.now _ _ _ _ c.join-arg-1.given.0.1 c.can_choose.ensures c.join.ensures
-    ∙ joins t b.entry.now (list_in b.list.now) b.tag _ _ c.if-tag-ne-ENTRY.false (sym c.is_met.ensures ∙ c.if-is_met.true)
+    ∙ joins t b.entry.now (list_in b.list.now) b.tag _ _ c.if-tag-eq-ENTRY.true (sym c.is_met.ensures ∙ c.if-is_met.true)
     c.entry_name.ensures c.entry_indicator.ensures.0
-
-pub returns-else-is_met : goal.returns-else-is_met
-unfolding member_joined
-returns-else-is_met c =
-    sym
-    (pick_yes _ _ _ (eq-eqb _ _ c.if-tag-ne-ENTRY.false)
-    ∙ pick_no _ _ _ (sym c.is_met.ensures ∙ c.if-is_met.false))

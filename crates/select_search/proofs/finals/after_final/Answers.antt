@@ -46,22 +46,22 @@ module _ (t : Applications) (stand : Stand) (d : List ℕ) (place : ℕ) (taken 
 pub returns-then-is_fillable : goal.returns-then-is_fillable
 returns-then-is_fillable c =
     let b = c.args in
-    runs_now (applications_in b.start.now) b.stand b.list.now b.place b.taken b.answer.now
+    runs_now (applications_in b.h.start.now) b.h.stand b.list.now b.place b.taken b.h.answer.now
     (sym c.is_selected.ensures ∙ c.if-is_selected.true)
     (sym (c.is_fillable.ensures ∙ ap fillable c.pdol.ensures) ∙ c.if-is_fillable.true) _
 
 pub returns-then-is_selected : goal.returns-then-is_selected
 returns-then-is_selected c =
     let b = c.args in
-    unfilled (applications_in b.start.now) b.stand b.list.now b.place b.taken b.answer.now
+    unfilled (applications_in b.h.start.now) b.h.stand b.list.now b.place b.taken b.h.answer.now
     (sym c.is_selected.ensures ∙ c.if-is_selected.true)
     (sym (c.is_fillable.ensures ∙ ap fillable c.pdol.ensures) ∙ c.if-is_fillable.false) _
 
 pub returns : goal.returns
 returns c =
     let b = c.args in
-    let t = applications_in b.start.now in
-    falls t b.stand b.list.now b.place b.taken b.answer.now
+    let t = applications_in b.h.start.now in
+    falls t b.h.stand b.list.now b.place b.taken b.h.answer.now
     (sym c.is_selected.ensures ∙ c.if-is_selected.false) (list_in c.remove.new.list) c.final_turn.result c.remove.ensures
     (c.final_turn.ensures
     ∙ ap (λ (st : Stand). turn_of (final_selection t (search_of st (list_in c.remove.new.list)))) c.less_one.ensures)

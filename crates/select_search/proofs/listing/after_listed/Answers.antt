@@ -49,24 +49,24 @@ module _ (t : Applications) (stand : Stand) (d : List ℕ) (k : ℕ) (again : Bo
 pub returns-then-is_refused : goal.returns-then-is_refused
 returns-then-is_refused c =
     let b = c.args in
-    ends (applications_in b.start.now) b.stand b.list.now b.aid b.again b.answer.now
+    ends (applications_in b.h.start.now) b.h.stand b.list.now b.aid b.again b.h.answer.now
     (sym c.is_refused.ensures ∙ c.if-is_refused.true) _
 
 pub compared-requires : goal.compared-requires
 compared-requires c =
-    let a = c.args.answer.now in
+    let a = c.args.h.answer.now in
     and_right (has_status 0x9000 a || has_status 0x6283 a) (is_application a) (sym c.is_found.ensures ∙ c.if-is_found.true)
 
 pub returns-then-is_found : goal.returns-then-is_found
 returns-then-is_found c =
     let b = c.args in
-    compares (applications_in b.start.now) b.stand b.list.now b.aid b.again b.answer.now
+    compares (applications_in b.h.start.now) b.h.stand b.list.now b.aid b.again b.h.answer.now
     (sym c.is_refused.ensures ∙ c.if-is_refused.false) (sym c.is_found.ensures ∙ c.if-is_found.true) c.compared.result
     (list_in c.compared.new.list) c.compared.ensures
 
 pub returns : goal.returns
 returns c =
     let b = c.args in
-    passes (applications_in b.start.now) b.stand b.list.now b.aid b.again b.answer.now
+    passes (applications_in b.h.start.now) b.h.stand b.list.now b.aid b.again b.h.answer.now
     (sym c.is_refused.ensures ∙ c.if-is_refused.false) (sym c.is_found.ensures ∙ c.if-is_found.false) c.next_aid.result
     c.next_aid.ensures

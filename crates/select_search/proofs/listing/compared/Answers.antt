@@ -64,14 +64,14 @@ module _ (t : Applications) (stand : Stand) (d : List ℕ) (k : ℕ) (a : List �
 pub returns-then-is_identical : goal.returns-then-is_identical
 returns-then-is_identical c =
     let b = c.args in
-    identical (applications_in b.start.now) b.stand b.list.now b.aid b.answer.now c.requires c.next_aid.result
+    identical (applications_in b.h.start.now) b.h.stand b.list.now b.aid b.h.answer.now c.requires c.next_aid.result
     (sym c.is_identical.ensures ∙ c.if-is_identical.true) (list_in c.join_found.new.list) c.join_found.ensures
     c.next_aid.ensures
 
 pub returns-then-is_longer : goal.returns-then-is_longer
 returns-then-is_longer c =
     let b = c.args in
-    longer (applications_in b.start.now) b.stand b.list.now b.aid b.answer.now c.requires c.go.result
+    longer (applications_in b.h.start.now) b.h.stand b.list.now b.aid b.h.answer.now c.requires c.go.result
     (sym c.is_identical.ensures ∙ c.if-is_identical.false)
     (sym c.is_longer.ensures ∙ c.if-is_longer.true) (list_in c.join_found-then-is_longer.new.list) c.join_found-then-is_longer.ensures
     c.go.ensures
@@ -79,5 +79,5 @@ returns-then-is_longer c =
 pub returns : goal.returns
 returns c =
     let b = c.args in
-    another (applications_in b.start.now) b.stand b.list.now b.aid b.answer.now c.requires c.next_aid-2.result
+    another (applications_in b.h.start.now) b.h.stand b.list.now b.aid b.h.answer.now c.requires c.next_aid-2.result
     (sym c.is_identical.ensures ∙ c.if-is_identical.false) (sym c.is_longer.ensures ∙ c.if-is_longer.false) c.next_aid-2.ensures

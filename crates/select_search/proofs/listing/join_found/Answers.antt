@@ -22,9 +22,9 @@ joins t a l name indicator y f g = ap₂ (λ (n : List ℕ) (b : ℕ). joined_on
 pub returns-then-has_status : goal.returns-then-has_status
 returns-then-has_status c =
     let b = c.args in
-    let t = applications_in b.start.now in
+    let t = applications_in b.h.start.now in
     one_kept t b.list.now _ _ _ _ c.join-arg-1.given.0.1 c.can_choose.ensures c.join.ensures
-    ∙ joins t b.answer.now (list_in b.list.now) _ _ (sym c.has_status.ensures ∙ c.if-has_status.true)
+    ∙ joins t b.h.answer.now (list_in b.list.now) _ _ (sym c.has_status.ensures ∙ c.if-has_status.true)
     c.application_name.ensures c.application_indicator.ensures.0
 
 pub returns-else-has_status : goal.returns-else-has_status

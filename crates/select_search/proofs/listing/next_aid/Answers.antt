@@ -18,7 +18,7 @@ unfolding next_aid
 returns-then-k-listed_count c =
     let a = c.args in
     c.go.ensures
-    ∙ (goes_any a.stand (Listed (a.aid + 1) false) (list_in a.list.now)
+    ∙ (goes_any a.h.stand (Listed (a.aid + 1) false) (list_in a.list.now)
     ∙ sym (ap turn_of (pick_yes _ _ _ (ap (ltb (a.aid + 1)) (sym c.listed_count.ensures.0) ∙ lt-ltb _ _ c.if-k-listed_count.true))))
 
 pub returns : goal.returns

@@ -18,44 +18,32 @@ at : (t : Applications) (s : Search) (a : List ℕ) (step x : Step) (f : Found) 
     → f ≡ kept (heard_at t s a step)
 at t s a step x f e g = g ∙ sym (ap (λ (y : Step). kept (heard_at t s a y)) e)
 
-pub enum_told-1 : goal.enum_told-1
-enum_told-1 c = c.in-Environment.in-Environment-own.keys1
-
-pub enum_known-step : goal.enum_known-step
-enum_known-step c = c.in-Directory.in-Directory-own.keys2
-
-pub enum_known-step-in-Listed-1 : goal.enum_known-step-in-Listed-1
-enum_known-step-in-Listed-1 c = c.in-Listed.in-Listed-own.keys3
-
-pub enum_known-step-in-Final-1 : goal.enum_known-step-in-Final-1
-enum_known-step-in-Final-1 c = c.in-Final.in-Final-own.keys4
-
 pub returns-in-Environment : goal.returns-in-Environment
 unfolding heard_at
 returns-in-Environment c =
     let b = c.args in
-    let s : Search = search_of b.stand (list_in b.list.now) in
-    at (applications_in b.start.now) s b.answer.now b.step Environment _ c.in-Environment.is
-    (environment_settles s b.answer.now c.after_environment.result (list_in b.list.now) b.answer.now
+    let s : Search = search_of b.h.stand (list_in b.list.now) in
+    at (applications_in b.h.start.now) s b.h.answer.now b.h.stand.step Environment _ c.in-Environment.is
+    (environment_settles s b.h.answer.now c.after_environment.result (list_in b.list.now) b.h.answer.now
     (sym (list_whole b.list.now)) c.after_environment.ensures)
 
 pub returns-in-Directory : goal.returns-in-Directory
 unfolding heard_at
 returns-in-Directory c =
     let b = c.args in
-    at (applications_in b.start.now) (search_of b.stand (list_in b.list.now)) b.answer.now b.step
+    at (applications_in b.h.start.now) (search_of b.h.stand (list_in b.list.now)) b.h.answer.now b.h.stand.step
     (Directory c.in-Directory.file c.in-Directory.record) _ c.in-Directory.is c.after_record.ensures
 
 pub returns-in-Listed : goal.returns-in-Listed
 unfolding heard_at
 returns-in-Listed c =
     let b = c.args in
-    at (applications_in b.start.now) (search_of b.stand (list_in b.list.now)) b.answer.now b.step
+    at (applications_in b.h.start.now) (search_of b.h.stand (list_in b.list.now)) b.h.answer.now b.h.stand.step
     (Listed c.in-Listed.aid c.in-Listed.again) _ c.in-Listed.is c.after_listed.ensures
 
 pub returns-in-Final : goal.returns-in-Final
 unfolding heard_at
 returns-in-Final c =
     let b = c.args in
-    at (applications_in b.start.now) (search_of b.stand (list_in b.list.now)) b.answer.now b.step
+    at (applications_in b.h.start.now) (search_of b.h.stand (list_in b.list.now)) b.h.answer.now b.h.stand.step
     (Final c.in-Final.place c.in-Final.taken) _ c.in-Final.is c.after_final.ensures
