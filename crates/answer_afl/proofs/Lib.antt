@@ -1,3 +1,4 @@
 pub mod Counting
 pub mod Walking
 mod Pinned
+pub mod Chunks

@@ -12,6 +12,7 @@ pub struct Cursor {
     pub done: usize,
 }
 
+#[tactic(auto, unfolding(crate::specs::Cursor::start))]
 pub fn start() -> Cursor
     ensures { result ≡ start_of }
 {
@@ -19,6 +20,7 @@ pub fn start() -> Cursor
 }
 
 // The AFL from an entry on.
+#[tactic(auto, using(slices::proofs::Cutting::rest_part), unfolding(crate::specs::Cursor::from_entry))]
 fn from_entry(locator: &[u8], k: usize) -> &[u8]
     ensures { result.now ≡ from_entry locator.now k }
 {
@@ -29,6 +31,7 @@ fn from_entry(locator: &[u8], k: usize) -> &[u8]
 }
 
 // Whether a record stands at the cursor.
+#[tactic(auto, unfolding(crate::specs::Cursor::is_left, crate::specs::Cursor::entry_at, slices::specs::Tests::every, slices::specs::Choice::pick))]
 pub fn is_left(locator: &[u8], c: Cursor) -> bool
     ensures { (result ≡ is_left locator.now c)
         × (result ≡ true → (c.done < 256) × ((entry_at locator.now c).first + c.done < 256)) }
@@ -38,6 +41,7 @@ pub fn is_left(locator: &[u8], c: Cursor) -> bool
 }
 
 // Its number; 0 where none stands there.
+#[tactic(auto, unfolding(crate::specs::Cursor::record_at, crate::specs::Cursor::entry_at, crate::specs::Entries::first_entry, slices::specs::Choice::pick))]
 pub fn record(locator: &[u8], c: Cursor) -> usize
     ensures { (result ≡ (record_at locator.now c).0) × (result < 256) }
 {
@@ -49,6 +53,7 @@ pub fn record(locator: &[u8], c: Cursor) -> usize
 }
 
 // Its file's SFI; 0 where none stands there.
+#[tactic(auto, unfolding(crate::specs::Cursor::record_at, crate::specs::Cursor::entry_at, crate::specs::Entries::first_entry, crate::specs::Entries::sfi, slices::specs::Choice::pick))]
 pub fn file(locator: &[u8], c: Cursor) -> usize
     ensures { (result ≡ (record_at locator.now c).1) × (result < 256) }
 {
@@ -60,6 +65,7 @@ pub fn file(locator: &[u8], c: Cursor) -> usize
 }
 
 // The cursor one record on.
+#[tactic(auto, using(crate::proofs::Walking::left_room), unfolding(crate::specs::Cursor::stepped, crate::specs::Cursor::entry_at, slices::specs::Choice::pick))]
 pub fn step(locator: &[u8], c: Cursor) -> Cursor
     ensures { result ≡ stepped locator.now c }
 {

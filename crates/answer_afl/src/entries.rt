@@ -9,6 +9,7 @@ use slices::byte;
 const MOST_RECORDS: usize = 500;
 
 // Whether the bytes are whole entries, one at least.
+#[tactic(auto, unfolding(crate::specs::Entries::whole_entries, slices::specs::Tests::every, slices::specs::Choice::pick))]
 pub fn are_whole(locator: &[u8]) -> bool
     ensures { result ≡ whole_entries locator.now }
 {
@@ -16,6 +17,7 @@ pub fn are_whole(locator: &[u8]) -> bool
 }
 
 // How many records the entry at the front names.
+#[tactic(auto, unfolding(crate::specs::Entries::records, crate::specs::Entries::first_entry))]
 pub fn records(s: &[u8]) -> usize
     ensures { (result ≡ records_of (first_entry s.now)) × (result ≤ 256) × ((first_entry s.now).first + result ≤ 256) }
 {
@@ -24,41 +26,26 @@ pub fn records(s: &[u8]) -> usize
     if first <= last { last - first + 1 } else { 1 }
 }
 
+#[tactic(auto, unfolding(crate::specs::Entries::file_right, slices::specs::Tests::between, slices::specs::Tests::every, slices::specs::Choice::pick))]
 fn is_file_right(file: usize) -> bool
     ensures { result ≡ file_right file }
 {
-    if file % 8 != 0 {
-        return false;
-    }
-    1 <= file / 8 && file / 8 <= 10
+    file % 8 == 0 && 1 <= file / 8 && file / 8 <= 10
 }
 
 // Whether the entry at the front is right.
+#[tactic(auto, unfolding(crate::specs::Entries::entry_right, crate::specs::Entries::first_entry, slices::specs::Tests::every, slices::specs::Choice::pick))]
 fn is_entry_right(s: &[u8]) -> bool
     ensures { result ≡ entry_right (first_entry s.now) }
 {
-    if !is_file_right(byte(s, 0)) {
-        return false;
-    }
     let first = byte(s, 1);
-    if first < 1 {
-        return false;
-    }
-    first <= byte(s, 2) && byte(s, 3) <= records(s)
+    is_file_right(byte(s, 0)) && 1 <= first && first <= byte(s, 2) && byte(s, 3) <= records(s)
 }
 
 pub fn are_right(locator: &[u8]) -> bool
     ensures { result ≡ entries_right locator.now }
 {
-    let mut rest = locator;
-    while 4 <= rest.len() {
-        if is_entry_right(rest) {
-            rest = &rest[4..];
-        } else {
-            return false;
-        }
-    }
-    true
+    locator.chunks_exact(4).all(|entry| is_entry_right(entry))
 }
 
 // Whether the entries name more records than may be read. It stops at the first record too many.
@@ -66,13 +53,11 @@ pub fn are_too_many(locator: &[u8]) -> bool
     ensures { result ≡ too_many locator.now }
 {
     let mut sum = 0;
-    let mut rest = locator;
-    while 4 <= rest.len() {
-        sum += records(rest);
+    for entry in locator.chunks_exact(4) {
+        sum += records(entry);
         if MOST_RECORDS < sum {
             return true;
         }
-        rest = &rest[4..];
     }
     false
 }

@@ -28,12 +28,14 @@ pub enum Single {
     },
 }
 
+#[tactic(auto, unfolding(crate::specs::Answer::size_bad))]
 fn is_size_bad(answer: &[u8]) -> bool
     ensures { result ≡ size_bad answer.now }
 {
     answer.len() < 2 || MOST < answer.len()
 }
 
+#[tactic(auto, unfolding(crate::specs::Answer::status_bad))]
 fn is_status_bad(answer: &[u8]) -> bool
     requires { 2 ≤ length answer.now }
     ensures { result ≡ status_bad answer.now }

@@ -51,6 +51,7 @@ pub enum Rule {
 // The most bytes of an object list.
 pub const LIST_MOST: usize = 252;
 
+#[tactic(auto, unfolding(crate::specs::Content::rule_for, crate::specs::Content::rules, slices::specs::Tables::beside, slices::specs::Choice::pick))]
 pub fn rule_for(tag: usize) -> Rule
     ensures { result ≡ rule_for tag }
 {
@@ -79,6 +80,7 @@ pub fn rule_for(tag: usize) -> Rule
 }
 
 // How object lists show what records name; any other tag is told by none.
+#[tactic(auto, unfolding(slices::specs::Tables::beside, slices::specs::Choice::pick))]
 pub fn format_told(tag: usize) -> Format
     ensures { result ≡ format_told tag }
 {
@@ -98,6 +100,7 @@ pub fn format_told(tag: usize) -> Format
     }
 }
 
+#[tactic(auto, unfolding(crate::specs::Content::right_value, crate::specs::Content::meets, slices::specs::Tests::between, slices::specs::Tests::every, slices::specs::Choice::pick))]
 pub fn is_right(tag: usize, v: &[u8]) -> bool
     ensures { result ≡ right_value tag v.now }
 {
@@ -112,6 +115,7 @@ pub fn is_right(tag: usize, v: &[u8]) -> bool
 }
 
 // How many of the names count with a START.
+#[tactic(auto, unfolding(crate::specs::Content::names_for, crate::specs::Content::rows_for, slices::specs::Choice::pick))]
 pub fn names_for(start: &[u8]) -> usize
     ensures { (result ≡ length (names_for (reading_of start.now)))
         × (take result record_names ≡ names_for (reading_of start.now)) × (result ≤ name_count) }

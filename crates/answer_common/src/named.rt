@@ -18,6 +18,7 @@ pub fn is_listed(name: usize, names: &[usize]) -> bool
 }
 
 // How often a name was found; 2 for twice and more.
+#[tactic(auto, unfolding(crate::specs::Named::found_times))]
 pub fn times_of(found: Found) -> usize
     ensures { result ≡ found_times found }
 {
@@ -36,17 +37,18 @@ pub fn any_times(n: usize, a: Found, b: Found, c: Found, d: Found) -> bool
 }
 
 // The value of what was found once; else nothing.
+#[tactic(auto, unfolding(crate::specs::Named::value_of, crate::specs::Named::told, tlv_list::specs::Lookup::found_value))]
 pub fn value_of(s: &[u8], found: Found) -> &[u8]
     ensures { result.now ≡ value_of (found_value s.now found) }
 {
     match found {
-        Found::Absent => &s[0..0],
         Found::Once { start, end } => value(s, start, end),
-        Found::Twice => &s[0..0],
+        Found::Absent | Found::Twice => &s[0..0],
     }
 }
 
 // How often a name stands there; 2 for twice and more.
+#[tactic(auto, using(crate::proofs::Membered::times_found), unfolding(crate::specs::Named::standing))]
 pub fn times_in_checked(s: &[u8], name: usize) -> usize
     ensures { result ≡ times_of (standing s.now name) }
 {
@@ -54,6 +56,7 @@ pub fn times_in_checked(s: &[u8], name: usize) -> usize
 }
 
 // The value under a name that stands there once; else nothing.
+#[tactic(auto, unfolding(crate::specs::Named::standing))]
 pub fn value_in_checked(s: &[u8], name: usize) -> &[u8]
     ensures { result.now ≡ value_of (standing s.now name) }
 {
@@ -61,12 +64,9 @@ pub fn value_in_checked(s: &[u8], name: usize) -> &[u8]
 }
 
 // Whether what was found once has a wrong value for a name.
+#[tactic(auto, unfolding(crate::specs::Named::wrong_value, tlv_list::specs::Lookup::found_value))]
 pub fn is_wrong(s: &[u8], name: usize, found: Found) -> bool
     ensures { result ≡ wrong_value name (found_value s.now found) }
 {
-    match found {
-        Found::Absent => false,
-        Found::Once { start, end } => !is_right(name, value(s, start, end)),
-        Found::Twice => false,
-    }
+    matches!(found, Found::Once { start, end } if !is_right(name, value(s, start, end)))
 }

@@ -58,32 +58,24 @@ fn begins(aid: &[u8], v: &[u8]) -> bool
 }
 
 // Whether the name 84 was found and does not begin with the AID.
+#[tactic(auto, unfolding(crate::specs::Select::name_wrong, tlv_list::specs::Lookup::found_value))]
 fn is_name_wrong(aid: &[u8], s: &[u8], found: Found) -> bool
     ensures { result ≡ name_wrong aid.now (found_value s.now found) }
 {
-    match found {
-        Found::Absent => false,
-        Found::Once { start, end } => !begins(aid, value(s, start, end)),
-        Found::Twice => false,
-    }
+    matches!(found, Found::Once { start, end } if !begins(aid, value(s, start, end)))
 }
 
 // Whether one of the values is wrong: 84 and A5 in 6F, 9F38 in A5.
+#[tactic(auto, unfolding(slices::specs::Tables::any_of, slices::specs::Choice::pick))]
 fn is_wrong(aid: &[u8], s: &[u8], name: Found, inner: Found, p: &[u8], list: Found) -> bool
     ensures { result
         ≡ any_of (wrong_value 0x84 (found_value s.now name) ∷ wrong_value 0xA5 (found_value s.now inner)
         ∷ wrong_value 0x9F38 (found_value p.now list) ∷ name_wrong aid.now (found_value s.now name) ∷ []) }
 {
-    if named::is_wrong(s, 0x84, name) {
-        return true;
-    }
-    if named::is_wrong(s, 0xA5, inner) {
-        return true;
-    }
-    if named::is_wrong(p, 0x9F38, list) {
-        return true;
-    }
-    is_name_wrong(aid, s, name)
+    named::is_wrong(s, 0x84, name)
+        || named::is_wrong(s, 0xA5, inner)
+        || named::is_wrong(p, 0x9F38, list)
+        || is_name_wrong(aid, s, name)
 }
 
 // Reasons 3 to 9 of an answer whose one object is 6F, by its members; 0 where none of them applies.

@@ -27,11 +27,8 @@ fn main(rt: HostRuntime) -> io::Result<()> {
 }
 
 fn answer_all(rt: &impl Print, s: &[u8]) -> io::Result<()> {
-    let mut at = 0;
-    while at < s.len() {
-        let end = line_end(s, at);
-        answer(rt, &s[at..end])?;
-        at = end + 1;
+    for line in s.split_inclusive(|b| *b == b'\n') {
+        answer(rt, &line[..line_end(line, 0)])?;
     }
     Ok(())
 }

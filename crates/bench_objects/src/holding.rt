@@ -1,19 +1,11 @@
 // Questions to the held reader.
 use crate::read::{print_member, print_other};
 use std::io;
-use text_hex::unhex;
-use text_lines::{after_word, number};
 use tlv_head::Next;
 use tlv_list::place;
 
-pub fn list(rt: &impl Print, words: &[u8]) -> io::Result<()> {
-    let mut bytes = [0u8; 5000];
-    let n = unhex(words, &mut bytes);
+pub fn list(rt: &impl Print, s: &[u8]) -> io::Result<()> {
     text_print::text(rt, b"held")?;
-    print_all(rt, &bytes[0..n])
-}
-
-fn print_all(rt: &impl Print, s: &[u8]) -> io::Result<()> {
     let mut at = 0;
     while let Next::Member { tag, end, .. } = tlv_reader::next_from(s, at) {
         print_other(rt, tag, tlv_reader::value_from(s, at))?;
@@ -22,13 +14,7 @@ fn print_all(rt: &impl Print, s: &[u8]) -> io::Result<()> {
     Ok(())
 }
 
-pub fn nth(rt: &impl Print, words: &[u8]) -> io::Result<()> {
-    let mut bytes = [0u8; 5000];
-    let n = unhex(after_word(words), &mut bytes);
-    print_nth(rt, number(words), &bytes[0..n])
-}
-
-fn print_nth(rt: &impl Print, n: usize, s: &[u8]) -> io::Result<()> {
+pub fn nth(rt: &impl Print, n: usize, s: &[u8]) -> io::Result<()> {
     match tlv_reader::object_at(s, n) {
         Next::End | Next::Broken => text_print::text(rt, b"-"),
         Next::Member { tag, start, end } => print_member(rt, tag, place::value(s, start, end)),

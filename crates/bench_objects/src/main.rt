@@ -14,8 +14,9 @@ mod write;
 
 use slices::byte;
 use std::io;
+use text_hex::unhex;
 use text_input::read_full;
-use text_lines::{after_word, line_end};
+use text_lines::{after_word, hex_number, number};
 
 fn main(rt: HostRuntime) -> io::Result<()> {
     let mut input = [0u8; 524288];
@@ -24,26 +25,32 @@ fn main(rt: HostRuntime) -> io::Result<()> {
 }
 
 fn answer_all(rt: &impl Print, s: &[u8]) -> io::Result<()> {
-    let mut at = 0;
-    while at < s.len() {
-        let end = line_end(s, at);
-        answer(rt, &s[at..end])?;
-        at = end + 1;
+    for line in s.split_inclusive(|b| *b == b'\n') {
+        answer(rt, line)?;
     }
     Ok(())
 }
 
-// The first letter tells the question.
+// The first letter tells the question. A line feed at its end is no digit and ends its last word, so it may stay.
 fn answer(rt: &impl Print, question: &[u8]) -> io::Result<()> {
     let words = after_word(question);
     match byte(question, 0) as u8 {
-        b'L' => read::list(rt, words)?,
-        b'F' => read::find(rt, words)?,
-        b'H' => holding::list(rt, words)?,
-        b'N' => holding::nth(rt, words)?,
-        b'D' => read::data(rt, words)?,
+        b'L' => with_bytes(words, |s| read::list(rt, s))?,
+        b'F' => with_bytes(after_word(words), |s| read::find(rt, hex_number(words), s))?,
+        b'H' => with_bytes(words, |s| holding::list(rt, s))?,
+        b'N' => with_bytes(after_word(words), |s| holding::nth(rt, number(words), s))?,
+        b'D' => with_bytes(words, |s| read::data(rt, s))?,
         b'W' => write::write(rt, words)?,
         _ => text_print::text(rt, b"?")?,
     }
     text_print::text(rt, b"\n")
+}
+
+// Does something with the bytes that a word tells in hexadecimal.
+fn with_bytes<F: FnOnce(&[u8]) -> io::Result<()>>(word: &[u8], then: F) -> io::Result<()>
+    requires { F.IsAlwaysCallable then }
+{
+    let mut bytes = [0u8; 5000];
+    let n = unhex(word, &mut bytes);
+    then(&bytes[..n])
 }

@@ -1,17 +1,9 @@
 // Questions to the reader of data objects.
 use std::io;
-use text_hex::unhex;
-use text_lines::{after_word, hex_number};
 use tlv_head::Next;
 use tlv_list::{Found, lookup, place};
 
-pub fn list(rt: &impl Print, words: &[u8]) -> io::Result<()> {
-    let mut bytes = [0u8; 5000];
-    let n = unhex(words, &mut bytes);
-    print_list(rt, &bytes[0..n])
-}
-
-fn print_list(rt: &impl Print, s: &[u8]) -> io::Result<()> {
+pub fn list(rt: &impl Print, s: &[u8]) -> io::Result<()> {
     if place::list_refusal(s) == 9 {
         return text_print::text(rt, b"refused 9");
     }
@@ -44,13 +36,7 @@ pub fn print_member(rt: &impl Print, tag: usize, value: &[u8]) -> io::Result<()>
     text_print::bytes(rt, value)
 }
 
-pub fn find(rt: &impl Print, words: &[u8]) -> io::Result<()> {
-    let mut bytes = [0u8; 5000];
-    let n = unhex(after_word(words), &mut bytes);
-    print_sought(rt, hex_number(words), &bytes[0..n])
-}
-
-fn print_sought(rt: &impl Print, tag: usize, s: &[u8]) -> io::Result<()> {
+pub fn find(rt: &impl Print, tag: usize, s: &[u8]) -> io::Result<()> {
     match lookup::find(s, tag) {
         None => text_print::text(rt, b"refused 9"),
         Some(found) => print_found(rt, found, s),
@@ -68,8 +54,6 @@ fn print_found(rt: &impl Print, found: Found, s: &[u8]) -> io::Result<()> {
     }
 }
 
-pub fn data(rt: &impl Print, words: &[u8]) -> io::Result<()> {
-    let mut bytes = [0u8; 5000];
-    let n = unhex(words, &mut bytes);
-    text_print::bytes_or_dash(rt, place::data_field(&bytes[0..n]))
+pub fn data(rt: &impl Print, answer: &[u8]) -> io::Result<()> {
+    text_print::bytes_or_dash(rt, place::data_field(answer))
 }

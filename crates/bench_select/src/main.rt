@@ -13,7 +13,7 @@ use slices::byte;
 use std::io;
 use text_hex::unhex;
 use text_input::read_full;
-use text_lines::{after_word, line_end};
+use text_lines::after_word;
 
 fn main(rt: HostRuntime) -> io::Result<()> {
     let mut input = [0u8; 524288];
@@ -22,16 +22,13 @@ fn main(rt: HostRuntime) -> io::Result<()> {
 }
 
 fn answer_all(rt: &impl Print, s: &[u8]) -> io::Result<()> {
-    let mut at = 0;
-    while at < s.len() {
-        let end = line_end(s, at);
-        answer(rt, &s[at..end])?;
-        at = end + 1;
+    for line in s.split_inclusive(|b| *b == b'\n') {
+        answer(rt, line)?;
     }
     Ok(())
 }
 
-// The first letter tells the question.
+// The first letter tells the question. A line feed at its end is no digit and ends its last word, so it may stay.
 fn answer(rt: &impl Print, question: &[u8]) -> io::Result<()> {
     let mut bytes = [0u8; 500];
     let n = unhex(after_word(question), &mut bytes);

@@ -37,17 +37,11 @@ fn show(rt: &impl Print, record: &[u8; RECORD]) -> io::Result<()> {
 }
 
 fn show_in(rt: &impl Print, record: &[u8; RECORD], t: &mut [u8; LONGEST]) -> io::Result<()> {
-    let size = number(record, NAME) % 2049;
-    let times = number(record, NAME + 2);
+    let size = u16::from_be_bytes([record[NAME], record[NAME + 1]]) as usize % 2049;
+    let times = u16::from_be_bytes([record[NAME + 2], record[NAME + 3]]) as usize;
     rt.write_all(&record[..NAME])?;
     let n = repeat(t, &record[HEAD..HEAD + size], times);
     read(rt, &t[..n])
-}
-
-fn number(s: &[u8], at: usize) -> usize
-    requires { at ≤ 100 }
-{
-    slices::byte(s, at) * 256 + slices::byte(s, at + 1)
 }
 
 // Lays s so many times, and answers how many bytes that makes.

@@ -1,22 +1,13 @@
 // The book's file, named by the first argument.
-use slices::part;
-use std::env::FillError;
 use std::fs::{OpenFile, OpenOptions};
 use std::io::{ErrorKind, Write};
 use std::rt::{Env, Files};
 use std::{fs, io};
 use tape_read::BLOCK;
-use text_input::fill;
+use text_input::{argument, fill};
 
 // More bytes than the name of a file can have.
 const NAME: usize = 4096;
-
-// The system's numbers for an argument that is not there, for one that is too long, and for one that is no text.
-const MISSING: i32 = 22;
-
-const LONG: i32 = 36;
-
-const NO_TEXT: i32 = 84;
 
 // Why a block is not stored: a part of it alone could be, or the system's reason.
 #[derive(Clone, Copy)]
@@ -47,16 +38,7 @@ pub fn read_if_there(rt: &(impl Env + Files), buf: &mut [u8]) -> io::Result<Opti
 
 fn open<R: Env + Files>(rt: &R) -> io::Result<R::File> {
     let mut bytes = [0u8; NAME];
-    fs::open(rt, name(rt, &mut bytes)?)
-}
-
-fn name<'a>(rt: &impl Env, bytes: &'a mut [u8]) -> io::Result<&'a str> {
-    let n = match rt.arg(1, bytes) {
-        Ok(n) => n,
-        Err(FillError::NotPresent) => return Err(io::Error::from_raw_os_error(MISSING)),
-        Err(FillError::TooLong) => return Err(io::Error::from_raw_os_error(LONG)),
-    };
-    str::from_utf8(part(bytes, 0, n)).map_err(|_| io::Error::from_raw_os_error(NO_TEXT))
+    fs::open(rt, argument(rt, 1, &mut bytes)?)
 }
 
 // What standard input brings, its length; none where it is too long for a line, or cannot be read.
@@ -68,7 +50,7 @@ pub fn line(rt: &impl Input, buf: &mut [u8]) -> Option<usize> {
 // One block at the end of the file, in one write, and on its device before the answer is given.
 pub fn add(rt: &(impl Env + Files), new: bool, block: &[u8]) -> Result<(), NotStored> {
     let mut bytes = [0u8; NAME];
-    let name = name(rt, &mut bytes)?;
+    let name = argument(rt, 1, &mut bytes)?;
     let mut how = OpenOptions::new();
     if new {
         how.write(true).create_new(true);

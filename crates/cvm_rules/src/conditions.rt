@@ -8,26 +8,25 @@ use crate::{Circumstances, Method};
 pub fn is_cash(c: Circumstances) -> bool
     ensures { result ≡ is_cash c }
 {
-    (c.kind == 1) | (c.other != 0)
+    c.kind == 1 || c.other != 0
 }
 
 // Given the list's amounts X and Y, the rule's method and its second byte.
+#[tactic(auto, unfolding(crate::specs::Conditions::satisfied, slices::specs::Tables::beside, slices::specs::Choice::pick))]
 pub fn satisfied(c: Circumstances, x: u64, y: u64, m: Method, code: u8) -> bool
     ensures { result ≡ satisfied_by c x y m code }
 {
-    let cash = is_cash(c);
-    let has = supported(m, c.means);
     match code {
         0x00 => true,
-        0x01 => cash,
-        0x02 => !cash,
-        0x03 => has,
-        0x04 => !has,
+        0x01 => is_cash(c),
+        0x02 => !is_cash(c),
+        0x03 => supported(m, c.means),
+        0x04 => !supported(m, c.means),
         0x05 => false,
-        0x06 => c.home & (c.amount < x),
-        0x07 => c.home & (x < c.amount),
-        0x08 => c.home & (c.amount < y),
-        0x09 => c.home & (y < c.amount),
+        0x06 => c.home && c.amount < x,
+        0x07 => c.home && x < c.amount,
+        0x08 => c.home && c.amount < y,
+        0x09 => c.home && y < c.amount,
         _ => false,
     }
 }

@@ -15,6 +15,7 @@ pub const PIN_NOT_ENTERED: u8 = 0x08;
 
 pub const ONLINE_PIN_ENTERED: u8 = 0x04;
 
+#[tactic(auto, unfolding(crate::specs::Methods::method_of, slices::specs::Tables::beside, slices::specs::Choice::pick))]
 pub fn method_of(first: u8) -> Method
     ensures { result ≡ method_of first }
 {
@@ -54,36 +55,36 @@ pub fn has_signature(means: u8) -> bool
     means / 32 % 2 == 1
 }
 
+#[tactic(auto, unfolding(crate::specs::Methods::supported))]
 pub fn supported(m: Method, means: u8) -> bool
     ensures { result ≡ supported_by m means }
 {
     match m {
-        Method::Fail => true,
+        Method::Fail | Method::NoVerification => true,
         Method::OfflinePin => has_offline_pin(means),
         Method::OnlinePin => has_online_pin(means),
-        Method::OfflinePinAndSignature => has_offline_pin(means) & has_signature(means),
+        Method::OfflinePinAndSignature => has_offline_pin(means) && has_signature(means),
         Method::Signature => has_signature(means),
-        Method::NoVerification => true,
         Method::Unrecognised => false,
     }
 }
 
+#[tactic(auto, unfolding(crate::specs::Methods::succeeds))]
 pub fn succeeds(m: Method, means: u8, res: u8) -> bool
     ensures { result ≡ succeeds_with m means res }
 {
-    let done = supported(m, means) & (res == 1);
     match m {
-        Method::Fail => false,
-        Method::OfflinePin => done,
-        Method::OnlinePin => done,
-        Method::OfflinePinAndSignature => done,
-        Method::Signature => done,
+        Method::Fail | Method::Unrecognised => false,
+        Method::OfflinePin
+        | Method::OnlinePin
+        | Method::OfflinePinAndSignature
+        | Method::Signature => supported(m, means) && res == 1,
         Method::NoVerification => true,
-        Method::Unrecognised => false,
     }
 }
 
 // What a PIN's result sets, with the pad for it and without.
+#[tactic(auto, unfolding(crate::specs::Methods::pin_bits, slices::specs::Tables::beside, slices::specs::Choice::pick))]
 pub fn pin_bits(pad: bool, res: u8) -> u8
     ensures { result ≡ pin_bits pad res }
 {
@@ -99,26 +100,17 @@ pub fn pin_bits(pad: bool, res: u8) -> u8
     }
 }
 
-fn online_pin_bits(means: u8, res: u8) -> u8
-    ensures { result ≡ tried_bits Method.OnlinePin means res }
-{
-    if succeeds(Method::OnlinePin, means, res) {
-        ONLINE_PIN_ENTERED
-    } else {
-        pin_bits(has_online_pin(means), res)
-    }
-}
-
+#[tactic(auto, unfolding(crate::specs::Methods::tried_bits, slices::specs::Choice::pick))]
 pub fn tried_bits(m: Method, means: u8, res: u8) -> u8
     ensures { result ≡ tried_bits m means res }
 {
     match m {
-        Method::Fail => 0,
-        Method::OfflinePin => pin_bits(has_offline_pin(means), res),
-        Method::OnlinePin => online_pin_bits(means, res),
-        Method::OfflinePinAndSignature => pin_bits(has_offline_pin(means), res),
-        Method::Signature => 0,
-        Method::NoVerification => 0,
+        Method::Fail | Method::Signature | Method::NoVerification => 0,
+        Method::OfflinePin | Method::OfflinePinAndSignature => {
+            pin_bits(has_offline_pin(means), res)
+        }
+        Method::OnlinePin if succeeds(m, means, res) => ONLINE_PIN_ENTERED,
+        Method::OnlinePin => pin_bits(has_online_pin(means), res),
         Method::Unrecognised => UNRECOGNISED_METHOD,
     }
 }

@@ -8,6 +8,7 @@ use crate::{Circumstances, Method, Turn};
 
 pub const NOT_SUCCESSFUL: u8 = 0x80;
 
+#[tactic(auto, unfolding(crate::specs::Turns::tried_turn, slices::specs::Choice::pick))]
 fn tried_turn(m: Method, on: bool, means: u8, res: u8) -> Turn
     ensures { result ≡ tried_turn m on means res }
 {
@@ -25,6 +26,7 @@ fn tried_turn(m: Method, on: bool, means: u8, res: u8) -> Turn
 }
 
 // Given the list's amounts X and Y, the rule's two bytes, and the byte that was handed in for it.
+#[tactic(auto, unfolding(crate::specs::Turns::turn_of, crate::specs::Turns::tried, slices::specs::Choice::pick))]
 pub fn turn_of(c: Circumstances, x: u64, y: u64, first: u8, code: u8, res: u8) -> Turn
     ensures { result ≡ turn_of c x y first code res }
 {

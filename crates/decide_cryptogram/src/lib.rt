@@ -31,6 +31,7 @@ pub fn p1(asked: Cryptogram) -> u8
 }
 
 // What 9F27 says: a cryptogram, or the type that stands for none.
+#[tactic(auto, unfolding(crate::specs::Cryptograms::given_by, slices::specs::Choice::pick))]
 pub fn given_by(cid: u8) -> Option<Cryptogram>
     ensures { result ≡ given_by cid }
 {
@@ -47,16 +48,8 @@ fn answers_first(asked: Cryptogram, answer: Cryptogram) -> bool
 {
     match asked {
         Cryptogram::Tc => true,
-        Cryptogram::Arqc => match answer {
-            Cryptogram::Tc => false,
-            Cryptogram::Arqc => true,
-            Cryptogram::Aac => true,
-        },
-        Cryptogram::Aac => match answer {
-            Cryptogram::Tc => false,
-            Cryptogram::Arqc => false,
-            Cryptogram::Aac => true,
-        },
+        Cryptogram::Arqc => !matches!(answer, Cryptogram::Tc),
+        Cryptogram::Aac => matches!(answer, Cryptogram::Aac),
     }
 }
 
@@ -66,22 +59,17 @@ fn answers_second(asked: Cryptogram, answer: Cryptogram) -> bool
     match answer {
         Cryptogram::Aac => true,
         Cryptogram::Arqc => false,
-        Cryptogram::Tc => match asked {
-            Cryptogram::Tc => true,
-            Cryptogram::Arqc => false,
-            Cryptogram::Aac => false,
-        },
+        Cryptogram::Tc => matches!(asked, Cryptogram::Tc),
     }
 }
 
+#[tactic(auto, unfolding(crate::specs::Cryptograms::allowed_by))]
 pub fn allowed(request: Request, given: Option<Cryptogram>) -> bool
     ensures { result ≡ allowed_by request given }
 {
-    match given {
-        Some(answer) => match request {
-            Request::First(asked) => answers_first(asked, answer),
-            Request::Second(asked) => answers_second(asked, answer),
-        },
-        None => false,
+    match (request, given) {
+        (Request::First(asked), Some(answer)) => answers_first(asked, answer),
+        (Request::Second(asked), Some(answer)) => answers_second(asked, answer),
+        (_, None) => false,
     }
 }

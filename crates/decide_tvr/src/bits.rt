@@ -2,6 +2,7 @@
 ghost use Rattle.std.specs.Prelude.{◌≡◌, ◌≤◌};
 ghost use Rattle.decide_tvr.specs.Bits.{joined, meet, flag as flag_of};
 
+#[tactic(auto, unfolding(crate::specs::Bits::flag, slices::specs::Choice::pick))]
 pub fn flag(test: bool, bit: u8) -> u8
     ensures { (result ≡ flag_of test bit) × (result ≤ bit) }
 {

@@ -14,30 +14,35 @@ use session_records::slots::{has, value};
 use start_fields::fields;
 use start_fields::fields::Field;
 
+#[tactic(auto, using(session_records::proofs::Present::is_there_lem, session_records::proofs::Present::is_none), unfolding(crate::specs::Results::different_versions))]
 fn different_versions(start: &[u8], told: &[u8]) -> bool
     ensures { result ≡ different_versions (reading_of start.now) (told_in told.now 0x9F08) }
 {
     has(told, 0x9F08) && !slices::alike(value(told, 0x9F08), fields::bytes(start, Field::Version))
 }
 
+#[tactic(auto, unfolding(crate::specs::Results::expired))]
 fn expired(start: &[u8], told: &[u8]) -> bool
     ensures { result ≡ expired_of (reading_of start.now) (get_or (told_in told.now 0x5F24) []) }
 {
     date_key(value(told, 0x5F24)) < date_key(fields::bytes(start, Field::Date))
 }
 
+#[tactic(auto, using(session_records::proofs::Present::is_there_lem, session_records::proofs::Present::is_none), unfolding(crate::specs::Results::not_yet_effective))]
 fn not_yet_effective(start: &[u8], told: &[u8]) -> bool
     ensures { result ≡ not_yet_effective (reading_of start.now) (told_in told.now 0x5F25) }
 {
     has(told, 0x5F25) && date_key(fields::bytes(start, Field::Date)) < date_key(value(told, 0x5F25))
 }
 
+#[tactic(auto, unfolding(crate::specs::Results::risk_managed))]
 fn risk_managed(aip: [u8; 2]) -> bool
     ensures { result ≡ risk_managed aip }
 {
     aip[0] & 0x08 != 0
 }
 
+#[tactic(auto, unfolding(crate::specs::Results::at_floor_limit))]
 fn at_floor_limit(start: &[u8]) -> bool
     ensures { result ≡ at_floor_limit (reading_of start.now) }
 {
@@ -53,6 +58,7 @@ fn drawn(start: &[u8]) -> bool
         && selected(start)
 }
 
+#[tactic(auto, unfolding(crate::specs::Results::restrictions))]
 fn restrictions(start: &[u8], told: &[u8]) -> u8
     ensures { result ≡ restrictions_of (reading_of start.now) (told_in told.now) }
 {
@@ -61,6 +67,7 @@ fn restrictions(start: &[u8], told: &[u8]) -> u8
             + bits::flag(not_yet_effective(start, told), 0x20))
 }
 
+#[tactic(auto, unfolding(crate::specs::Results::risks, slices::specs::Choice::pick))]
 fn risks(start: &[u8], aip: [u8; 2]) -> u8
     ensures { result ≡ risks_of (reading_of start.now) aip }
 {
@@ -72,6 +79,7 @@ fn risks(start: &[u8], aip: [u8; 2]) -> u8
 }
 
 // Given START, the AIP and the slots of what the records told.
+#[tactic(auto, unfolding(crate::specs::Results::tvr_after_records))]
 pub fn tvr_after_records(start: &[u8], aip: [u8; 2], told: &[u8], tvr: [u8; 5]) -> [u8; 5]
     ensures { result ≡ tvr_after_records (reading_of start.now) aip (told_in told.now) tvr }
 {
@@ -79,6 +87,7 @@ pub fn tvr_after_records(start: &[u8], aip: [u8; 2], told: &[u8], tvr: [u8; 5]) 
     bits::join(tvr, set)
 }
 
+#[tactic(auto, unfolding(crate::specs::Results::tsi_after_records))]
 pub fn tsi_after_records(aip: [u8; 2], tsi: [u8; 2]) -> [u8; 2]
     ensures { result ≡ tsi_after_records aip tsi }
 {
@@ -86,6 +95,7 @@ pub fn tsi_after_records(aip: [u8; 2], tsi: [u8; 2]) -> [u8; 2]
     bits::join(tsi, set)
 }
 
+#[tactic(auto, unfolding(crate::specs::Results::tsi_after_first_answer))]
 pub fn tsi_after_first_answer(tsi: [u8; 2]) -> [u8; 2]
     ensures { result ≡ tsi_after_first_answer tsi }
 {

@@ -18,6 +18,7 @@ fn biased(random: u8, target: u8, maximum: u8, amount: u64, floor: u64, threshol
 }
 
 // Whether a type 2 terminal sends an amount below its floor limit online.
+#[tactic(auto, unfolding(crate::specs::Selection::selected, crate::specs::Selection::chosen, slices::specs::Choice::pick))]
 pub fn selected(start: &[u8]) -> bool
     ensures { result ≡ selected_of (reading_of start.now) }
 {

@@ -1,12 +1,13 @@
-// What programs read. Standard input, line by line: no byte behind a line is read before the next line is asked for, so that a program can
+// What programs read. An argument. Standard input, line by line: no byte behind a line is read before the next line is asked for, so that a program can
 // reply to each line before the next is there; a read that fails counts as the end of the input. A file, a buffer at a time. Of what is read
 // no contract can speak.
 #![tactic(auto)]
 
 ghost use Rattle.std.specs.Prelude.{◌≤◌, length, IfOk};
 
+use std::env::FillError;
 use std::io::{ErrorKind, Read};
-use std::rt::Files;
+use std::rt::{Env, Files};
 use std::{fs, io};
 
 // A line of so many bytes, without its line feed; a line that has no room; or the input has ended. A last line needs no line
@@ -56,6 +57,28 @@ fn read_byte(input: &mut impl Read) -> Option<u8> {
         Ok(1) => Some(one[0]),
         _ => None,
     }
+}
+
+// The system's numbers for an argument that is not there, for one that is too long, and for one that is no text.
+const MISSING: i32 = 22;
+
+const LONG: i32 = 36;
+
+const NO_TEXT: i32 = 84;
+
+// An argument that is text, put at the start of a buffer.
+pub fn argument<'a>(rt: &impl Env, at: usize, buf: &'a mut [u8]) -> io::Result<&'a str>
+    ensures { IfOk result (λ text. length text.now ≤ length buf.old) }
+{
+    let n = rt.arg(at, buf).map_err(why_missing)?;
+    str::from_utf8(&buf[..n]).map_err(|_| io::Error::from_raw_os_error(NO_TEXT))
+}
+
+fn why_missing(error: FillError) -> io::Error {
+    io::Error::from_raw_os_error(match error {
+        FillError::NotPresent => MISSING,
+        FillError::TooLong => LONG,
+    })
 }
 
 // The file of a name. A name that is no text names no file that can be opened.

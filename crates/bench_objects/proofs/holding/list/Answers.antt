@@ -2,7 +2,7 @@
 use mathlib.Core.Path.{sym, ◌∙◌}
 use native.Mathlib.Omega.{arith}
 use Rattle.tlv_list.proofs.Reading.{next_ahead}
-use Rattle.bench_objects.proofs.holding.print_all.Goals as goal
+use Rattle.bench_objects.proofs.holding.list.Goals as goal
 
 pub loop-tag-smaller : goal.loop-tag-smaller
 loop-tag-smaller g c =
