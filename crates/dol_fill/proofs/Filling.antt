@@ -126,14 +126,15 @@ pub record ToFill (t : Terminal) (k : Facts) (r : List ℕ) (p : ℕ) (buf : Lis
   pub long : length buf ≡ room
   pub same : put (filled_by t k (entries_of r)) p buf ≡ wanted
 
-module _ (t : Terminal) (k : Facts) (r : List ℕ) (p : ℕ) (buf : List ℕ) (room : ℕ) (wanted : List ℕ) (h : ToFill t k r p buf room wanted) where
+module _ (t : Terminal) (k : Facts) (r : List ℕ) (p : ℕ) (buf : List ℕ) (room : ℕ) (wanted : List ℕ)
+    (h : ToFill t k r p buf room wanted) where
   -- the entry at the front has room, and once it is written the rest is still to be filled
   module _ (more : 0 < length r) where
     pub first_room : p + size_at r ≤ length buf
     first_room = let sum = turn_total r more h.right in omega arith
 
-    pub rest_filled : {left out : List ℕ} {size : ℕ} → left ≡ drop (tag_size r + 1) r → size ≡ size_at r → out ≡ put (first_bytes t k r) p buf
-        → ToFill t k left (p + size) out room wanted
+    pub rest_filled : {left out : List ℕ} {size : ℕ} → left ≡ drop (tag_size r + 1) r → size ≡ size_at r
+        → out ≡ put (first_bytes t k r) p buf → ToFill t k left (p + size) out room wanted
     rest_filled {left} {out} {size} e s o =
         let sum = turn_total r more h.right in
         let first = first_length t k r in

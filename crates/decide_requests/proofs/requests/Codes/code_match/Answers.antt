@@ -1,4 +1,4 @@
--- `decide_requests::requests::Codes::code_match` meets its contract: a bit is shared with the joined codes where it is shared with one of them.
+-- `requests::Codes::code_match` meets its contract: a bit is shared with the joined codes where it is shared with one of them.
 -- Assumes nothing.
 use mathlib.Core.Path.{sym, ap, ◌∙◌}
 use mathlib.Core.List.{List}

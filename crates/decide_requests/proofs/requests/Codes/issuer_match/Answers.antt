@@ -1,4 +1,4 @@
--- `decide_requests::requests::Codes::issuer_match` meets its contract: the code that was told, and otherwise five bytes of the other.
+-- `requests::Codes::issuer_match` meets its contract: the code that was told, and otherwise five bytes of the other.
 -- Assumes nothing.
 use mathlib.Core.Path.{sym, ap, ◌∙◌}
 use mathlib.Core.List.{List}
