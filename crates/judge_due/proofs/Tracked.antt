@@ -29,6 +29,7 @@ use Rattle.verdict_under.proofs.Meaning.{Means, progress_means}
 use Rattle.judge_stages.specs.declared.Stage.{Stage}
 use Rattle.judge_follow.specs.declared.Judgement.{Judgement}
 use Rattle.judge_follow.proofs.Tracking.{Expects, Tracking, Tracks}
+use Rattle.std.specs.Prelude.{Some}
 use Rattle.judge_due.specs.declared.DueNext.{DueNext}
 use Rattle.judge_due.specs.Telling.{numbers, handed, with_bytes, told}
 use Rattle.judge_due.specs.Standing.{word_due, command_due, decision_due, stage_due}
@@ -73,7 +74,7 @@ module _ (j : Judgement) (out : List ℕ) where
   expected : (σ : Machine) → Expects j σ → stage_due j.stage j out ≡ told (due_at σ) out
   unfolding Expects stage_due command_due decision_due Under.due_at told
   expected (at (asks w)) x = staged _ x.1.0 ∙ ap (λ (c : List ℕ). with_bytes command c out) x.1.1
-  expected (at (hears h)) x = staged _ x.0 ∙ ap (λ (d : DueNext). handed d out) (word_due_lem h x.1)
+  expected (at (hears h)) x = staged _ x.0 ∙ ap (λ (d : DueNext). handed (Some d) out) (word_due_lem h x.1)
   expected (at (decides outcome reason z)) x =
       staged _ x.0 ∙ ap (λ (d : List ℕ). with_bytes decision d out) (decision_bytes outcome reason z x.1)
   expected (owes w) x = staged _ x.0

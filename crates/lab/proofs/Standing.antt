@@ -16,12 +16,13 @@ use Rattle.tape_feed.proofs.Whole.{fed_reading}
 use Rattle.judge.specs.declared.UnderWay.{UnderWay}
 use Rattle.judge.specs.Feeding.{begun, fed_all}
 use Rattle.judge.proofs.Fed.{Bytes, cut_bytes, reader_after_lem}
+use Rattle.std.specs.Prelude.{Option}
 use Rattle.judge_due.specs.declared.DueNext.{DueNext}
 use Rattle.judge_due.specs.Telling.{handed}
 use Rattle.judge_due.specs.Standing.{due_of}
 use Rattle.judge_due.specs.Theorem.{AllBytes}
 use Rattle.judge_due.proofs.Fed.{told_of_tapes}
-use Rattle.lab.specs.Due.{Lent, lent, laid_due, no_tape, due_on}
+use Rattle.lab.specs.Due.{Lent, lent, in_numbers, laid_due, no_tape, due_on}
 
 all_bytes_lem : (ps : List (List ℕ)) → Bytes ps → AllBytes ps
 all_bytes_lem [] b = b
@@ -49,8 +50,8 @@ module _ (t : List ℕ) (u : UnderWay) (same : u ≡ fed_all begun (pieces_of t)
       let read : unreadable d.place d.code ≡ read_tape t = sym (pick_no _ _ _ (ne_eqb d.code 0 bad)) ∙ read_as in
       ap (λ (r : Reading). due_on r out) read
 
-  pub next_due : are_bytes t ≡ true → d.code ≡ 0 → (n : DueNext) (after : List ℕ) → handed n after ≡ due_of u out
-      → lent (n.kind ∷ n.size ∷ []) after ≡ due_on (read_tape t) out
+  pub next_due : are_bytes t ≡ true → d.code ≡ 0 → (n : Option DueNext) (after : List ℕ) → handed n after ≡ due_of u out
+      → lent (in_numbers n) after ≡ due_on (read_tape t) out
   unfolding reading_of pieces_of due_on
   next_due bytes good n after due =
       let read : entries got ≡ read_tape t = sym (pick_yes _ _ _ (eq-eqb d.code 0 good)) ∙ read_as in

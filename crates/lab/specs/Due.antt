@@ -1,8 +1,9 @@
 -- What is due after the entries of a tape, as numbers and bytes (demand 3; 02, R-8). Of an unreadable tape nothing is: its entries are none.
 -- Assumes nothing.
-use Rattle.std.specs.Prelude.{List, [], ◌∷◌, ℕ}
+use Rattle.std.specs.Prelude.{List, [], ◌∷◌, Option, None, Some, ℕ}
 use Rattle.tape_read.specs.Tapes.{Reading, entries, unreadable}
 use Rattle.rulebook_due.specs.After.{due_after}
+use Rattle.judge_due.specs.declared.DueNext.{DueNext}
 use Rattle.judge_due.specs.Telling.{Handed, told}
 
 -- the numbers, and the buffer afterwards
@@ -17,9 +18,14 @@ lent next out = record { next = next; buffer = out }
 abbrev pub no_tape : ℕ
 no_tape = 254
 
+-- the kind of the entry that is due and the number beside it; kind 0 where nothing is due
+abbrev pub in_numbers : Option DueNext → List ℕ
+in_numbers None = 0 ∷ 0 ∷ []
+in_numbers (Some d) = d.kind ∷ d.size ∷ []
+
 -- what is due as `judge_due` tells it, in numbers
 abbrev pub laid_due : Handed → Lent
-laid_due h = lent (h.due.kind ∷ h.due.size ∷ []) h.buffer
+laid_due h = lent (in_numbers h.due) h.buffer
 
 unfoldable pub due_on : Reading → List ℕ → Lent
 due_on (entries es) out = laid_due (told (due_after es) out)

@@ -2,11 +2,11 @@
 ghost use Rattle.std.specs.Prelude.{◌≡◌};
 ghost use Rattle.tape_read.specs.Tapes.{read_tape};
 ghost use Rattle.lab.specs.Findings.{FoundOf, laid_finding};
-ghost use Rattle.lab.specs.Due.{due_on};
+ghost use Rattle.lab.specs.Due.{in_numbers, due_on};
 
 use book_answer::verdict_number;
 use judge::{judge, pieces};
-use judge_due::due;
+use judge_due::{DueNext, due};
 use tape_feed::found;
 use verdict::Finding;
 
@@ -40,6 +40,15 @@ pub fn lab_judge_quick(tape: &[u8], finding: &mut [u64; 4])
     *finding = laid(quick_judge::judge(tape));
 }
 
+fn numbers(d: Option<DueNext>) -> [u64; 2]
+    ensures { result ≡ in_numbers d }
+{
+    match d {
+        Some(d) => [d.kind as u64, d.size as u64],
+        None => [0, 0],
+    }
+}
+
 // What is due after the entries of a tape: its kind, and the number of its bytes, which stand at the start of `out`, or of what is wanted.
 // Kind 0: nothing is due; 255: its bytes do not fit; 254: the tape is unreadable, beside the code.
 pub fn lab_due(tape: &[u8], next: &mut [u64; 2], out: &mut [u8])
@@ -52,6 +61,5 @@ pub fn lab_due(tape: &[u8], next: &mut [u64; 2], out: &mut [u8])
         *next = [NO_TAPE, why.code as u64];
         return;
     }
-    let d = due(u, out);
-    *next = [d.kind as u64, d.size as u64];
+    *next = numbers(due(u, out));
 }

@@ -2,7 +2,7 @@
 use crate::say::say;
 use commands::write::LONGEST;
 use judge::{UnderWay, pieces};
-use judge_due::due;
+use judge_due::{DueNext, due};
 use numbers::{COMMAND, DECISION};
 use slices::part;
 use std::io;
@@ -36,6 +36,7 @@ pub fn follow_file(
     Ok(None)
 }
 
+// DUE, the entry's number, and what is due.
 fn tell_due(rt: &impl Print, u: UnderWay, place: usize) -> io::Result<()> {
     let index = u.reader.blocks;
     if place < index {
@@ -43,20 +44,20 @@ fn tell_due(rt: &impl Print, u: UnderWay, place: usize) -> io::Result<()> {
     }
     let mut bytes = [0u8; LONGEST];
     let next = due(u, &mut bytes);
-    begin_line(rt, index, next.kind)?;
-    end_line(rt, next.kind, next.size, &bytes)
+    print!(rt; "DUE {index} ")?;
+    match next {
+        Some(next) => tell_next(rt, next, &bytes),
+        None => rt.write_all(b"NOTHING\n"),
+    }
 }
 
-// DUE, the entry's number, and the word for what is due.
-fn begin_line(rt: &impl Print, index: usize, kind: u8) -> io::Result<()> {
+// The word for what is due, and its bytes where they are known; how many are wanted where that is counted.
+fn tell_next(rt: &impl Print, next: DueNext, bytes: &[u8]) -> io::Result<()> {
+    let kind = next.kind;
+    let size = next.size;
     let mut name = [0u8; text_kinds::LONGEST];
     let n = text_kinds::word(kind, &mut name);
-    print!(rt; "DUE {index} ")?;
-    rt.write_all(part(&name, 0, n))
-}
-
-// The bytes where they are known; how many are wanted where that is counted.
-fn end_line(rt: &impl Print, kind: u8, size: usize, bytes: &[u8]) -> io::Result<()> {
+    rt.write_all(part(&name, 0, n))?;
     match kind {
         COMMAND | DECISION => with_bytes(rt, part(bytes, 0, size)),
         _ if text_kinds::counts(kind) => println!(rt; " {size}"),
