@@ -2,23 +2,16 @@
 ghost use Rattle.std.specs.Prelude.{◌≤◌};
 
 use slices::part;
-use std::env::FillError;
 use std::fs::OpenOptions;
 use std::io;
 use std::rt::{Env, Files};
+use text_input::argument;
 use text_print::fail;
 
 // More bytes than the name of a file can have.
 pub const ROOM: usize = 4096;
 
 const OVER: usize = 2;
-
-// The system's numbers for an argument that is not there, for one that is too long, and for one that is no text.
-const MISSING: i32 = 22;
-
-const LONG: i32 = 36;
-
-const NO_TEXT: i32 = 84;
 
 // Where the name stands among the arguments: the second where the first says that a tape may be written over.
 pub fn name_at(rt: &impl Env) -> usize
@@ -35,25 +28,13 @@ pub fn name_at(rt: &impl Env) -> usize
 // The file, where it can be opened for writing. A name with a dash in front is none: it was meant for an option.
 pub fn open<R: Env + Files + Eprint>(rt: &R, at: usize) -> Option<R::File> {
     let mut bytes = [0u8; ROOM];
-    match name_in(rt, at, &mut bytes) {
+    match argument(rt, at, &mut bytes) {
         Ok(name) => open_told(rt, at, name),
         Err(e) => {
             fail(rt, "tape", &e);
             None
         }
     }
-}
-
-fn name_in<'a>(rt: &impl Env, at: usize, bytes: &'a mut [u8]) -> io::Result<&'a str> {
-    let n = rt.arg(at, bytes).map_err(why_missing)?;
-    str::from_utf8(part(bytes, 0, n)).map_err(|_| io::Error::from_raw_os_error(NO_TEXT))
-}
-
-fn why_missing(error: FillError) -> io::Error {
-    io::Error::from_raw_os_error(match error {
-        FillError::NotPresent => MISSING,
-        FillError::TooLong => LONG,
-    })
 }
 
 fn open_told<R: Files + Eprint>(rt: &R, at: usize, name: &str) -> Option<R::File> {

@@ -1,6 +1,6 @@
-// What programs read. An argument. Standard input, line by line: no byte behind a line is read before the next line is asked for, so that a program can
-// reply to each line before the next is there; a read that fails counts as the end of the input. A file, a buffer at a time. Of what is read
-// no contract can speak.
+// What programs read. An argument. Standard input, line by line: no byte behind a line is read before the next line is asked for, so that
+// a program can reply to each line before the next is there; a read that fails counts as the end of the input. A file, a buffer at a time.
+// Of what is read no contract can speak.
 #![tactic(auto)]
 
 ghost use Rattle.std.specs.Prelude.{◌≤◌, length, IfOk};
