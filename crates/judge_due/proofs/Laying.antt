@@ -14,7 +14,8 @@ use Rattle.judge_due.specs.declared.DueNext.{DueNext}
 use Rattle.judge_due.specs.Telling.{numbers, handed, too_short, with_bytes}
 
 module _ (kind : ℕ) (bytes out : List ℕ) where
-  pub no_room : (r : DueNext) → r ≡ numbers too_short (length bytes) → length out < length bytes → handed (Some r) out ≡ with_bytes kind bytes out
+  pub no_room : (r : DueNext) → r ≡ numbers too_short (length bytes) → length out < length bytes
+      → handed (Some r) out ≡ with_bytes kind bytes out
   unfolding with_bytes
   no_room r e h = ap (λ (d : DueNext). handed (Some d) out) e ∙ sym (pick_no _ _ _ (lt-leb _ _ h))
 
