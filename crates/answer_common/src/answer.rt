@@ -73,49 +73,40 @@ fn outer(answer: &[u8]) -> Next
     only(data_field(answer))
 }
 
+#[tactic(auto, unfolding(crate::specs::Answer::is_one, crate::specs::Answer::tagged, crate::specs::Answer::the_one))]
 pub fn is_one(answer: &[u8], tag: usize) -> bool
     ensures { result ≡ is_one tag answer.now }
 {
-    match outer(answer) {
-        Next::End => false,
-        Next::Broken => false,
-        Next::Member { tag: t, .. } => t == tag,
-    }
+    matches!(outer(answer), Next::Member { tag: t, .. } if t == tag)
 }
 
 // The value of an answer's one object, if that has the tag; else nothing.
+#[tactic(auto, unfolding(crate::specs::Answer::inside, crate::specs::Answer::value_under, crate::specs::Answer::the_one, slices::specs::Choice::pick))]
 pub fn inside(answer: &[u8], tag: usize) -> &[u8]
     ensures { result.now ≡ inside_of tag answer.now }
 {
     match outer(answer) {
-        Next::End => &answer[0..0],
-        Next::Broken => &answer[0..0],
-        Next::Member { tag: t, start, end } => {
-            if t == tag {
-                value(data_field(answer), start, end)
-            } else {
-                &answer[0..0]
-            }
-        }
+        Next::Member { tag: t, start, end } if t == tag => value(data_field(answer), start, end),
+        _ => &answer[0..0],
     }
 }
 
 // The only object that the reader finds in some bytes.
+#[tactic(auto, unfolding(crate::specs::Single::alone_in, crate::specs::Single::alone_by, crate::specs::Single::last_one))]
 fn alone(s: &[u8]) -> Single
     ensures { result ≡ alone_in s.now }
 {
     match next(s, 0) {
-        Next::End => Single::Refused(FOR_OBJECT),
-        Next::Broken => Single::Refused(FOR_OBJECT),
+        Next::End | Next::Broken => Single::Refused(FOR_OBJECT),
         Next::Member { tag, start, end } => match next(s, end) {
             Next::End => Single::Object { tag, start, end },
-            Next::Broken => Single::Refused(FOR_OBJECT),
-            Next::Member { .. } => Single::Refused(FOR_OBJECT),
+            Next::Broken | Next::Member { .. } => Single::Refused(FOR_OBJECT),
         },
     }
 }
 
 // The one object of an answer, found once: where its value stands in the answer's data.
+#[tactic(auto, using(crate::proofs::Outer::size_right), unfolding(crate::specs::Single::single_of, slices::specs::Choice::pick))]
 pub fn single_of(answer: &[u8]) -> Single
     ensures { result ≡ single_of answer.now }
 {
