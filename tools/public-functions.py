@@ -34,6 +34,7 @@ OTHERWISE = {
 EXCEPTIONS = {
     "text_input read_line": "all: of what comes from standard input no contract can speak",
     "text_input open": "all: of what comes from the file system no contract can speak",
+    "text_input argument": "all: of what a program is started with no contract can speak",
     "text_input fill": "all: of what comes from a file no contract can speak",
     "text_input read_full": "all: of what comes from standard input no contract can speak",
     "text_print fail": "nothing is handed back; of standard error no contract can speak",
