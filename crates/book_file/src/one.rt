@@ -1,4 +1,8 @@
 // One entry: handed to the book, stored, said.
+ghost use Rattle.std.specs.Prelude.{◌≡◌};
+ghost use Rattle.book.specs.Entering.{reply_of, book_after, bytes_after};
+ghost use Rattle.book_file.specs.Lines.{entry_in};
+
 use crate::{say, store};
 use book::{Book, Refusal};
 use book_block::Entry;
@@ -26,11 +30,7 @@ impl Shelf {
         bytes: &mut [u8],
     ) -> io::Result<ControlFlow<()>> {
         let used = self.book.used;
-        let reply = match entry_in(number, line) {
-            Some(entry) => self.book.enter(entry, bytes),
-            None => Err(Refusal::NoVerdict),
-        };
-        match reply {
+        match handed(&mut self.book, number, line, bytes) {
             Ok(()) => {
                 if let Err(why) = store::add(rt, self.new, block_at(bytes, used as usize)) {
                     say::not_stored(rt, &why);
@@ -45,11 +45,23 @@ impl Shelf {
     }
 }
 
-// What a line says; nothing where a space stands at its end, which the judge never writes.
-fn entry_in(number: u32, line: &[u8]) -> Option<Entry> {
+// What a line says, handed to the book, whose reply it is: the program refuses nothing by itself.
+fn handed(book: &mut Book, number: u32, line: &[u8], bytes: &mut [u8]) -> Result<(), Refusal>
+    ensures reply { result ≡ reply_of book.old.used (entry_in number line.now) bytes.old }
+    ensures book_after { book.new ≡ book_after book.old (entry_in number line.now) bytes.old }
+    ensures bytes_after { bytes.new ≡ bytes_after book.old (entry_in number line.now) bytes.old }
+{
+    book.enter(entry_in(number, line), bytes)
+}
+
+// What a line says; no verdict where a space stands at its end, which the judge never writes.
+#[tactic(auto, unfolding(crate::specs::Lines::entry_in, slices::specs::Choice::pick))]
+fn entry_in(number: u32, line: &[u8]) -> Entry
+    ensures { result ≡ entry_in number line.now }
+{
     let end = line_end(line, 0);
     if 0 < end && line[end - 1] == b' ' {
-        None
+        entry_said(number, b"")
     } else {
         entry_said(number, line)
     }

@@ -6,7 +6,7 @@ use mathlib.Core.List.{List, [], ◌∷◌, ◌++◌, append_assoc, append-nil}
 use Prim.Native.Nat.{ℕ, ◌+◌, ◌^◌, ◌≤◌, ◌<◌}
 use native.Mathlib.Nat.{mod-eq_of_lt}
 use native.Mathlib.Omega.{arith}
-use Rattle.std.proofs.Common.{Some}
+use Rattle.std.proofs.Common.{Option, Some, unwrap_or}
 use lib.ListN.{length, take, length-append}
 use lib.Seq.{take_at}
 use borrow.Author.Tests.{le-leb, lt-leb, eq-eqb, ne_eqb}
@@ -21,7 +21,8 @@ use Rattle.verdict_line.specs.Line.{word_of, decimal, field_of, line_of}
 use Rattle.book_block.specs.Entries.{made}
 use Rattle.book_answer.specs.Answers.{verdict_number, entry_of}
 use Rattle.text_lines.specs.Decimal.{no_number, number_in}
-use Rattle.book_line.specs.Lines.{word_in, number_said, verdict_named, closes, fields_said, entry_said}
+use Rattle.book_block.specs.declared.Entry.{Entry}
+use Rattle.book_line.specs.Lines.{word_in, number_said, verdict_named, closes, nothing, fields_said, entry_said}
 use Rattle.book_line.proofs.Words.{free, free_append, first_end, word_first, word_after, word_last, word_end}
 use Rattle.book_line.proofs.Decimals.{some_digits, number_back, decimal_free}
 
@@ -124,7 +125,7 @@ module _ (tape : ℕ) (v : Verdict) (p c : ℕ) (r : List ℕ) (t : Tail r) (hp 
       free_append 0x0A 0x0A (word_of v) _ (word_on_line v)
       (free_append 0x0A 0x0A (field_of p) _ (field_on_line p) (free_append 0x0A 0x0A (field_of c) r (field_on_line c) (tail_on_line r t)))
 
-  pub text_said : entry_said tape (line v p c r ++ (0x0A ∷ [])) ≡ Some (made tape (verdict_number v) p c)
+  pub text_said : entry_said tape (line v p c r ++ (0x0A ∷ [])) ≡ made tape (verdict_number v) p c
   unfolding entry_said
   text_said =
       let l = line v p c r in
@@ -132,19 +133,20 @@ module _ (tape : ℕ) (v : Verdict) (p c : ℕ) (r : List ℕ) (t : Tail r) (hp 
       let size = length-append l (0x0A ∷ []) in
       let whole : length (l ++ (0x0A ∷ [])) ≤ line_end (l ++ (0x0A ∷ [])) 0 + 1 = omega arith in
       pick_yes _ _ _ (le-leb _ _ whole)
-      ∙ (ap (λ (n : ℕ). fields_said tape (take n (l ++ (0x0A ∷ [])))) end
+      ∙ ap (λ (said : Option Entry). unwrap_or said (nothing tape))
+      (ap (λ (n : ℕ). fields_said tape (take n (l ++ (0x0A ∷ [])))) end
       ∙ (ap (fields_said tape) (take_at l (0x0A ∷ []) (length l) refl) ∙ line_said))
 
 -- the line that the judge's program writes gives the entry of the answer that it says; the fourth number is not entered
 pub answer_said : (tape : ℕ) (f : Finding) → f.ruling.place < 2 ^ 32 → f.ruling.code < 2 ^ 32 → f.zeros < 2 ^ 32
-    → entry_said tape (line_of f) ≡ Some (entry_of tape f.ruling)
+    → entry_said tape (line_of f) ≡ entry_of tape f.ruling
 unfolding line_of entry_of
 answer_said tape f p c z =
     let a = f.ruling in
     let v = a.verdict in
     ap (entry_said tape) (sym (regrouped (word_of v) (field_of a.place) (field_of a.code) (field_of f.zeros) (0x0A ∷ [])))
     ∙ (text_said tape v a.place a.code (field_of f.zeros) (fourth f.zeros z) p c
-    ∙ ap₂ (λ (x y : ℕ). Some (made tape (verdict_number v) x y)) (sym (mod-eq_of_lt p)) (sym (mod-eq_of_lt c)))
+    ∙ ap₂ (made tape (verdict_number v)) (sym (mod-eq_of_lt p)) (sym (mod-eq_of_lt c)))
   where
     regrouped : (w x y k z : List ℕ) → (w ++ (x ++ (y ++ k))) ++ z ≡ w ++ (x ++ (y ++ (k ++ z)))
     regrouped w x y k z = simp append_assoc

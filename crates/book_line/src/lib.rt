@@ -2,7 +2,7 @@
 #![tactic(auto)]
 
 ghost use Rattle.std.specs.Prelude.{◌≡◌};
-ghost use Rattle.book_line.specs.Lines.{word_in, number_said, verdict_named, closes, fields_said, entry_said};
+ghost use Rattle.book_line.specs.Lines.{word_in, number_said, verdict_named, number_of, closes, nothing, fields_said, entry_said};
 
 use book_answer::verdict_number;
 use book_block::Entry;
@@ -11,16 +11,16 @@ use text_lines::decimal::{NO_NUMBER, decimal};
 use text_lines::{after_word, line_end, word_end};
 use verdict::Verdict;
 
-// What a line says of a tape, where it is one whole line of the judge's. A fourth number is not entered.
+// What a line says of a tape; no verdict where it is not one whole line of the judge's. A fourth number is not entered.
 #[tactic(auto, unfolding(crate::specs::Lines::entry_said, slices::specs::Choice::pick))]
-pub fn entry_said(tape: u32, text: &[u8]) -> Option<Entry>
+pub fn entry_said(tape: u32, text: &[u8]) -> Entry
     ensures { result ≡ entry_said tape text.now }
 {
     let end = line_end(text, 0);
     if text.len() <= end + 1 {
-        fields_said(tape, part(text, 0, end))
+        fields_said(tape, part(text, 0, end)).unwrap_or(nothing(tape))
     } else {
-        None
+        nothing(tape)
     }
 }
 
@@ -31,15 +31,37 @@ fn fields_said(tape: u32, line: &[u8]) -> Option<Entry>
 {
     let second = after_word(line);
     let third = after_word(second);
-    let verdict = verdict_named(word_in(line))?;
     let place = number_said(second)?;
     let code = number_said(third)?;
     is_closed(after_word(third)).then_some(Entry {
         tape,
-        verdict: verdict_number(verdict),
+        verdict: number_of(verdict_named(word_in(line))),
         place,
         code,
     })
+}
+
+// The verdict's number in a block; 0 where there is none.
+#[tactic(auto, unfolding(crate::specs::Lines::number_of))]
+fn number_of(verdict: Option<Verdict>) -> u8
+    ensures { result ≡ number_of verdict }
+{
+    match verdict {
+        Some(v) => verdict_number(v),
+        None => 0,
+    }
+}
+
+// An entry without a verdict, which a book refuses.
+fn nothing(tape: u32) -> Entry
+    ensures { result ≡ nothing tape }
+{
+    Entry {
+        tape,
+        verdict: 0,
+        place: 0,
+        code: 0,
+    }
 }
 
 // Whether nothing is left of a line, or one number.

@@ -1,0 +1,2 @@
+-- The lines that are entered in a book.
+pub mod Lines
