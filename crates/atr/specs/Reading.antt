@@ -26,17 +26,21 @@ ts_broken capture = ltb 0 (length capture) && not (eqb (get_or capture 0 0) 0x3B
 unfoldable pub or_else : ℕ → Option ℕ → ℕ
 or_else other x = unwrap_or x other
 
+-- what counts for a TB3 that is not there: no BWI that there is. An answer of T=1 without TB3 breaks a rule (I-4.3.3.10)
+abbrev pub no_tb3 : ℕ
+no_tb3 = 256
+
 -- T=1 where TD1 names it, else T=0 (I-4.3.3.4). WI is 10 without TC2 (I-4.3.3.7), IFSC '20' without TA3 (I-4.3.3.9), BWI and CWI
 -- are TB3's nibbles (I-4.3.3.10)
 unfoldable pub protocol_of : Located → Protocol
 protocol_of l =
     pick (eqb (named l.first.td) 1)
-    (T1 (or_else 0x20 l.third.ta) (value l.third.tb / 16) (value l.third.tb % 16))
+    (T1 (or_else 0x20 l.third.ta) (or_else no_tb3 l.third.tb / 16) (or_else no_tb3 l.third.tb % 16))
     (T0 (or_else 10 l.second.tc))
 
 -- the least interval between two characters sent to the card, in etu (I-4.3.3.3)
 unfoldable pub interval_of : Located → ℕ
-interval_of l = pick (eqb (value l.first.tc) 0xFF) (pick (eqb (named l.first.td) 1) 11 12) (12 + value l.first.tc)
+interval_of l = pick (eqb (value l.first.tc) 0xFF) (pick (eqb (named l.first.td) 1) 11 12) (12 + value l.first.tc % 256)
 
 -- F and D stay at their defaults (I-4.3.3.1); N is TC1, 0 without it (I-4.3.3.3); TA2 there is the specific mode (I-4.3.3.5)
 unfoldable pub told_of : Located → Told
@@ -44,7 +48,7 @@ told_of l =
     record {
       f = 372;
       d = 1;
-      n = value l.first.tc;
+      n = value l.first.tc % 256;
       interval = interval_of l;
       specific = is_some l.second.ta;
       protocol = protocol_of l;

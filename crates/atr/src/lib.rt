@@ -10,6 +10,9 @@ use atr_rules::broken_rules;
 use atr_sets::{first_rule, place_of};
 use slices::{byte, part};
 
+// What counts for a TB3 that is not there: no BWI, 16, and a CWI of 0. An answer of T=1 without TB3 breaks a rule.
+const NO_TB3: usize = 256;
+
 // The protocol in use, with its own parameters.
 #[derive(Clone, Copy)]
 pub enum Protocol {
@@ -98,15 +101,15 @@ fn protocol_of(l: Located) -> Protocol
     ensures { result ≡ protocol_of l }
 {
     if protocol(l.first.td) == 1 {
-        let tb3 = value(l.third.tb) as usize;
+        let tb3 = l.third.tb.unwrap_or(NO_TB3);
         return Protocol::T1 {
-            ifsc: l.third.ta.unwrap_or(0x20) as usize,
+            ifsc: l.third.ta.unwrap_or(0x20),
             bwi: tb3 / 16,
             cwi: tb3 % 16,
         };
     }
     Protocol::T0 {
-        wi: l.second.tc.unwrap_or(10) as usize,
+        wi: l.second.tc.unwrap_or(10),
     }
 }
 
@@ -114,9 +117,9 @@ fn protocol_of(l: Located) -> Protocol
 fn interval_of(l: Located) -> usize
     ensures { result ≡ interval_of l }
 {
-    let n = value(l.first.tc) as usize;
+    let n = value(l.first.tc);
     if n != 0xFF {
-        return 12 + n;
+        return 12 + n % 256;
     }
     if protocol(l.first.td) == 1 { 11 } else { 12 }
 }
@@ -128,7 +131,7 @@ fn told_by(l: Located) -> Told
     Told {
         f: 372,
         d: 1,
-        n: value(l.first.tc) as usize,
+        n: value(l.first.tc) % 256,
         interval: interval_of(l),
         specific: l.second.ta.is_some(),
         protocol: protocol_of(l),

@@ -15,10 +15,10 @@ use slices::part;
 // next level starts.
 #[derive(Clone, Copy)]
 pub struct Level {
-    pub ta: Option<u8>,
-    pub tb: Option<u8>,
-    pub tc: Option<u8>,
-    pub td: Option<u8>,
+    pub ta: Option<usize>,
+    pub tb: Option<usize>,
+    pub tc: Option<usize>,
+    pub td: Option<usize>,
     pub a: usize,
     pub b: usize,
     pub c: usize,
@@ -40,14 +40,14 @@ pub fn one(b: bool) -> usize
 }
 
 // What a character says; one that is not there says 0: it announces nothing, and as a TDi it names T=0.
-pub fn value(c: Option<u8>) -> u8
+pub fn value(c: Option<usize>) -> usize
     ensures { result ≡ value c }
 {
     c.unwrap_or(0)
 }
 
 // The protocol that a TDi names.
-pub fn protocol(td: Option<u8>) -> u8
+pub fn protocol(td: Option<usize>) -> usize
     ensures { result ≡ named td }
 {
     value(td) % 16
@@ -55,11 +55,11 @@ pub fn protocol(td: Option<u8>) -> u8
 
 // The character at a place, where it is announced (1) and in the capture.
 #[tactic(auto, using(crate::proofs::Data::data_length), unfolding(crate::specs::Levels::found_at, slices::specs::Choice::pick))]
-fn found(capture: &[u8], inverse: bool, announced: usize, place: usize) -> Option<u8>
+fn found(capture: &[u8], inverse: bool, announced: usize, place: usize) -> Option<usize>
     ensures { result ≡ found_at (data_of inverse capture.now) announced place }
 {
     if announced == 1 && place < capture.len() {
-        Some(character(capture, inverse, place))
+        Some(character(capture, inverse, place) as usize)
     } else {
         None
     }
@@ -67,11 +67,10 @@ fn found(capture: &[u8], inverse: bool, announced: usize, place: usize) -> Optio
 
 // The level that a bit map announces from a place on.
 #[tactic(auto, using(crate::proofs::Reach::level_made), unfolding(crate::specs::Levels::level_of))]
-fn level_at(capture: &[u8], inverse: bool, map: u8, from: usize) -> Level
+fn level_at(capture: &[u8], inverse: bool, map: usize, from: usize) -> Level
     requires { from + 4 < 2 ^ 64 }
     ensures { result ≡ level_of (data_of inverse capture.now) map from }
 {
-    let map = map as usize;
     let b = from + map / 16 % 2;
     let c = b + map / 32 % 2;
     let d = c + map / 64 % 2;
@@ -92,7 +91,7 @@ fn level_at(capture: &[u8], inverse: bool, map: u8, from: usize) -> Level
 fn walk(capture: &[u8], inverse: bool) -> Interface
     ensures { (result ≡ interface_of (data_of inverse capture.now)) × (result.next ≤ length capture.now + 4) }
 {
-    let mut l = level_at(capture, inverse, character(capture, inverse, 1), 2);
+    let mut l = level_at(capture, inverse, character(capture, inverse, 1) as usize, 2);
     let mut other = protocol(l.td) != 0;
     for _ in capture {
         l = level_at(capture, inverse, value(l.td), l.next);
@@ -122,12 +121,12 @@ pub struct Located {
 pub fn locate(capture: &[u8], inverse: bool) -> Located
     ensures { result ≡ located_of (data_of inverse capture.now) }
 {
-    let t0 = character(capture, inverse, 1);
+    let t0 = character(capture, inverse, 1) as usize;
     let first = level_at(capture, inverse, t0, 2);
     let second = level_at(capture, inverse, value(first.td), first.next);
     let third = level_at(capture, inverse, value(second.td), second.next);
     let found = walk(capture, inverse);
-    let end = found.next + (t0 % 16) as usize;
+    let end = found.next + t0 % 16;
     Located {
         size: capture.len(),
         first,

@@ -10,14 +10,14 @@ use atr_characters::{Located, one, protocol, value};
 // Where the first character too many stands: at most 32 follow TS.
 pub const LONG_PLACE: usize = 33;
 
-fn power(exponent: u8) -> usize
+fn power(exponent: usize) -> usize
     ensures { result ≡ 2 ^ (exponent % 16) }
 {
     1 << (exponent % 16)
 }
 
 // Whether a character is there, and is not the one that alone is allowed.
-fn is_other(c: Option<u8>, only: u8) -> bool
+fn is_other(c: Option<usize>, only: usize) -> bool
     ensures { result ≡ is_other c only }
 {
     c.is_some_and(|x| x != only)
@@ -61,7 +61,7 @@ fn third_rules(l: Located) -> usize
     let absent = any_t1 & l.third.tb.is_none() & (l.third.c <= l.size);
     let bwi = tb3 & (4 < tb / 16);
     let cwi = tb3 & (5 < tb % 16);
-    let guard = tb3 & (power(tb) < (value(l.first.tc) as usize + 1) % 256);
+    let guard = tb3 & (power(tb) < (value(l.first.tc) % 256 + 1) % 256);
     let tc3 = t1 & is_other(l.third.tc, 0);
     one(ta3) + 2 * one(absent) + 4 * one(bwi) + 8 * one(cwi) + 16 * one(guard) + 32 * one(tc3)
 }
