@@ -5,7 +5,6 @@ use std::io;
 use text_hex::unhex;
 use text_lines::{after_word, hex_number, number};
 use tlv_list::place;
-use tlv_write::WriteRefusal;
 
 pub fn write(rt: &impl Print, words: &[u8]) -> io::Result<()> {
     let mut value = [0u8; 5000];
@@ -37,12 +36,8 @@ fn write_into(rt: &impl Print, tag: usize, value: &[u8], room: usize) -> io::Res
 // Prints the object or the refusal, and answers how many bytes were written.
 fn print_written(rt: &impl Print, tag: usize, value: &[u8], buf: &mut [u8]) -> io::Result<usize> {
     match tlv_write::write(tag, value, buf) {
-        Err(WriteRefusal::BadObject) => {
-            text_print::text(rt, b"refused 10")?;
-            Ok(0)
-        }
-        Err(WriteRefusal::NoRoom) => {
-            text_print::text(rt, b"refused 11")?;
+        Err(why) => {
+            print!(rt; "refused {}", why.number())?;
             Ok(0)
         }
         Ok(n) => {

@@ -51,6 +51,10 @@ refusal_of (Ok n) = 0
 refusal_of (Err BadObject) = 10
 refusal_of (Err NoRoom) = 11
 
+-- the number of a refusal by itself
+abbrev pub number_of : WriteRefusal → ℕ
+number_of why = refusal_of {A = ℕ} (Err why)
+
 unfoldable pub size_of : Result ℕ WriteRefusal → ℕ
 size_of (Ok n) = n
 size_of (Err BadObject) = 0

@@ -4,8 +4,9 @@
 ghost use Rattle.std.specs.Prelude.{◌≡◌, ◌+◌, ◌<◌, ◌≤◌, length};
 ghost use Rattle.slices.specs.Writing.{laid, put};
 ghost use Rattle.tlv_write.specs.Written.{is_tag, tag_bytes, length_bytes, fits_tag, written};
-ghost use Rattle.tlv_write.specs.Written.{write_refusal, refusal_of, size_of, size_written, buffer_after};
+ghost use Rattle.tlv_write.specs.Written.{write_refusal, refusal_of, number_of, size_of, size_written, buffer_after};
 
+use numbers::{REFUSED_SPACE, REFUSED_WRITING};
 use slices::lay;
 use tlv_head::tag::{has_two_bytes, is_constructed};
 use tlv_list::place::list_refusal;
@@ -15,6 +16,19 @@ use tlv_list::place::list_refusal;
 pub enum WriteRefusal {
     BadObject,
     NoRoom,
+}
+
+impl WriteRefusal {
+    // 01's number for it.
+    #[tactic(auto, unfolding(crate::specs::Written::refusal_of))]
+    pub fn number(self) -> usize
+        ensures { result ≡ number_of self }
+    {
+        match self {
+            WriteRefusal::BadObject => REFUSED_WRITING,
+            WriteRefusal::NoRoom => REFUSED_SPACE,
+        }
+    }
 }
 
 fn is_tag(t: usize) -> bool
