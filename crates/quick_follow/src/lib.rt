@@ -15,7 +15,7 @@ ghost use Rattle.quick_said.specs.Said.{found_from};
 
 use numbers::START;
 use options::from_start;
-use quick_meet::meet::{fail, payload_at, word};
+use quick_meet::meet::{fail, payload_at, stop, word};
 use start_valid::valid_start;
 use verdict::Finding;
 
@@ -24,7 +24,7 @@ pub fn follow(tape: &[u8]) -> Finding
     ensures { result ≡ found_from opens 0 0 tape.now }
 {
     if let Err(ruling) = word(tape, 0, START) {
-        return Finding { ruling, zeros: 0 };
+        return stop(ruling, 0);
     }
     let start = payload_at(tape, 0);
     if !valid_start(start) {

@@ -21,7 +21,7 @@ use dol_wanted::is_fillable;
 use numbers::{APPROVED, DECLINED, FOR_LIST, HOST};
 use quick_ask::ask;
 use quick_ask::known::at_second;
-use quick_meet::meet::{decided, fail, payload_at, word};
+use quick_meet::meet::{decided, fail, payload_at, stop, word};
 use session_records::slots::value;
 use start_fields::fields;
 use verdict::Finding;
@@ -77,7 +77,7 @@ fn second(tape: &[u8], at: Place, s: Standing, reply: HostReply, code: [u8; 2]) 
     };
     let zeros = sum(at.zeros, unsupplied(list, from));
     if let Err(ruling) = ask::cryptogram(tape, at.k, request, list, from) {
-        return Finding { ruling, zeros };
+        return stop(ruling, zeros);
     }
     let a = payload_at(tape, at.k + 1);
     let next = Place { k: at.k + 2, zeros };
@@ -96,10 +96,7 @@ fn host(tape: &[u8], at: Place, s: Standing) -> Finding
     ensures { result ≡ found_from (hears (says Host (situation_of s.entry))) at.k at.zeros tape.now }
 {
     if let Err(ruling) = word(tape, at.k, HOST) {
-        return Finding {
-            ruling,
-            zeros: at.zeros,
-        };
+        return stop(ruling, at.zeros);
     }
     let p = payload_at(tape, at.k);
     if !is_allowed(Word::Host, 0, p) {

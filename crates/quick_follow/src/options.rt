@@ -14,7 +14,7 @@ use dol_fill::Sources;
 use dol_fill::count::{sum, unsupplied};
 use quick_ask::ask;
 use quick_ask::known::at_options;
-use quick_meet::meet::payload_at;
+use quick_meet::meet::{payload_at, stop};
 use session_records::END;
 use slices::lay;
 use verdict::Finding;
@@ -49,7 +49,7 @@ fn from_select(tape: &[u8], start: &[u8], a: &[u8]) -> Finding
     };
     let zeros = sum(0, unsupplied(list, from));
     if let Err(ruling) = ask::options(tape, 3, list, from) {
-        return Finding { ruling, zeros };
+        return stop(ruling, zeros);
     }
     from_options(tape, start, payload_at(tape, 4), zeros)
 }
@@ -59,7 +59,7 @@ pub fn from_start(tape: &[u8], start: &[u8]) -> Finding
     ensures { result ≡ found_from (opened (reading_of start.now)) 1 0 tape.now }
 {
     if let Err(ruling) = ask::select(tape, 1, start) {
-        return Finding { ruling, zeros: 0 };
+        return stop(ruling, 0);
     }
     from_select(tape, start, payload_at(tape, 2))
 }

@@ -17,7 +17,7 @@ use answer_afl::cursor;
 use answer_afl::cursor::Cursor;
 use answer_common::content::{NAMES, names_for};
 use quick_ask::ask;
-use quick_meet::meet::payload_at;
+use quick_meet::meet::{payload_at, stop};
 use session_records::END;
 use verdict::{Finding, Ruling};
 
@@ -44,7 +44,7 @@ pub fn read_all(tape: &[u8], start: &[u8], profile: [u8; 2], afl: &[u8], zeros: 
     let mut c = cursor::start();
     while cursor::is_left(afl, c) {
         if let Err(ruling) = read(tape, k, afl, c) {
-            return Finding { ruling, zeros };
+            return stop(ruling, zeros);
         }
         let why = answer_record::take(&mut told, &names[..n], payload_at(tape, k + 1));
         if why != 0 {

@@ -22,7 +22,7 @@ use dol_fill::count::{sum, unsupplied};
 use numbers::{FOR_MISSING, RESULTS};
 use quick_ask::ask;
 use quick_ask::known::at_first;
-use quick_meet::meet::{fail, payload_at, word};
+use quick_meet::meet::{fail, payload_at, stop, word};
 use session_records::END;
 use session_records::slots::value;
 use verdict::Finding;
@@ -47,7 +47,7 @@ fn first(tape: &[u8], at: Place, s: Standing) -> Finding
     };
     let zeros = sum(at.zeros, unsupplied(list, from));
     if let Err(ruling) = ask::cryptogram(tape, at.k, request, list, from) {
-        return Finding { ruling, zeros };
+        return stop(ruling, zeros);
     }
     let a = payload_at(tape, at.k + 1);
     let next = Place { k: at.k + 2, zeros };
@@ -59,10 +59,7 @@ fn results(tape: &[u8], at: Place, s: Standing) -> Finding
     ensures { result ≡ found_from (hears (says Results (situation_of s.entry))) at.k at.zeros tape.now }
 {
     if let Err(ruling) = word(tape, at.k, RESULTS) {
-        return Finding {
-            ruling,
-            zeros: at.zeros,
-        };
+        return stop(ruling, at.zeros);
     }
     let p = payload_at(tape, at.k);
     let told = s.told;

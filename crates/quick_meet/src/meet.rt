@@ -35,6 +35,13 @@ fn breaks(k: usize) -> Result<(), Ruling>
     Err(said(Verdict::Fail, k))
 }
 
+// What is said where it does not go on.
+pub fn stop(ruling: Ruling, zeros: usize) -> Finding
+    ensures { result ≡ finds ruling zeros }
+{
+    Finding { ruling, zeros }
+}
+
 // The rules are broken at an entry.
 pub fn fail(k: usize, zeros: usize) -> Finding
     ensures { result ≡ finds (says Said.Fail k 0) zeros }

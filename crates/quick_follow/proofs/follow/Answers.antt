@@ -22,7 +22,8 @@ returns-in-Err c =
     let t = c.args.tape.now in
     let bytes = bytes_each t (λ i h. omega (arith, c.type_inv.tape i)) in
     let none_yet : 0 < 2 ^ 64 = omega arith in
-    heard_stops t bytes 0 0 none_yet terminal c.word.result c.word.ensures _ c.in-Err.is
+    c.stop.ensures
+    ∙ heard_stops t bytes 0 0 none_yet terminal c.word.result c.word.ensures _ c.in-Err.is
 
 pub returns-then-not-valid_start : goal.returns-then-not-valid_start
 unfolding due_kind allowed

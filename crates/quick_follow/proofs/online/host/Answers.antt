@@ -26,7 +26,8 @@ returns-in-Err c =
     let bytes = bytes_each t (λ i h. omega (arith, c.type_inv.tape i)) in
     let small : args.at.zeros < 2 ^ 64 = omega (arith, c.well_formed) in
     let h = says Host (situation_in args.s.start.now args.s.told.now args.s.profile args.s.tvr args.s.tsi) in
-    heard_stops t bytes args.at.k args.at.zeros small h c.word.result c.word.ensures _ c.in-Err.is
+    c.stop.ensures
+    ∙ heard_stops t bytes args.at.k args.at.zeros small h c.word.result c.word.ensures _ c.in-Err.is
 
 pub returns-then-not-is_allowed : goal.returns-then-not-is_allowed
 unfolding due_kind word_kind allowed wanted_in

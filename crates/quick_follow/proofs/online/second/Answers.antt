@@ -77,7 +77,8 @@ returns-in-Err c =
     let same = (λ i. found_from (asks (second s (e i) ((c.response_code-response.ensures
     ∙ ap (λ (x : Cryptogram). response_code args.reply x args.code) e) i))) args.at.k args.at.zeros t)
     ∙ sym (ap (λ (p : Phase). found_from p args.at.k args.at.zeros t) (pick_yes _ _ _ test)) in
-    (asked_stops t bytes args.at.k args.at.zeros w c.cryptogram.result _ _ _ c.cryptogram.ensures due sum lacks
+    c.stop.ensures
+    ∙ (asked_stops t bytes args.at.k args.at.zeros w c.cryptogram.result _ _ _ c.cryptogram.ensures due sum lacks
     _ c.in-Err.is
     ∙ same)
 

@@ -52,7 +52,8 @@ returns-in-Err c =
     let sum = c.sum-zeros.ensures in
     let w = optioning s (pdol_of a) in
     let same = reason_goes t bytes 3 0 none_yet s _ (select_reason terminal a) (asks w) c.select_reason-why.ensures c.if-why-ne0.false in
-    (asked_stops t bytes 3 0 w c.options.result _ _ _ c.options.ensures due sum lacks _ c.in-Err.is
+    c.stop.ensures
+    ∙ (asked_stops t bytes 3 0 w c.options.result _ _ _ c.options.ensures due sum lacks _ c.in-Err.is
     ∙ same)
 
 pub returns : goal.returns

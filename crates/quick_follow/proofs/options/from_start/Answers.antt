@@ -22,7 +22,8 @@ returns-in-Err c =
     let bytes = bytes_each t (λ i h. omega (arith, c.type_inv.tape i)) in
     let none_yet : 0 < 2 ^ 64 = omega arith in
     let w = selecting (begun (reading_of args.start.now)) in
-    asked_stops t bytes 1 0 w c.select.result _ 0 0 c.select.ensures refl (sym (sum_none 0 none_yet)) refl
+    c.stop.ensures
+    ∙ asked_stops t bytes 1 0 w c.select.result _ 0 0 c.select.ensures refl (sym (sum_none 0 none_yet)) refl
     _ c.in-Err.is
 
 pub returns : goal.returns

@@ -54,7 +54,8 @@ returns-in-Err c =
     let rest = remaining afl (stepped afl l.c) in
     let w = reading s (record_at afl l.c).0 (record_at afl l.c).1 rest in
     let back = ap (λ (p : Phase). found_from p l.k args.zeros t) (sym (next_due s afl l.c left)) ∙ l.invariant.1 in
-    (asked_stops t bytes l.k args.zeros w c.read.result _ 0 args.zeros c.read.ensures refl
+    c.stop.ensures
+    ∙ (asked_stops t bytes l.k args.zeros w c.read.result _ 0 args.zeros c.read.ensures refl
     (sym (sum_none args.zeros small)) refl _ c.in-Err.is
     ∙ back)
 

@@ -59,7 +59,8 @@ returns-in-Err c =
     let same = ap (λ (x : Cryptogram). found_from (asks (first s x)) args.at.k args.at.zeros t) c.first_request-request.ensures
     ∙ reason_goes t bytes args.at.k args.at.zeros small s _ (after_records (told_in told)) _ c.complete_reason-why.ensures
     c.if-why-ne0.false in
-    (asked_stops t bytes args.at.k args.at.zeros (first s request) c.cryptogram.result _ _ _ c.cryptogram.ensures due sum lacks
+    c.stop.ensures
+    ∙ (asked_stops t bytes args.at.k args.at.zeros (first s request) c.cryptogram.result _ _ _ c.cryptogram.ensures due sum lacks
     _ c.in-Err.is
     ∙ same)
 

@@ -30,7 +30,8 @@ returns-in-Err c =
     let small : args.at.zeros < 2 ^ 64 = omega (arith, c.well_formed) in
     let told = args.s.told.now in
     let s = situation_in args.s.start.now told args.s.profile args.s.tvr args.s.tsi in
-    heard_stops t bytes args.at.k args.at.zeros small (says Results s) c.word.result c.word.ensures
+    c.stop.ensures
+    ∙ heard_stops t bytes args.at.k args.at.zeros small (says Results s) c.word.result c.word.ensures
     _ c.in-Err.is
 
 pub returns-then-not-is_allowed : goal.returns-then-not-is_allowed
