@@ -5,7 +5,7 @@ use mathlib.Core.Bool.{Bool, true, false, not, false≢true}
 use mathlib.Core.List.{List, [], ◌∷◌}
 use Prim.Native.Nat.{ℕ}
 use lib.ListN.{take, drop}
-use Rattle.std.specs.Prelude.{Option, Some, Result, Ok, Err}
+use Rattle.std.specs.Prelude.{Option, Some, None, Result, Ok, Err}
 use Rattle.slices.specs.Choice.{pick}
 use Rattle.slices.proofs.Choice.{picked}
 use Rattle.t1_block.specs.Blocks.{pcb_of, len_of, kind_of, pcb_of_i, pcb_of_s, framed, written}
@@ -55,6 +55,24 @@ hears_any b most k e =
     (λ i. picked (Told k) _ _ _ (λ j. as_bad _ refl)
     (λ j. picked (Told k) _ _ _ (λ m. told_kind k (len_of b) most _ e) (λ m. as_bad _ refl)))
     (λ i. as_bad _ refl)))
+
+-- where its control byte says nothing, it is not valid
+abbrev Unsaid : Result Kind Fault → Type 0
+Unsaid x = is_bad (heard_as x) ≡ true
+
+unsaid_kind : (n most : ℕ) (x : Option Kind) → x ≡ None → Unsaid (of_kind x n most)
+unfolding of_kind heard_as
+unsaid_kind n most x e = subst (λ (y : Option Kind). Unsaid (of_kind y n most)) (sym e) refl
+
+pub hears_none : (b : List ℕ) (most : ℕ) → kind_of (pcb_of b) ≡ None → is_bad (heard_of b most) ≡ true
+unfolding heard_of heard_as tested in_frame
+hears_none b most e =
+    picked Unsaid _ _ _ (λ f. refl)
+    (λ f. picked Unsaid _ _ _ (λ g. refl)
+    (λ g. picked Unsaid _ _ _
+    (λ i. picked Unsaid _ _ _ (λ j. refl)
+    (λ j. picked Unsaid _ _ _ (λ m. unsaid_kind (len_of b) most _ e) (λ m. refl)))
+    (λ i. refl)))
 
 abbrev pub piece_of : State → List ℕ
 piece_of x = take x.message.size (drop x.message.at x.message.bytes)
