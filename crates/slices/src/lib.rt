@@ -30,7 +30,9 @@ pub fn lay(buf: &mut [u8], at: usize, s: &[u8])
     if buf.len() - at < s.len() {
         return;
     }
-    buf[at..at + s.len()].copy_from_slice(s);
+    for (i, b) in s.iter().enumerate() {
+        buf[at + i] = *b;
+    }
 }
 
 // Every byte of a buffer the same.
