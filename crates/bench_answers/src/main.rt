@@ -18,7 +18,7 @@ mod select;
 use slices::byte;
 use std::io;
 use text_input::read_full;
-use text_lines::{after_word, line_end};
+use text_lines::after_word;
 
 fn main(rt: HostRuntime) -> io::Result<()> {
     let mut input = [0u8; 524288];
@@ -28,7 +28,7 @@ fn main(rt: HostRuntime) -> io::Result<()> {
 
 fn answer_all(rt: &impl Print, s: &[u8]) -> io::Result<()> {
     for line in s.split_inclusive(|b| *b == b'\n') {
-        answer(rt, &line[..line_end(line, 0)])?;
+        answer(rt, line.strip_suffix(b"\n").unwrap_or(line))?;
     }
     Ok(())
 }

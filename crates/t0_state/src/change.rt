@@ -6,38 +6,40 @@ use crate::{Counts, Header, Phase, Sent, State};
 use apdu::Trailer;
 
 impl State {
-    pub fn at_phase(self, phase: Phase) -> State
+    pub fn at_phase(mut self, phase: Phase) -> State
         ensures { result ≡ at_phase phase self }
     {
-        State { phase, ..self }
+        self.phase = phase;
+        self
     }
 
-    pub fn with_header(self, header: Header) -> State
+    pub fn with_header(mut self, header: Header) -> State
         ensures { result ≡ with_header header self }
     {
-        State { header, ..self }
+        self.header = header;
+        self
     }
 
-    pub fn with_counts(self, counts: Counts) -> State
+    pub fn with_counts(mut self, counts: Counts) -> State
         ensures { result ≡ with_counts counts self }
     {
-        State { counts, ..self }
+        self.counts = counts;
+        self
     }
 
-    pub fn with_received(self, received: usize) -> State
+    pub fn with_received(mut self, received: usize) -> State
         ensures { result ≡ with_received received self }
     {
-        State { received, ..self }
+        self.received = received;
+        self
     }
 
     // A status that is to end the answer is kept.
-    pub fn with_trailer(self, status: Trailer) -> State
+    pub fn with_trailer(mut self, status: Trailer) -> State
         ensures { result ≡ with_trailer status self }
     {
-        State {
-            trailer: Some(status),
-            ..self
-        }
+        self.trailer = Some(status);
+        self
     }
 
     // A header goes out, with which so many bytes are moved.
