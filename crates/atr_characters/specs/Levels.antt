@@ -2,7 +2,7 @@
 -- and TD of the next level, in this order and without gaps (000, I-4.3.2, I-4.3.3.4, I-4.3.3.8). A character past the end of the
 -- capture reads as 0, and so announces nothing.
 -- Assumes nothing.
-use Rattle.std.specs.Prelude.{Bool, ◌||◌, not, List, Option, None, Some, unwrap_or, ℕ, zero, suc, ◌+◌, ◌/◌, ◌%◌, ltb, eqb, length, get_or}
+use Rattle.std.specs.Prelude.{Bool, ◌||◌, not, List, Option, None, Some, unwrap_or, ℕ, zero, suc, ◌+◌, ◌/◌, ◌%◌, ◌<◌, ltb, eqb, length, get_or}
 use Rattle.slices.specs.Choice.{pick}
 use Rattle.atr_characters.specs.declared.Level.{Level}
 use Rattle.atr_characters.specs.declared.Interface.{Interface}
@@ -36,6 +36,10 @@ level_of s y p =
       d = d;
       next = d + y / 128 % 2;
     }
+
+-- a level's characters are bytes; one that is not there says 0
+abbrev pub Bytes : Level → Type 0
+Bytes l = (value l.ta < 256) × (value l.tb < 256) × (value l.tc < 256) × (value l.td < 256)
 
 -- T0 announces the first level, which starts behind it
 unfoldable pub first_of : List ℕ → Level

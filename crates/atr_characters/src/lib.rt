@@ -5,7 +5,7 @@ mod bytes;
 
 ghost use Rattle.std.specs.Prelude.{◌≡◌, ◌+◌, ◌<◌, ◌≤◌, ◌^◌, length};
 ghost use Rattle.atr_characters.specs.Data.{data_of, one_if};
-ghost use Rattle.atr_characters.specs.Levels.{value, named, found_at, level_of, interface_of};
+ghost use Rattle.atr_characters.specs.Levels.{value, named, found_at, level_of, Bytes, interface_of};
 ghost use Rattle.atr_characters.specs.Located.{located_of};
 
 use bytes::{character, joined};
@@ -56,7 +56,7 @@ pub fn protocol(td: Option<usize>) -> usize
 // The character at a place, where it is announced (1) and in the capture.
 #[tactic(auto, using(crate::proofs::Data::data_length), unfolding(crate::specs::Levels::found_at, slices::specs::Choice::pick))]
 fn found(capture: &[u8], inverse: bool, announced: usize, place: usize) -> Option<usize>
-    ensures { result ≡ found_at (data_of inverse capture.now) announced place }
+    ensures { (result ≡ found_at (data_of inverse capture.now) announced place) × (value result < 256) }
 {
     if announced == 1 && place < capture.len() {
         Some(character(capture, inverse, place) as usize)
@@ -69,7 +69,7 @@ fn found(capture: &[u8], inverse: bool, announced: usize, place: usize) -> Optio
 #[tactic(auto, using(crate::proofs::Reach::level_made), unfolding(crate::specs::Levels::level_of))]
 fn level_at(capture: &[u8], inverse: bool, map: usize, from: usize) -> Level
     requires { from + 4 < 2 ^ 64 }
-    ensures { result ≡ level_of (data_of inverse capture.now) map from }
+    ensures { (result ≡ level_of (data_of inverse capture.now) map from) × Bytes result }
 {
     let b = from + map / 16 % 2;
     let c = b + map / 32 % 2;
@@ -119,7 +119,8 @@ pub struct Located {
 }
 
 pub fn locate(capture: &[u8], inverse: bool) -> Located
-    ensures { result ≡ located_of (data_of inverse capture.now) }
+    ensures located { result ≡ located_of (data_of inverse capture.now) }
+    ensures bytes { Bytes result.first × Bytes result.second × Bytes result.third }
 {
     let t0 = character(capture, inverse, 1) as usize;
     let first = level_at(capture, inverse, t0, 2);

@@ -9,7 +9,7 @@ returns-then-rules-eq0 c =
     let a = c.args in
     accepted_answer a.capture.now a.warm _ _ _
     c.is_inverse-inverse.ensures
-    c.locate-l.ensures
+    c.locate-l.ensures.located
     c.is_ts_broken.ensures
     _
     c.broken_rules-rules.ensures
@@ -22,7 +22,7 @@ returns c =
     let a = c.args in
     refused_answer_lem a.capture.now a.warm _ _ _
     c.is_inverse-inverse.ensures
-    c.locate-l.ensures
+    c.locate-l.ensures.located
     c.is_ts_broken.ensures
     _
     c.broken_rules-rules.ensures

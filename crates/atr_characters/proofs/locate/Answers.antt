@@ -12,29 +12,29 @@ use Rattle.atr_characters.proofs.locate.Goals as goal
 pub level_at-second-requires : goal.level_at-second-requires
 level_at-second-requires c =
     let a = c.args in
-    let first = first_reaches (data_of a.inverse a.capture.now) _ _ c.character-t0.ensures c.level_at-first.ensures in
+    let first = first_reaches (data_of a.inverse a.capture.now) _ _ c.character-t0.ensures c.level_at-first.ensures.0 in
     let near = first.near in
     omega (arith, data_length a.inverse a.capture.now)
 
 pub level_at-third-requires : goal.level_at-third-requires
 level_at-third-requires c =
     let a = c.args in
-    let first = first_reaches (data_of a.inverse a.capture.now) _ _ c.character-t0.ensures c.level_at-first.ensures in
-    let second = next_reaches _ c.level_at-first.result _ _ first c.value.ensures c.level_at-second.ensures in
+    let first = first_reaches (data_of a.inverse a.capture.now) _ _ c.character-t0.ensures c.level_at-first.ensures.0 in
+    let second = next_reaches _ c.level_at-first.result _ _ first c.value.ensures c.level_at-second.ensures.0 in
     let near = second.near in
     omega (arith, data_length a.inverse a.capture.now)
 
-pub returns : goal.returns
-returns c =
+pub returns-clause-located : goal.returns-clause-located
+returns-clause-located c =
     let a = c.args in
     let s = data_of a.inverse a.capture.now in
     let end = c.walk-found.result.next + c.character-t0.result % 16 in
     located_made s _ _ _ _ _ _ _ _
     (sym (data_length a.inverse a.capture.now))
     c.character-t0.ensures
-    c.level_at-first.ensures
-    (c.level_at-second.ensures ∙ ap (λ (y : ℕ). level_of s y c.level_at-first.result.next) c.value.ensures)
-    (c.level_at-third.ensures ∙ ap (λ (y : ℕ). level_of s y c.level_at-second.result.next) c.value-2.ensures)
+    c.level_at-first.ensures.0
+    (c.level_at-second.ensures.0 ∙ ap (λ (y : ℕ). level_of s y c.level_at-first.result.next) c.value.ensures)
+    (c.level_at-third.ensures.0 ∙ ap (λ (y : ℕ). level_of s y c.level_at-second.result.next) c.value-2.ensures)
     c.walk-found.ensures.0
     c.one.ensures.0
     (c.joined.ensures

@@ -19,9 +19,9 @@ unfolding interface_of first_of
 loop-init c =
     let a = c.args in
     let s = data_of a.inverse a.capture.now in
-    let l = c.level_at-l.ensures ∙ ap (λ (y : ℕ). level_of s y 2) c.character.ensures in
+    let l = c.level_at-l.ensures.0 ∙ ap (λ (y : ℕ). level_of s y 2) c.character.ensures in
     let all : length s - 0 ≡ length s = omega arith in (
-      first_reaches s _ _ c.character.ensures c.level_at-l.ensures,
+      first_reaches s _ _ c.character.ensures c.level_at-l.ensures.0,
       ap (λ (k : ℕ). walked k s c.level_at-l.result (not (eqb c.protocol-other.result 0))) all
           ∙ ap (λ (p : ℕ). walked (length s) s c.level_at-l.result (not (eqb p 0))) c.protocol-other.ensures
           ∙ ap (λ (l : Level). walked (length s) s l (names_other l.td)) l,
@@ -39,9 +39,9 @@ loop-preserved c =
     let a = c.args in
     let s = data_of a.inverse a.capture.now in
     let turn = c.loop in
-    let l = c.level_at-l-in-loop.ensures ∙ ap (λ (y : ℕ). level_of s y turn.l.next) c.value.ensures in
+    let l = c.level_at-l-in-loop.ensures.0 ∙ ap (λ (y : ℕ). level_of s y turn.l.next) c.value.ensures in
     let size = data_length a.inverse a.capture.now in (
-      next_reaches s turn.l _ _ turn.invariant.0 c.value.ensures c.level_at-l-in-loop.ensures,
+      next_reaches s turn.l _ _ turn.invariant.0 c.value.ensures c.level_at-l-in-loop.ensures.0,
       ap (λ (p : ℕ). walked (length s - (turn.index + 1)) s c.level_at-l-in-loop.result (turn.other || not (eqb p 0))) c.protocol.ensures
           ∙ (ap (λ (l : Level). walked (length s - (turn.index + 1)) s l (turn.other || names_other l.td)) l
           ∙ (sym (walked_on s turn.l turn.other (length s) turn.index (omega arith)) ∙ turn.invariant.1)),
