@@ -6,4 +6,5 @@ pub mod BasicLevels
 pub mod BasicAnswers
 pub mod Rising
 pub mod InOrder
+pub mod Plain
 mod EachRule

@@ -3,3 +3,4 @@ pub mod Readings
 pub mod Basic
 pub mod Broken
 pub mod Order
+pub mod Plain
