@@ -88,12 +88,14 @@ pub none_at : (ts : List Bool) (k : ℕ) → any_of ts ≡ false → get_or ts k
 none_at ts k e = either (get_or ts k false) (λ y. absurd (false≢true (sym e ∙ any_at ts k y))) (λ n. n)
 
 module _ (l : Located) (warm : Bool) where
+  -- a capture that breaks no rule is not cut
   pub whole : (ts : Bool) → any_of (broken_of (lines_of ts l warm)) ≡ false → l.end ≤ l.size
   unfolding broken_of lines_of any_of pick
   whole true e = absurd (false≢true (sym e))
   whole false e = ltb-false l.size l.end (sym (cut_there l warm) ∙ none_at (broken_of (lines_of false l warm)) 16 e)
 
 module _ (capture : List ℕ) (warm : Bool) (told : Told) (e : (read_reset capture warm).reading ≡ Ok told) where
+  -- no rule is broken, and what is told is told of what was located
   pub found : (some_broken capture warm ≡ false) × (told ≡ told_of (located_of (data_of (is_inverse capture) capture)))
   unfolding read_reset reading_of some_broken broken_of
   found = told_by_test (some_broken capture warm) _ _ told e

@@ -133,6 +133,7 @@ module _ (s : List ℕ) where
       third_stairs : ((level_after 2 s).c ≤ (level_after 2 s).d) × ((level_after 2 s).d ≤ (level_after 2 s).next)
       third_stairs = level_rises s (level_after 1 s)
 
+-- the place of TC3, there or not, is no further than the end of what is announced
 pub third_inside : (s : List ℕ) → (located_of s).third.c ≤ (located_of s).end
 unfolding located_of historical_end interface_of walked first_of after_of level_of found_at pick
 third_inside [] = omega arith

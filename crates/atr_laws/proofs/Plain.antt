@@ -98,7 +98,7 @@ plain_told l tc1 tb3 = let n : value l.first.tc % 256 ≡ value l.first.tc = ome
 
 module _ (capture : List ℕ) (warm : Bool) (told : Told) (bytes : are_bytes capture ≡ true)
     (e : (read_reset capture warm).reading ≡ Ok told) where
-  -- it tells what its bytes say
+  -- an accepted answer tells what its bytes say
   pub told_plainly : told ≡ plain_told_of (located_of (data_of (is_inverse capture) capture))
   unfolding some_broken rules_of
   told_plainly =

@@ -11,15 +11,18 @@ use Rattle.atr.specs.declared.Protocol.{Protocol}
 use Rattle.atr.specs.declared.Protocol.TheVariants.{T0, T1}
 use Rattle.atr.specs.declared.Told.{Told}
 
+-- T=1 where TD1 names it, else T=0 (I-4.3.3.4)
 unfoldable pub plain_protocol_of : Located → Protocol
 plain_protocol_of l =
     pick (eqb (named l.first.td) 1)
     (T1 (or_else 0x20 l.third.ta) (value l.third.tb / 16) (value l.third.tb % 16))
     (T0 (or_else 10 l.second.tc))
 
+-- the least interval between two characters sent to the card, in etu: 12 and N, for a TC1 of 'FF' 11 under T=1 and 12 under T=0 (I-4.3.3.3)
 unfoldable pub plain_interval_of : Located → ℕ
 plain_interval_of l = pick (eqb (value l.first.tc) 0xFF) (pick (eqb (named l.first.td) 1) 11 12) (12 + value l.first.tc)
 
+-- all that is told
 unfoldable pub plain_told_of : Located → Told
 plain_told_of l =
     record {
